@@ -34,7 +34,7 @@ from pathlib import Path
 import format_samples as samples
 from cases import DEVICE, DIFFERENT, DONE, REFUSAL, WORDS
 from format_samples import SAMPLES
-from runs import end, run, start
+from runs import end, run, start, told_by
 
 TOP = Path(__file__).resolve().parent.parent
 EXAMPLES = TOP / "examples"
@@ -605,7 +605,8 @@ class Tool(unittest.TestCase):
             ["--strict", "run"], ["list", "--tester"],
         ):
             self.same([word.replace("run", "run.blf") for word in words], [word.replace("run", "run.log") for word in words])
-        self.same(["list", "--limit", "run.blf"], ["list", "--limit", "run.blf"])
+        for words in (["list", "--limit", "run.blf"], ["run.blf", "run.log"], ["run.blf", "--hints", "run.blf"], ["List", "run.blf"]):
+            self.same(words, words)
         self.assertEqual(package(["report", "run.blf"], cwd=self.folder).status, DONE)
         self.put("logs/list", blf_of(VIN.read_bytes()))
         self.put("logs/--strict", blf_of(VIN.read_bytes()))
@@ -687,6 +688,47 @@ class Tool(unittest.TestCase):
             self.assertIn(b"right/run.blf", found.output)
             self.assertNotIn(b"udsnorm-", found.output)
         self.assertIn(b"run.blf", package(["report", "left/run.blf"], cwd=self.folder).output)
+
+    def test_names_as_they_are_given(self):
+        """Pages, hints and faults name a log as it was named, wherever it is read: what the program tells of the log there."""
+        log, other = VIN.read_bytes(), VIN.read_bytes().replace(b"7E0#", b"7E1#").replace(b"7E8#", b"7E9#")
+        whole = str(self.folder)
+        (self.folder / "below" / "sub").mkdir(parents=True)
+        (self.folder / "link").symlink_to("below")
+        names = ["run", "sub/run", "below/sub/run", "below/run", "up/run", "-run"]
+        for name in names:
+            self.put(name, b"")
+        for place, words in (
+            ("", ["report", f"{whole}/run", "run"]), ("", ["report", "run", f"{whole}/below/run"]), ("", ["report", "./run", "below//sub/run"]),
+            ("below/sub", ["report", "../run", "run"]), ("below/sub", ["report", "../../run", f"{whole}/run"]),
+            ("below", ["report", "sub/../run", "sub/./run"]), ("", ["report", "link/../run", "link/run"]), ("", ["report", f"{whole}/run"]),
+            ("", ["report", "--hints", f"//{whole}/run", "run"]), ("", ["report", "--hints", "--", "-run", f"{whole}/run"]),
+            ("", ["list", "--hints", f"{whole}/run"]), ("below", ["list", "--hints", "../run"]), ("", ["compare", "--hints", "link/../run", "run"]),
+            ("", ["list", "--hints", f"{whole}/run", "run"]), ("", ["list", "--limit", "9", "--hints", f"{whole}/run"]),
+            ("", ["compare", "--hints", f"{whole}/run", f"{whole}/none"]), ("", ["compare", "--hints", f"{whole}/run", "none"]),
+            ("", ["compare", "--hints", "run", "below"]), ("below", ["compare", "--hints", "../run", "sub"]), ("", ["compare", "--hints", "run", "link/.."]),
+            ("", ["compare", f"{whole}/run", f"{whole}/none"]), ("", ["find", "--hints", "--tester", "7E0", f"{whole}/run"]),
+        ):
+            for content in (log, other):
+                for name in names:
+                    self.put(name, content)
+                given_words, at = [sys.executable, "-B", "-m", "udsnorm", *words], self.folder / place
+                want = run(given.program, words, cwd=at), told_by(given.program, words, at)
+                for name in names:
+                    self.put(name, blf_of(content))
+                found = package(words, cwd=at), told_by(given_words[0], given_words[1:], at, env=environment())
+                self.assertEqual(found, want, words)
+
+    def test_pages_that_cannot_be_written(self):
+        """A page in which names are put right fails as any other one."""
+        path = self.put("run.blf", blf_of(VIN.read_bytes()))
+        with open("/dev/full", "wb") as full:
+            found = package(["report", path], cwd=self.folder, stdout=full)
+        self.assertEqual((found.status, found.error), (DEVICE, b"write failed\n"))
+        self.put("long.blf", blf_of(VIN.read_bytes() * 5000))
+        words = [f"{self.folder}/long.blf", "run.blf"]
+        found = run("bash", ["-c", f"{sys.executable} -B -m udsnorm report {words[0]} | head -c 1 > /dev/null; echo ${{PIPESTATUS[0]}}"], env=environment())
+        self.assertEqual((found.output, found.error), (b"4\n", b"write failed\n"))
 
     def test_faults_are_refused_by_the_program(self):
         """The frames before are there, and the program refuses the log at the frame behind them."""
