@@ -901,12 +901,13 @@ class Tool(unittest.TestCase):
         rooms.mkdir()
         more = {**environment(), "PATH": f"{program.parent}:{os.environ['PATH']}", "TMPDIR": str(rooms)}
         for number in (signal.SIGHUP, signal.SIGTERM, signal.SIGINT):
-            running = start(sys.executable, ["-B", "-m", "udsnorm", "list", "run.blf"], env=more, cwd=self.folder)
-            while not list(rooms.glob("*/run.blf")):
-                time.sleep(0.01)
-            time.sleep(0.1)
-            running.send_signal(number)
-            self.assertEqual((end(running).status, list(rooms.iterdir())), (128 + number, []))
+            for words in (["list", "run.blf"], ["report", self.folder / "run.blf"]):
+                running = start(sys.executable, ["-B", "-m", "udsnorm", *words], env=more, cwd=self.folder)
+                while not list(rooms.rglob("run.blf")):
+                    time.sleep(0.01)
+                time.sleep(0.1)
+                running.send_signal(number)
+                self.assertEqual((end(running).status, list(rooms.iterdir())), (128 + number, []))
 
     def test_signals_while_the_folder_goes(self):
         self.put("run.blf", blf_of(VIN.read_bytes()))
