@@ -749,6 +749,10 @@ class Tool(unittest.TestCase):
         for words in (["list"], ["convert"]):
             found = package([*words, sample.name], cwd=self.folder)
             self.assertEqual((found.status, sorted(re.split("[;,:] ", found.error.decode()))), (DONE, sorted(re.split("[;,:] ", told.decode()))))
+        # One log by two names is read once.
+        for other in (sample.name, f"./{sample.name}", self.folder / sample.name):
+            found = package(["compare", sample.name, other], cwd=self.folder)
+            self.assertEqual((found.status, found.output, found.error.count(b"left out")), (DONE, b"same\n", 1))
 
     def test_convert(self):
         self.put("run.blf", blf_of(VIN.read_bytes()))

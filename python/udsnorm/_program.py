@@ -207,11 +207,16 @@ class Folder:
         is_pipe = is_named_pipe(word, source)
         if not (is_other or is_pipe) and (not os.path.exists(word) or (os.path.isabs(word) and is_text(word))):
             return word
-        path = self._path_of(word, os.path.realpath(word))
+        real = os.path.realpath(word)
+        earlier = next((path for path, other in self._sources.items() if other == real), None)
+        path = self._path_of(word, real)
         place = self._root / path
         place.parent.mkdir(parents=True, exist_ok=True)
         if not os.path.lexists(place):
-            if is_other and source is not None:
+            if earlier:
+                # One log by another name.
+                place.symlink_to(self._root / earlier)
+            elif is_other and source is not None:
                 with Log(source) as log, open(place, "wb") as out:
                     _convert(log, out, self._limit)
             else:
