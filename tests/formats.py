@@ -737,10 +737,19 @@ class Tool(unittest.TestCase):
         self.put("vin.log", VIN.read_bytes())
         found = package(["list", "cut.blf"], cwd=self.folder)
         self.assertEqual((found.status, found.output), (REFUSAL, b""))
-        self.assertRegex(found.error.decode(), r"^cut\.blf: byte \d+: the file ends in the middle of an object\nline \d column 1: not a log line\n")
+        self.assertRegex(found.error.decode(), r"^cut\.blf: byte \d+: the file ends in the middle of an object\nline \d column 2: not a log line\n")
         found = package(["compare", "vin.log", "cut.blf"], cwd=self.folder)
         self.assertEqual((found.status, found.error.splitlines()[-1][:12]), (REFUSAL, b"right: line "))
         self.assertEqual(package(["report", "cut.blf"], cwd=self.folder).status, REFUSAL)
+        self.assertEqual(package(["list", "cut.blf", "--hints"], cwd=self.folder), package(["list", "cut.blf"], cwd=self.folder))
+        self.assertEqual(package(["list", "--hints"], log=content[:-4]), package(["list"], log=content[:-4]))
+        found = told_by(sys.executable, ["-B", "-m", "udsnorm", "list", "cut.blf"], self.folder, env=environment())
+        self.assertEqual(found, package(["list", "cut.blf"], cwd=self.folder))
+        # A line of the log itself has its hint.
+        notice = b"DROPCOUNT: dropped 1 CAN frame on 'can0' socket (total drops 1)\n"
+        self.put("cut.log.gz", gzip.compress(VIN.read_bytes() + notice + VIN.read_bytes())[:-4])
+        told = b"hint: line 6 of cut.log.gz begins with no stamp; if it is a notice of candump -d, grep -v ^DROPCOUNT leaves it out"
+        self.assertEqual(package(["list", "cut.log.gz", "--hints"], cwd=self.folder).error.splitlines()[-1], told)
 
     def test_what_is_left_out_is_told(self):
         sample = next(one for one in SAMPLES if one.name == "packed.blf")
@@ -800,7 +809,7 @@ class Tool(unittest.TestCase):
             self.assertEqual(found, (DONE, b"same\n", b""), words)
         cut = package(["list"], log=blf[:-4])
         self.assertEqual((cut.status, cut.output), (REFUSAL, b""))
-        self.assertRegex(cut.error.decode(), r"^-: byte \d+: the file ends in the middle of an object\nline \d column 1: not a log line\n")
+        self.assertRegex(cut.error.decode(), r"^-: byte \d+: the file ends in the middle of an object\nline \d column 2: not a log line\n")
         self.assertEqual(package(["list", "--limit", "50"], log=blf).error.splitlines()[0], b"log longer than the limit")
 
     def test_named_pipes(self):

@@ -298,7 +298,8 @@ def _convert(log: Log, out: IO[bytes], limit: int) -> None:
                 out.write(b"longer than the limit\n")
                 break
     except Fault as fault:
-        out.write(f"{fault}\n".encode("ascii", "replace"))
+        # Behind this sign no hint takes it for a line of candump's.
+        out.write(f"({fault}\n".encode("ascii", "replace"))
         tell(log.path, str(fault))
     if str(log.tally):
         tell(log.path, str(log.tally))
