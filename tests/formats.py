@@ -26,6 +26,7 @@ import sys
 import tempfile
 import time
 import unittest
+import unittest.mock
 import warnings
 import zlib
 from pathlib import Path
@@ -33,7 +34,7 @@ from pathlib import Path
 import format_samples as samples
 from cases import DEVICE, DIFFERENT, DONE, REFUSAL, WORDS
 from format_samples import SAMPLES
-from runs import end, run, start
+from runs import end, run, start, told_by
 
 TOP = Path(__file__).resolve().parent.parent
 EXAMPLES = TOP / "examples"
@@ -220,6 +221,20 @@ class Formats(unittest.TestCase):
             found = Read("a.asc", text.encode())
             with self.subTest(shown):
                 self.assertEqual((found.lines, found.fault, found.tally.left_out), ([], None, longer))
+        ends = (whole, few, "130000 68 1000 0 0 0 0", "130000 100 1000", "29000 100 1000 0 0 0 0", "102203 133 303000 e0006659 46500250 4b140250")
+        zeros = "0 0 1000 0 0 0 0"
+        for base, three, surplus in (("hex", "01 02 03", ("00", "04", "10", "64", "99", "FF")), ("dec", "1 2 3", ("0", "4", "16", "100", "144", "255"))):
+            head = f"date Tue Nov 14 10:13:20 pm 2023\nbase {base}  timestamps absolute\n   1.000000 CANFD   1 Rx 7 0 0 3 3 {three} "
+            for behind in (*ends, zeros):
+                with self.subTest(base=base, behind=behind):
+                    found = Read("a.asc", f"{head}{behind}\n".encode())
+                    self.assertEqual((found.fault, str(found.tally)), (None, ""))
+                    self.assertEqual([re.sub("##.", "#", line) for line in found.lines], [samples.line(1000000, "can1", 7, b"\1\2\3")])
+                more_of = surplus if behind != zeros else surplus[1:]
+                for more in (*more_of, *(f"{one} {other}" for one in more_of for other in more_of if behind != zeros)):
+                    with self.subTest(base=base, behind=behind, more=more):
+                        found = Read("a.asc", f"{head}{more} {behind}\n".encode())
+                        self.assertEqual((found.lines, found.fault, found.tally.left_out), ([], None, longer))
         e, more = 1 << 31, bytes(range(24))
         for held in (
             samples.blf_object(100, 0, samples.blf_fd(1, 0x7E8, 8, more)), samples.blf_object(100, 0, samples.blf_fd(1, 0x7E8, 8, more, 0, 0)),
@@ -228,6 +243,14 @@ class Formats(unittest.TestCase):
         ):
             found = Read("a.blf", samples.blf_file(samples.blf_container(samples.filled(held))))
             self.assertEqual((found.lines, found.fault, found.tally.left_out), ([], None, longer))
+
+    def test_captures_that_do_not_say_which_frames_are_of_can_fd(self):
+        """As tshark makes them of BLF: where a longer frame has no flag, shorter ones may lack theirs, which is noted."""
+        short, long = samples.can_frame(0x7E0, b"\x01\x3e", room=2), samples.can_frame(0x7E8, LONG, room=24)
+        for shown, noted in (([short], {}), ([short, long], {"frames of up to eight bytes that may be of CAN FD": 1})):
+            found = Read("a.pcap", b"".join(samples.pcap("<", False, 227, [(0, 0, frame) for frame in shown])))
+            want = [samples.line(0, "can0", 0x7E0, b"\x01\x3e"), samples.line(0, "can0", 0x7E8, LONG, 0)]
+            self.assertEqual((found.lines, found.fault, found.tally.noted), (want[: len(shown)], None, noted))
 
     def test_days_that_there_are_not(self):
         for day in ("0000-01-01 00:00:00", "2023-02-29 00:00:00", "2023-13-01 00:00:00", "2023-01-01 24:00:00"):
@@ -450,11 +473,15 @@ class Faults(unittest.TestCase):
     def test_kinds_without_end(self):
         """What a file may make up any number of takes no more memory, and no longer line."""
         kinds = b"".join(struct.pack("<4sHHII", b"LOBJ", 16, 1, 16, 200 + kind) for kind in range(400000))
-        faces = b"".join(samples.interface("<", 1, (2, b"face %d" % number)) for number in range(100000))
+        shown = samples.socketcan_frames()[0]
+        faces = b"".join(
+            samples.interface("<", 227, (2, b"face %d" % number)) + samples.packet_block("<", number, 0, shown) for number in range(40000)
+        )
         links = b"".join(samples.interface("<", 300 + kind) + samples.packet_block("<", kind, 0, bytes(16)) for kind in range(4000))
         for name, content, status, told in (
             ("a.blf", samples.blf_file(samples.blf_container(kinds)), DONE, b"objects of type 209 1, objects of other types 399990"),
-            ("a.pcapng", samples.section("<") + faces, REFUSAL, b"more than 4096 interfaces"),
+            ("a.pcapng", samples.section("<") + faces, DONE, b"frames 100; left out: frames of interfaces that no name is left for 39900"),
+            ("c.pcapng", samples.section("<") + samples.interface("<", 227) * 400000, DONE, b""),
             ("b.pcapng", samples.section("<") + links, DONE, b"packets of link type 309 1, packets of other link types 3990"),
         ):
             with self.subTest(name=name), tempfile.TemporaryDirectory() as folder:
@@ -465,6 +492,25 @@ class Faults(unittest.TestCase):
                 self.assertIn(told, error)
                 self.assertLess(len(error), 1000)
                 self.assertLess(peak, 40000)
+
+    def test_many_interfaces(self):
+        """However many a section has, each keeps its name, its resolution and its offset, in any order of the packets."""
+        shown = samples.socketcan_frames()[0]
+        count, rng = 70000, random.Random(3)
+        faces = b"".join(
+            samples.interface("<", 227, (2, b"vcan%d" % at), (9, bytes([at % 10])), (14, struct.pack("<q", at))) if at % 3 else samples.interface("<", 227)
+            for at in range(count)
+        )
+        asked = [*range(3000), *(rng.randrange(count) for _ in range(3000)), count - 1]
+        content = samples.section("<") + faces + b"".join(samples.packet_block("<", at, 3, shown) for at in asked)
+        times = [at * 10**6 + (6 * 10**6 // 10 ** (at % 10) + 1) // 2 if at % 3 else 3 for at in asked]
+        want = [samples.line(micros, f"vcan{at}" if at % 3 else f"can{at}", 0x7E0, bytes.fromhex("0322F190")) for micros, at in zip(times, asked)]
+        found = Read("many.pcapng", content)
+        self.assertEqual((found.lines, found.fault, str(found.tally)), (want, None, ""))
+        found = Read("more.pcapng", content + samples.packet_block("<", count, 3, shown))
+        self.assertRegex(found.fault, r"^byte \d+: a packet of an interface that there is not$")
+        with unittest.mock.patch("udsnorm._formats.captures._MOST_HELD", 1000):
+            self.assertRegex(Read("few.pcapng", content).fault, r"^byte \d+: interfaces of more than 1000 bytes$")
 
     def test_last_lines_without_a_line_feed(self):
         """A cut that leaves a line which is legal by itself is told all the same."""
@@ -559,7 +605,8 @@ class Tool(unittest.TestCase):
             ["--strict", "run"], ["list", "--tester"],
         ):
             self.same([word.replace("run", "run.blf") for word in words], [word.replace("run", "run.log") for word in words])
-        self.same(["list", "--limit", "run.blf"], ["list", "--limit", "run.blf"])
+        for words in (["list", "--limit", "run.blf"], ["run.blf", "run.log"], ["run.blf", "--hints", "run.blf"], ["List", "run.blf"]):
+            self.same(words, words)
         self.assertEqual(package(["report", "run.blf"], cwd=self.folder).status, DONE)
         self.put("logs/list", blf_of(VIN.read_bytes()))
         self.put("logs/--strict", blf_of(VIN.read_bytes()))
@@ -642,6 +689,47 @@ class Tool(unittest.TestCase):
             self.assertNotIn(b"udsnorm-", found.output)
         self.assertIn(b"run.blf", package(["report", "left/run.blf"], cwd=self.folder).output)
 
+    def test_names_as_they_are_given(self):
+        """Pages, hints and faults name a log as it was named, wherever it is read: what the program tells of the log there."""
+        log, other = VIN.read_bytes(), VIN.read_bytes().replace(b"7E0#", b"7E1#").replace(b"7E8#", b"7E9#")
+        whole = str(self.folder)
+        (self.folder / "below" / "sub").mkdir(parents=True)
+        (self.folder / "link").symlink_to("below")
+        names = ["run", "sub/run", "below/sub/run", "below/run", "up/run", "-run"]
+        for name in names:
+            self.put(name, b"")
+        for place, words in (
+            ("", ["report", f"{whole}/run", "run"]), ("", ["report", "run", f"{whole}/below/run"]), ("", ["report", "./run", "below//sub/run"]),
+            ("below/sub", ["report", "../run", "run"]), ("below/sub", ["report", "../../run", f"{whole}/run"]),
+            ("below", ["report", "sub/../run", "sub/./run"]), ("", ["report", "link/../run", "link/run"]), ("", ["report", f"{whole}/run"]),
+            ("", ["report", "--hints", f"//{whole}/run", "run"]), ("", ["report", "--hints", "--", "-run", f"{whole}/run"]),
+            ("", ["list", "--hints", f"{whole}/run"]), ("below", ["list", "--hints", "../run"]), ("", ["compare", "--hints", "link/../run", "run"]),
+            ("", ["list", "--hints", f"{whole}/run", "run"]), ("", ["list", "--limit", "9", "--hints", f"{whole}/run"]),
+            ("", ["compare", "--hints", f"{whole}/run", f"{whole}/none"]), ("", ["compare", "--hints", f"{whole}/run", "none"]),
+            ("", ["compare", "--hints", "run", "below"]), ("below", ["compare", "--hints", "../run", "sub"]), ("", ["compare", "--hints", "run", "link/.."]),
+            ("", ["compare", f"{whole}/run", f"{whole}/none"]), ("", ["find", "--hints", "--tester", "7E0", f"{whole}/run"]),
+        ):
+            for content in (log, other):
+                for name in names:
+                    self.put(name, content)
+                given_words, at = [sys.executable, "-B", "-m", "udsnorm", *words], self.folder / place
+                want = run(given.program, words, cwd=at), told_by(given.program, words, at)
+                for name in names:
+                    self.put(name, blf_of(content))
+                found = package(words, cwd=at), told_by(given_words[0], given_words[1:], at, env=environment())
+                self.assertEqual(found, want, words)
+
+    def test_pages_that_cannot_be_written(self):
+        """A page in which names are put right fails as any other one."""
+        path = self.put("run.blf", blf_of(VIN.read_bytes()))
+        with open("/dev/full", "wb") as full:
+            found = package(["report", path], cwd=self.folder, stdout=full)
+        self.assertEqual((found.status, found.error), (DEVICE, b"write failed\n"))
+        self.put("long.blf", blf_of(VIN.read_bytes() * 5000))
+        words = [f"{self.folder}/long.blf", "run.blf"]
+        found = run("bash", ["-c", f"{sys.executable} -B -m udsnorm report {words[0]} | head -c 1 > /dev/null; echo ${{PIPESTATUS[0]}}"], env=environment())
+        self.assertEqual((found.output, found.error), (b"4\n", b"write failed\n"))
+
     def test_faults_are_refused_by_the_program(self):
         """The frames before are there, and the program refuses the log at the frame behind them."""
         content = blf_of(VIN.read_bytes())
@@ -649,10 +737,19 @@ class Tool(unittest.TestCase):
         self.put("vin.log", VIN.read_bytes())
         found = package(["list", "cut.blf"], cwd=self.folder)
         self.assertEqual((found.status, found.output), (REFUSAL, b""))
-        self.assertRegex(found.error.decode(), r"^cut\.blf: byte \d+: the file ends in the middle of an object\nline \d column 1: not a log line\n")
+        self.assertRegex(found.error.decode(), r"^cut\.blf: byte \d+: the file ends in the middle of an object\nline \d column 2: not a log line\n")
         found = package(["compare", "vin.log", "cut.blf"], cwd=self.folder)
         self.assertEqual((found.status, found.error.splitlines()[-1][:12]), (REFUSAL, b"right: line "))
         self.assertEqual(package(["report", "cut.blf"], cwd=self.folder).status, REFUSAL)
+        self.assertEqual(package(["list", "cut.blf", "--hints"], cwd=self.folder), package(["list", "cut.blf"], cwd=self.folder))
+        self.assertEqual(package(["list", "--hints"], log=content[:-4]), package(["list"], log=content[:-4]))
+        found = told_by(sys.executable, ["-B", "-m", "udsnorm", "list", "cut.blf"], self.folder, env=environment())
+        self.assertEqual(found, package(["list", "cut.blf"], cwd=self.folder))
+        # A line of the log itself has its hint.
+        notice = b"DROPCOUNT: dropped 1 CAN frame on 'can0' socket (total drops 1)\n"
+        self.put("cut.log.gz", gzip.compress(VIN.read_bytes() + notice + VIN.read_bytes())[:-4])
+        told = b"hint: line 6 of cut.log.gz begins with no stamp; if it is a notice of candump -d, grep -v ^DROPCOUNT leaves it out"
+        self.assertEqual(package(["list", "cut.log.gz", "--hints"], cwd=self.folder).error.splitlines()[-1], told)
 
     def test_what_is_left_out_is_told(self):
         sample = next(one for one in SAMPLES if one.name == "packed.blf")
@@ -661,6 +758,10 @@ class Tool(unittest.TestCase):
         for words in (["list"], ["convert"]):
             found = package([*words, sample.name], cwd=self.folder)
             self.assertEqual((found.status, sorted(re.split("[;,:] ", found.error.decode()))), (DONE, sorted(re.split("[;,:] ", told.decode()))))
+        # One log by two names is read once.
+        for other in (sample.name, f"./{sample.name}", self.folder / sample.name):
+            found = package(["compare", sample.name, other], cwd=self.folder)
+            self.assertEqual((found.status, found.output, found.error.count(b"left out")), (DONE, b"same\n", 1))
 
     def test_convert(self):
         self.put("run.blf", blf_of(VIN.read_bytes()))
@@ -708,7 +809,7 @@ class Tool(unittest.TestCase):
             self.assertEqual(found, (DONE, b"same\n", b""), words)
         cut = package(["list"], log=blf[:-4])
         self.assertEqual((cut.status, cut.output), (REFUSAL, b""))
-        self.assertRegex(cut.error.decode(), r"^-: byte \d+: the file ends in the middle of an object\nline \d column 1: not a log line\n")
+        self.assertRegex(cut.error.decode(), r"^-: byte \d+: the file ends in the middle of an object\nline \d column 2: not a log line\n")
         self.assertEqual(package(["list", "--limit", "50"], log=blf).error.splitlines()[0], b"log longer than the limit")
 
     def test_named_pipes(self):
@@ -813,12 +914,13 @@ class Tool(unittest.TestCase):
         rooms.mkdir()
         more = {**environment(), "PATH": f"{program.parent}:{os.environ['PATH']}", "TMPDIR": str(rooms)}
         for number in (signal.SIGHUP, signal.SIGTERM, signal.SIGINT):
-            running = start(sys.executable, ["-B", "-m", "udsnorm", "list", "run.blf"], env=more, cwd=self.folder)
-            while not list(rooms.glob("*/run.blf")):
-                time.sleep(0.01)
-            time.sleep(0.1)
-            running.send_signal(number)
-            self.assertEqual((end(running).status, list(rooms.iterdir())), (128 + number, []))
+            for words in (["list", "run.blf"], ["report", self.folder / "run.blf"]):
+                running = start(sys.executable, ["-B", "-m", "udsnorm", *words], env=more, cwd=self.folder)
+                while not list(rooms.rglob("run.blf")):
+                    time.sleep(0.01)
+                time.sleep(0.1)
+                running.send_signal(number)
+                self.assertEqual((end(running).status, list(rooms.iterdir())), (128 + number, []))
 
     def test_signals_while_the_folder_goes(self):
         self.put("run.blf", blf_of(VIN.read_bytes()))

@@ -17,12 +17,11 @@ import subprocess
 import sys
 import tempfile
 import termios
-import tty
 from pathlib import Path
 
 from cases import DEVICE, REFUSAL, UNCLEAN, WORDS, Cases
 from commands import over_one_log
-from runs import Ended
+from runs import told_by
 from tables import EXAMPLES
 
 VIN = EXAMPLES / "vin.log"
@@ -50,27 +49,6 @@ ZSTANDARD = "looks compressed with zstd; zstdcat unpacks it"
 
 # The number of a user who owns nothing.
 NOBODY = 65534
-
-
-def told_by(program, words, folder, log=b"", **options):
-    """How the program ends in this folder, where its standard error is a terminal."""
-    ours, theirs = os.openpty()
-    tty.setraw(theirs)
-    given = options if "stdin" in options else {"input": log, **options}
-    done = subprocess.run([program, *words], stdout=subprocess.PIPE, stderr=theirs, cwd=folder, timeout=60, **given)
-    os.close(theirs)
-    told = b""
-    while True:
-        try:
-            piece = os.read(ours, 4096)
-        except OSError:
-            # Nobody else has the terminal open.
-            break
-        if not piece:
-            break
-        told += piece
-    os.close(ours)
-    return Ended(done.returncode, done.stdout, told)
 
 
 def hinted(cases, name, words, folder, status, hint, **options):

@@ -6,6 +6,7 @@ import re
 import subprocess
 import tempfile
 import time
+import tty
 from collections import namedtuple
 from contextlib import contextmanager
 from pathlib import Path
@@ -27,6 +28,27 @@ def run(program, words=(), log=b"", **options):
     given = {} if "stdin" in options else {"input": log}
     done = subprocess.run([program, *words], timeout=60, **(PIPES | given | options))
     return Ended(done.returncode, done.stdout, done.stderr)
+
+
+def told_by(program, words, folder, log=b"", **options):
+    """How a program ends in this folder, where its standard error is a terminal."""
+    ours, theirs = os.openpty()
+    tty.setraw(theirs)
+    given = options if "stdin" in options else {"input": log, **options}
+    done = subprocess.run([program, *words], stdout=subprocess.PIPE, stderr=theirs, cwd=folder, timeout=60, **given)
+    os.close(theirs)
+    told = b""
+    while True:
+        try:
+            piece = os.read(ours, 4096)
+        except OSError:
+            # Nobody else has the terminal open.
+            break
+        if not piece:
+            break
+        told += piece
+    os.close(ours)
+    return Ended(done.returncode, done.stdout, told)
 
 
 def start(program, words=(), **options):

@@ -23,9 +23,7 @@ from typing import BinaryIO, List, Optional
 from . import _program
 from ._formats import Fault, Log, Missing
 
-_DONE, _WRONG_WORDS, _REFUSED, _NOT_READ, _NO_MEMORY, _INTERRUPTED = 0, 2, 3, 4, 5, 130
-
-_STANDARD_OUTPUT = 1
+_DONE, _WRONG_WORDS, _REFUSED, _NO_MEMORY, _INTERRUPTED = 0, 2, 3, 5, 130
 
 # By these a process is told to end. What ignores one of them, as below nohup, goes on to.
 _ENDING = (signal.SIGTERM, signal.SIGHUP)
@@ -40,7 +38,7 @@ def main(words: List[str]) -> int:
         return _WRONG_WORDS
     except OSError as error:
         _program.tell(error.filename if isinstance(error.filename, str) else "udsnorm", error.strerror or str(error))
-        return _NOT_READ
+        return _program.FAILED_DEVICE
     except MemoryError:
         _program.tell_line("out of memory")
         return _NO_MEMORY
@@ -62,7 +60,7 @@ def _run(words: List[str]) -> int:
     unnamed = {at for at, source in logs.items() if source is not None and not _program.is_text(words[at])}
     pipes = {at for at, source in logs.items() if _program.is_named_pipe(words[at], source)}
     is_given = _program.reads_standard_input(words) and _program.is_other(_program.STANDARD_INPUT)
-    if not (others or unnamed or pipes or is_given):
+    if not (others or unnamed or pipes or is_given) or (logs and not _program.is_command(program, words[0])):
         # Python ignores this signal, and the program would, too.
         signal.signal(signal.SIGPIPE, signal.SIG_DFL)
         os.execv(program, ["udsnorm", *words])
@@ -99,16 +97,16 @@ def _convert(words: List[str]) -> int:
         return _WRONG_WORDS
     try:
         with Log(_program.STANDARD_INPUT if words[0] == "-" else words[0]) as log:
-            if log.is_read_from(words[1] if len(words) == 2 else _STANDARD_OUTPUT):
+            if log.is_read_from(words[1] if len(words) == 2 else _program.STANDARD_OUTPUT):
                 _program.tell(words[-1], "this is the file that is read")
                 return _WRONG_WORDS
             if len(words) == 1:
-                with open(_STANDARD_OUTPUT, "wb", closefd=False) as out:
+                with open(_program.STANDARD_OUTPUT, "wb", closefd=False) as out:
                     return _write(log, out)
             with open(words[1], "wb") as out:
                 return _write(log, out)
     except BrokenPipeError:
-        return _NOT_READ
+        return _program.FAILED_DEVICE
 
 
 def _write(log: Log, out: BinaryIO) -> int:
@@ -127,7 +125,7 @@ def _write(log: Log, out: BinaryIO) -> int:
 
 def _say(text: str) -> int:
     """Writes a text on standard output."""
-    with open(_STANDARD_OUTPUT, "wb", closefd=False) as out:
+    with open(_program.STANDARD_OUTPUT, "wb", closefd=False) as out:
         out.write(text.encode("ascii"))
     return _DONE
 

@@ -23,12 +23,16 @@ VALUED = ("--tester", "--unit", "--limit")
 # The options that make it tell of itself, and read nothing.
 _TOLD = ("-h", "--help", "-V", "--version")
 
-STANDARD_INPUT = 0
+STANDARD_INPUT, STANDARD_OUTPUT, STANDARD_ERROR = 0, 1, 2
+#: The status of a run whose log can't be read, or whose text can't be written.
+FAILED_DEVICE = 4
 _LARGEST_LIMIT = 1 << 40
 # So many milliseconds pass until it is looked whether more of a stream has come.
 _PAUSE = 20
 # No name of a file has more bytes.
 _LONGEST_NAME = 255
+# Behind the mark of a folder: a log lies aside of another one.
+_ASIDE = "_/"
 # What Python has in a word for a byte that is no sign of UTF-8.
 _SURROGATE = re.compile("[\udc80-\udcff]")
 
@@ -157,6 +161,12 @@ def _in_pipe(number: int) -> bytes:
         os.close(begin)
 
 
+def is_command(program: str, word: str) -> bool:
+    """The program has this command."""
+    found = subprocess.run([program, word, "--help"], stdout=subprocess.DEVNULL, stderr=subprocess.DEVNULL, check=False)
+    return found.returncode == 0
+
+
 def limit_of(program: str, words: Sequence[str]) -> int:
     """The most bytes of a log in a run with these words: those that they say, else those that the command's help does."""
     options = words[: words.index("--")] if "--" in words else words
@@ -168,59 +178,101 @@ def limit_of(program: str, words: Sequence[str]) -> int:
 
 class Folder:
     """A folder of logs for one run of the program. Each lies there under the path that it was named by, so that pages and
-    labels show that, and ends just behind the limit, so that the program refuses it there."""
+    hints show that, and ends just behind the limit, so that the program refuses it there."""
 
     def __init__(self, root: str, limit: int = _LARGEST_LIMIT) -> None:
         self._root, self._limit = Path(root), limit
         self._sources: Dict[Path, str] = {}
+        # Stands in a path where that would lead out of the folder, or to another log, and is taken from what the program
+        # tells. No log has it in its name.
+        self._mark = self._root.name
+        self._is_lost = False
 
-    def place_of(self, name: str, source: str) -> Path:
-        """Where the log of this name lies: an absolute path, or one with `..`, from the root of the file system on. Logs of
-        two sources lie in two places."""
-        inside = Path(*map(_spelled, Path(name).parts))
-        if inside.is_absolute() or ".." in inside.parts:
-            inside = Path(os.path.abspath(inside).lstrip("/"))
-        while self._sources.get(inside, source) != source or any(
-            other in inside.parents or inside in other.parents for other in self._sources
-        ):
-            inside = "other" / inside
-        self._sources[inside] = source
-        place = self._root / inside
-        place.parent.mkdir(parents=True, exist_ok=True)
-        return place
+    def _path_of(self, name: str, source: str) -> str:
+        """The path here of the log of this name. Logs of two sources have two."""
+        parts = map(_spelled, name.split("/"))
+        path = "/".join(self._mark + part if part == ".." or not (at or part) else part for at, part in enumerate(parts))
+        while self._is_taken(Path(path), source):
+            path = f"{self._mark}{_ASIDE}{path}"
+        self._sources[Path(path)] = source
+        return path
+
+    def _is_taken(self, path: Path, source: str) -> bool:
+        """Another log lies there, or above or below."""
+        others = (other for other in self._sources if other in path.parents or path in other.parents)
+        return self._sources.get(path, source) != source or any(others)
 
     def word_for(self, word: str, source: Optional[Source], is_other: bool) -> str:
         """The word that means here what this one means where the run was asked for."""
-        # The name as it is: behind a link to a folder, `..` is not what its letters say.
-        whole = os.path.join(os.getcwd(), word)
         is_pipe = is_named_pipe(word, source)
-        if not (is_other or is_pipe) and (not isinstance(source, str) or (os.path.isabs(word) and is_text(word))):
-            return whole if os.path.exists(word) else word
-        place = self.place_of(word, os.path.realpath(word))
+        if not (is_other or is_pipe) and (not os.path.exists(word) or (os.path.isabs(word) and is_text(word))):
+            return word
+        real = os.path.realpath(word)
+        earlier = next((path for path, other in self._sources.items() if other == real), None)
+        path = self._path_of(word, real)
+        place = self._root / path
+        place.parent.mkdir(parents=True, exist_ok=True)
         if not os.path.lexists(place):
-            if is_other and source is not None:
+            if earlier:
+                # One log by another name.
+                place.symlink_to(self._root / earlier)
+            elif is_other and source is not None:
                 with Log(source) as log, open(place, "wb") as out:
                     _convert(log, out, self._limit)
             else:
+                # The name as it is: behind a link to a folder, `..` is not what its letters say.
+                whole = os.path.join(os.getcwd(), word)
                 place.symlink_to(_handed_on(source) if is_pipe and isinstance(source, int) else whole)
-        inside = str(place.relative_to(self._root))
-        # It is no option there.
-        return f"./{inside}" if inside.startswith("-") else inside
+        return path
 
     def run(self, program: str, words: Sequence[str], is_given: bool = False) -> int:
         """The status of the program over logs that lie here, or over standard input, which is converted meanwhile. A stream
         that a word names stays open."""
+        is_marked = any(self._mark in word for word in words)
         given = subprocess.PIPE if is_given else None
-        with subprocess.Popen([program, *words], cwd=self._root, stdin=given, close_fds=False) as running:
+        # Of what is written there, pages alone show names.
+        out = subprocess.PIPE if is_marked and words[0] == "report" and sys.stdout else None
+        error = subprocess.PIPE if is_marked and sys.stderr else None
+        words = _with_hints(words) if error else words
+        with subprocess.Popen(
+            [program, *words], cwd=self._root, stdin=given, stdout=out, stderr=error, close_fds=False
+        ) as running:
             try:
+                texts = {STANDARD_OUTPUT: running.stdout, STANDARD_ERROR: running.stderr}
+                telling = [threading.Thread(target=self._tell, args=(texts[at], at), daemon=True) for at in texts if texts[at]]
+                for thread in telling:
+                    thread.start()
                 if running.stdin:
                     with Log(STANDARD_INPUT) as log, contextlib.suppress(BrokenPipeError), running.stdin:
                         _convert(log, running.stdin, self._limit)
                 status = running.wait()
+                for thread in telling:
+                    thread.join()
             except BaseException:
                 running.kill()
                 raise
+        if self._is_lost and status != FAILED_DEVICE:
+            tell_line("write failed")
+            return FAILED_DEVICE
         return 128 - status if status < 0 else status
+
+    def _tell(self, text: IO[bytes], number: int) -> None:
+        """Hands on what the program writes to the stream of this number, with the names that were given."""
+        mark = re.compile(b"%b(?:%b)?" % (re.escape(os.fsencode(self._mark)), _ASIDE.encode()))
+        try:
+            with text, open(number, "wb", closefd=False) as told:
+                for line in text:
+                    told.write(mark.sub(b"", line))
+        except OSError:
+            # What can't be told on standard error is told nowhere.
+            self._is_lost = self._is_lost or number == STANDARD_OUTPUT
+
+
+def _with_hints(words: Sequence[str]) -> List[str]:
+    """The words that make the program give hints where standard error is a terminal, which the program doesn't see."""
+    end = words.index("--") if "--" in words else len(words)
+    is_wanted = os.isatty(STANDARD_ERROR) and "--hints" not in words[:end]
+    return [*words[:end], *(["--hints"] if is_wanted else []), *words[end:]]
 
 
 def is_text(word: str) -> bool:
@@ -246,7 +298,8 @@ def _convert(log: Log, out: IO[bytes], limit: int) -> None:
                 out.write(b"longer than the limit\n")
                 break
     except Fault as fault:
-        out.write(f"{fault}\n".encode("ascii", "replace"))
+        # Behind this sign no hint takes it for a line of candump's.
+        out.write(f"({fault}\n".encode("ascii", "replace"))
         tell(log.path, str(fault))
     if str(log.tally):
         tell(log.path, str(log.tally))

@@ -27,6 +27,8 @@ _REMOTE, _FD = 0x10, 0x1000
 _MOST_BEHIND = 8
 # A byte in two hexadecimal digits that is no number as a duration is spelled.
 _NO_DURATION = re.compile(r"(?!\d\d$)[0-9A-Fa-f]{2}|0\d", re.A)
+# No frame has more bits, or takes so few nanoseconds.
+_MOST_BITS = 1 << 12
 
 
 def looks_so(head: str) -> bool:
@@ -148,8 +150,7 @@ class _Reader:
         if len(behind) < 4 and not line.is_whole:
             raise ValueError
         flags = int(behind[2], 16) if len(behind) > 2 and _FLAGS.fullmatch(behind[2]) else _FD
-        # More bytes shift what stands behind them, so that other numbers are read as flags.
-        if len(behind) > _MOST_BEHIND or (behind and _NO_DURATION.fullmatch(behind[0])) or (flags & _REMOTE and data):
+        if _is_shifted(behind) or (flags & _REMOTE and data):
             self._tally.leave_out_longer()
             return None
         if flags & _REMOTE or (code and not length):
@@ -179,3 +180,14 @@ class _Reader:
                 break
             found.append(int(word))
         return bytes(found)
+
+
+def _is_shifted(behind: List[str]) -> bool:
+    """More bytes than the length says are there. They shift what stands behind the data: one is taken for the duration, and
+    that, or a second one, for the number of bits."""
+    if len(behind) > _MOST_BEHIND or (behind and _NO_DURATION.fullmatch(behind[0])):
+        return True
+    duration, bits, third, fourth = (int(word) if _NUMBER.fullmatch(word) else 0 for word in [*behind, "", "", "", ""][:4])
+    if bits > _MOST_BITS or (duration > 0 and behind[1:2] == ["0"]):
+        return True
+    return max(duration, bits) < 256 and third > _MOST_BITS >= fourth > 0

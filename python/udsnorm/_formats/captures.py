@@ -3,7 +3,8 @@
 from __future__ import annotations
 
 import struct
-from typing import BinaryIO, Iterator, List, NamedTuple, Optional
+from array import array
+from typing import BinaryIO, Dict, Iterator, NamedTuple, Optional
 
 from .frames import BIT_RATE_SWITCH, ERROR_STATE, Fault, Frame, Tally, interface_of, nearest
 
@@ -26,9 +27,14 @@ _NAME, _RESOLUTION, _OFFSET = 2, 9, 14
 
 #: No packet of a frame is longer; libpcap has the same bound.
 _LONGEST = 1 << 18
-#: No section has more interfaces.
-_MOST_INTERFACES = 1 << 12
 _PIECE = 1 << 16
+
+# An interface as it is held: link type, resolution, the offset of its times; behind these its name. How many bytes those of
+# a section take at most, and how many of them are at hand.
+_HELD = struct.Struct("=HBq")
+_MOST_HELD, _AT_HAND = 1 << 26, 1 << 10
+# The resolution that an interface has which says none: microseconds. One with the flag counts powers of two.
+_MICROSECONDS, _OF_TWO = 6, 0x80
 
 # An identifier with its flags, and the flags of CAN FD; a frame of CAN XL has a flag where others have a length.
 _EXTENDED, _REMOTE, _ERROR = 1 << 31, 1 << 30, 1 << 29
@@ -48,6 +54,38 @@ class _Interface(NamedTuple):
     name: str
     units: int
     begin: int
+
+
+class _Interfaces:
+    """The interfaces of a section, of which a file may make up any number: few bytes are held of each."""
+
+    def __init__(self) -> None:
+        # Where each ends.
+        self._held, self._ends = bytearray(), array("I")
+        self._at_hand: Dict[int, _Interface] = {}
+
+    def add(self, link: int, resolution: int, begin: int, name: bytes) -> None:
+        """The next one, in the terms of its block; of too many a ValueError."""
+        self._held += _HELD.pack(link, resolution, begin) + name
+        self._ends.append(len(self._held))
+        if len(self._held) > _MOST_HELD:
+            raise ValueError
+
+    def of(self, number: int) -> Optional[_Interface]:
+        """The one of this number, if there are so many."""
+        face = self._at_hand.get(number)
+        if face is None and number < len(self._ends):
+            if len(self._at_hand) == _AT_HAND:
+                self._at_hand.clear()
+            face = self._at_hand[number] = self._read(number)
+        return face
+
+    def _read(self, number: int) -> _Interface:
+        end, at = self._ends[number], self._ends[number - 1] if number else 0
+        link, resolution, begin = _HELD.unpack_from(self._held, at)
+        name = self._held[at + _HELD.size : end].decode("latin-1")
+        units = 2 ** (resolution - _OF_TWO) if resolution & _OF_TWO else 10**resolution
+        return _Interface(link, interface_of(name or number), units, begin)
 
 
 def looks_so(head: bytes) -> bool:
@@ -116,7 +154,7 @@ class _Reader:
 
     def pcapng(self) -> Iterator[Frame]:
         """Blocks: a section's head, interfaces, packets, and others that say nothing of frames."""
-        faces: List[_Interface] = []
+        faces = _Interfaces()
         self._section()
         while True:
             begun, head = self._at, self._file.read(8)
@@ -127,7 +165,7 @@ class _Reader:
                 raise Fault(f"byte {self._at}", "the file ends in the middle")
             if head[:4] == _SECTION:
                 self._section(head[4:])
-                faces = []
+                faces = _Interfaces()
                 continue
             kind, size = self._numbers("II", head)
             if size < 12 or size % 4:
@@ -157,11 +195,9 @@ class _Reader:
             raise Fault(f"byte {begun}", "a block of a size that there is not")
         self._skip(length - 12)
 
-    def _block(self, kind: int, held: bytes, faces: List[_Interface]) -> Iterator[Frame]:
+    def _block(self, kind: int, held: bytes, faces: _Interfaces) -> Iterator[Frame]:
         if kind == _INTERFACE:
-            if len(faces) == _MOST_INTERFACES:
-                raise Fault(f"byte {self._at}", f"more than {_MOST_INTERFACES} interfaces")
-            faces.append(self._interface(held, len(faces)))
+            self._add_interface(held, faces)
             return
         if kind == _SIMPLE_PACKET:
             size, number, time, begin = self._numbers("I", held)[0], 0, 0, 4
@@ -172,34 +208,37 @@ class _Reader:
         else:
             number, high, low, size = self._numbers("HxxIII", held)
             time, begin = high << 32 | low, 20
-        if number >= len(faces):
+        face = faces.of(number)
+        if face is None:
             raise Fault(f"byte {self._at}", "a packet of an interface that there is not")
         if begin + size > len(held):
             raise Fault(f"byte {self._at}", "a packet that is longer than its block")
-        face = faces[number]
         if not self._reads(face):
             return
         if kind == _SIMPLE_PACKET:
             self._tally.noted["frames without a stamp, at 0.000000"] += 1
         yield from self._frames(face, time, held[begin : begin + size], kind != _SIMPLE_PACKET)
 
-    def _interface(self, held: bytes, number: int) -> _Interface:
+    def _add_interface(self, held: bytes, faces: _Interfaces) -> None:
         """An interface: its link type, and among its options its name, its resolution and the offset of its times."""
         link, at = self._numbers("H", held)[0], 8
-        name, units, begin = "", 10**6, 0
+        name, resolution, begin = b"", _MICROSECONDS, 0
         while at + 4 <= len(held):
             code, size = self._numbers("HH", held[at : at + 4])
             value = held[at + 4 : at + 4 + size]
             at += 4 + size + -size % 4
             if code == _NAME:
-                name = value.rstrip(b"\0").decode("latin-1")
+                name = value.rstrip(b"\0")
             elif code == _RESOLUTION:
-                units = 2 ** (value[0] & 0x7F) if value[0] & 0x80 else 10 ** value[0]
+                resolution = value[0]
             elif code == _OFFSET:
                 begin = self._numbers("q", value)[0]
             elif code == _END:
                 break
-        return _Interface(link, interface_of(name or number), units, begin)
+        try:
+            faces.add(link, resolution, begin, name)
+        except ValueError:
+            raise Fault(f"byte {self._at}", f"interfaces of more than {_MOST_HELD} bytes") from None
 
     def _frames(self, face: _Interface, time: int, packet: bytes, has_time: bool = True) -> Iterator[Frame]:
         """The frame of a packet, if it has one; else it is counted."""
@@ -239,8 +278,9 @@ class _Reader:
         identifier = word & (0x1FFFFFFF if is_extended else 0x7FF)
         if word & _REMOTE:
             return Frame(micros, name, identifier, is_extended, b"", None, length)
-        # Older kernels say by the room for its data alone that a frame is one of CAN FD.
-        is_fd = is_fd or bool(flags & _FD) or length > 8 or len(held) == _LONGEST_FD
+        # Older kernels say by the room for its data alone that a frame is one of CAN FD, and some tools don't say it.
+        is_fd = is_fd or bool(flags & _FD) or len(held) == _LONGEST_FD
+        is_fd = is_fd or self._tally.flags_by_length(length) is not None
         data = held[_DATA : _DATA + length]
         self._tally.fitting(data, length)
         return Frame(micros, name, identifier, is_extended, data, flags & (BIT_RATE_SWITCH | ERROR_STATE) if is_fd else None)
