@@ -1191,6 +1191,9 @@ def main():
     words.add_argument("library", type=Path)
     words.add_argument("tests", nargs="*")
     words.parse_args(namespace=given)
+    # What a shell starts in the background ignores these, and so would each process that is started here.
+    signal.signal(signal.SIGINT, signal.default_int_handler)
+    signal.signal(signal.SIGHUP, signal.SIG_DFL)
     sys.path.insert(0, str(TOP / "python"))
     # One that is loaded is found by its name.
     ctypes.CDLL(str(given.library.resolve() / "libudsnorm.so"))
