@@ -85,7 +85,7 @@ struct udsnorm_answer {
  *   tester, unit   the identifiers of the frames that the tester and the unit send, as canid_t has them: 0 to 7FF, or
  *                  UDSNORM_EXTENDED with 0 to 1FFFFFFF. They have to be different.
  *   limit          the most bytes of a log, and of its canonical log: 1 to 2^40. A call takes memory for what a log
- *                  means, which this bounds.
+ *                  means, and for its text, which this bounds.
  *   log, length    the bytes of a log: that many may be read at `log`, and nobody writes them during the call. They
  *                  stay the caller's. With a length of 0 any pointer is allowed, also a null pointer.
  *   answer         where the answer goes. It is not null, and nothing else uses it during the call.

@@ -719,6 +719,15 @@ class Tool(unittest.TestCase):
                 found = package(words, cwd=at), told_by(given_words[0], given_words[1:], at, env=environment())
                 self.assertEqual(found, want, words)
 
+    def test_a_log_that_is_missing(self):
+        """It is no other one, whatever lies around the folder of the logs."""
+        self.put("below/run", blf_of(VIN.read_bytes()))
+        self.put("rooms/none", VIN.read_bytes())
+        more = {"cwd": self.folder / "below", "env": {**environment(), "TMPDIR": str(self.folder / "rooms")}}
+        for words in (["compare", "run", "../none"], ["report", "run", "../none"], ["compare", "run", "none"]):
+            found = package(words, **more)
+            self.assertEqual((found.status, found.output, found.error), (DEVICE, b"", b"right: read failed\n"), words)
+
     def test_pages_that_cannot_be_written(self):
         """A page in which names are put right fails as any other one."""
         path = self.put("run.blf", blf_of(VIN.read_bytes()))

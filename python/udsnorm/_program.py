@@ -205,11 +205,14 @@ class Folder:
     def word_for(self, word: str, source: Optional[Source], is_other: bool) -> str:
         """The word that means here what this one means where the run was asked for."""
         is_pipe = is_named_pipe(word, source)
-        if not (is_other or is_pipe) and (not os.path.exists(word) or (os.path.isabs(word) and is_text(word))):
+        if not (is_other or is_pipe) and os.path.isabs(word) and is_text(word):
             return word
         real = os.path.realpath(word)
         earlier = next((path for path, other in self._sources.items() if other == real), None)
         path = self._path_of(word, real)
+        if not os.path.exists(word):
+            # Nothing lies there, either.
+            return path
         place = self._root / path
         place.parent.mkdir(parents=True, exist_ok=True)
         if not os.path.lexists(place):

@@ -29,7 +29,7 @@ pub fn clean_answer_is_recording()
     clean_log_has_both_sides();
 }
 
-/// The answer of a page of two logs says of them what comparing answers, where that accepts both.
+/// The answer of a page of two logs that was made says of them what comparing answers, where that accepts both.
 pub fn pair_page_agrees_with_compare()
     ensures { PairPageAgreesWithCompare }
 {
