@@ -14,7 +14,7 @@ use isotp_receive::{Ended, Event, Pair, Verdict};
 use std::alloc::{AllocError, Global};
 use trace_io::{Source, Target, TextSink};
 use trace_log::{Config, Fault, Summary};
-use trace_run::{Machine, Stop, run_lenient};
+use trace_run::{Machine, Seen, Stop, run_lenient};
 use trace_text::{Notation, Remark, say_remark};
 
 /// Reads a log and writes a line for each reception that ended without its message and for each frame that was dropped, as
@@ -68,15 +68,8 @@ impl Machine for Explainer {
     }
 
     #[inline(always)]
-    fn event<S: TextSink>(
-        &mut self,
-        line: u64,
-        _micros: u64,
-        dir: Dir,
-        event: Event<'_>,
-        out: &mut S,
-    ) -> Result<(), AllocError> {
-        say_event(self.notation, line, dir, event, out);
+    fn event<S: TextSink>(&mut self, seen: Seen<'_>, out: &mut S) -> Result<(), AllocError> {
+        say_event(self.notation, seen.line, seen.dir, seen.event, out);
         Ok(())
     }
 

@@ -1,6 +1,6 @@
 -- How the process ends, by what was done and told.
 use Rattle.std.specs.Prelude.{IfErr, OnOk}
-use Rattle.std.proofs.Common.{◌≡◌, ◌<◌, ℕ, inl, inr, refl, sym, ◌∙◌, Bool, true, false, List, Option, Result, Ok, Err, subst}
+use Rattle.std.proofs.Common.{◌≡◌, ◌<◌, ℕ, inl, inr, refl, Bool, true, false, List, Option, Result, Ok, Err, subst}
 use Rattle.clap.specs.Walk.{Text}
 use Rattle.trace_io.specs.Counted.{CountedReader}
 use Rattle.trace_io.specs.declared.device.Source.{Ghosts as SourceGhosts}
