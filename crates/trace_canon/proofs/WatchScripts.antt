@@ -25,7 +25,7 @@ use Rattle.trace_log.specs.Trace.{trace}
 use Rattle.trace_canon.specs.WatchScript.{decided_of, decided_by, text_behind, watching_script, WatchTellsDecided, WatchTellsTheList, WritesTheList}
 use Rattle.trace_canon.specs.proving.Watching.{SaysLines, SaysDecided, WatchesItems}
 use Rattle.trace_log.specs.declared.fault.Fault.{Fault}
-use Rattle.trace_text.specs.declared.item_lines.ItemStyle.{ItemStyle}
+use Rattle.trace_text.specs.declared.item_style.ItemStyle.{ItemStyle}
 use Rattle.trace_log.specs.declared.summary.Summary.{Summary}
 use Rattle.trace_canon.specs.declared.watcher.LineSink.{LineSink}
 use Rattle.trace_text.proofs.Promises.{lines-append}

@@ -25,14 +25,10 @@ use isotp_segment::{SINGLE_LIMIT, Segments, single_frame};
 use std::alloc::AllocError;
 use trace_io::TextSink;
 use trace_log::Config;
-use uds_exchange::{Judged, JudgedOrderer, MessageSink, OrderFault};
+use uds_exchange::{JudgedOrderer, Judged, MessageSink, NoFault, OrderFault};
 
 /// How many bytes a canonical line has beside what its identifier gives.
 const NAMELESS: usize = BASE_LINE - BASE_NAME;
-
-/// No fault: a text sink takes all that is said.
-#[derive(Clone, Copy, Debug)]
-pub(crate) struct NoFault;
 
 /// Says the canonical lines of each message that is put, as far as they are within the limit.
 #[derive(Drop)]
@@ -183,8 +179,8 @@ fn lasting_extended_name(number: u32) -> [u8; EXTENDED_NAME]
 }
 
 /// The same by the name of the sender, beside which time and data alone differ from frame to frame. The three are said as they
-/// lie: none is put together first, so that no load waits for several stores. The frames are moved in and out, so that none of
-/// their parts has to lie in memory meanwhile.
+/// lie: none is put together first, which would end in a covering load. The frames are moved in and out, so that none of their
+/// parts has to lie in memory meanwhile.
 #[inline(always)]
 fn say_stretch<'a, S: TextSink, const NAME: usize>(
     out: &mut S,

@@ -87,7 +87,7 @@ impl Machine for Explainer {
 }
 
 /// Says the lines of a frame, which is in this line and was sent by this side. Laid in line, where it is known of most frames
-/// that they have none: a call would put what the frame did in memory by bytes, and load it by words.
+/// that they have none: a call would end in covering loads of what the frame did.
 #[inline(always)]
 fn say_event<S: TextSink>(notation: Notation, line: u64, dir: Dir, event: Event<'_>, out: &mut S)
     ensures { S.says out.old (event_text notation line dir (seen_event event.entry)) out.new }

@@ -3,7 +3,7 @@ ghost use Rattle.trace_text.specs.Json.{object_line};
 ghost use Rattle.trace_canon.specs.MessageLines.{judged_at, placed_members};
 
 use crate::begun::FramePlace;
-use crate::placer::say_stamp;
+use crate::stamp::say_stamp;
 use trace_io::TextSink;
 use trace_text::names::role_name;
 use trace_text::say::{say_bytes, say_direction, say_number, say_text};

@@ -1,12 +1,13 @@
 //! `messages`: a machine that says each message with its place in the log, as it is delivered.
 ghost use Rattle.std.specs.Prelude.{length};
 ghost use Rattle.isotp_receive.specs.declared.TheConstants.{MESSAGE_LIMIT};
-ghost use Rattle.trace_canon.specs.MessageLines.{extent_text, judged_at, placed_line, placed_text, placing_script, stamp_text};
+ghost use Rattle.trace_canon.specs.MessageLines.{extent_text, judged_at, placed_line, placed_text, placing_script};
 ghost use Rattle.trace_run.specs.Told.{RanLenient, answers_counts, needs_none};
 ghost use Rattle.trace_io.specs.Counted.{IsLowCount, AreLowCounts};
 
 use crate::begun::{Begun, FramePlace};
 use crate::message_objects::say_message_object;
+use crate::stamp::say_stamp;
 use isotp_receive::Pair;
 use std::alloc::{AllocError, Global};
 use trace_io::{Source, Target, TextSink};
@@ -14,7 +15,7 @@ use trace_log::{Config, Fault, Summary};
 use trace_run::{Machine, Seen, Stop, run_lenient};
 use trace_text::Notation;
 use trace_text::names::role_name;
-use trace_text::say::{say_bytes, say_direction, say_number, say_six_decimals, say_text};
+use trace_text::say::{say_bytes, say_direction, say_number, say_text};
 use uds_exchange::Judged;
 
 /// Reads a log and writes a line for each message that is delivered, as it comes, in words or as an object of JSON: the
@@ -143,13 +144,4 @@ fn say_extent<S: TextSink>(out: &mut S, first: FramePlace, last: FramePlace)
     say_stamp(out, first.micros);
     say_text(out, " to ");
     say_stamp(out, last.micros);
-}
-
-/// Says the time of a frame: its seconds, a dot, and six digits.
-pub(crate) fn say_stamp<S: TextSink>(out: &mut S, micros: u64)
-    ensures { S.says out.old (stamp_text micros) out.new }
-{
-    say_number(out, micros / 1_000_000);
-    say_text(out, ".");
-    say_six_decimals(out, micros);
 }

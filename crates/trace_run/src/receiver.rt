@@ -49,7 +49,7 @@ fn receive<M: Machine, W: Target>(
 }
 
 /// Counts what a frame did, and hands it on. Most frames complete a message or are stored for one. They go ways of their own: there
-/// the verdict is known when it is compiled, so that no reason is put in memory and read again.
+/// the verdict is known when it is compiled, so that no reason is stored and read by a covering load.
 #[inline(always)]
 fn hand_on<M: Machine, W: Target>(
     counts: &mut Summary,

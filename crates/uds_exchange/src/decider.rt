@@ -13,7 +13,7 @@ use crate::held::Held;
 use crate::item::Item;
 use crate::item_sink::ItemSink;
 use crate::judge::Judged;
-use crate::sink::MessageSink;
+use crate::sink::{MessageSink, NoFault};
 use crate::step::Step;
 use direction::Dir;
 use std::alloc::{AllocError, Global};
@@ -148,10 +148,6 @@ fn put_strays<S: ItemSink>(held: &Held, sink: &mut S)
         return;
     }
 }
-
-/// No fault: a sink of items takes all that is put.
-#[derive(Clone, Copy, Debug)]
-pub(crate) struct NoFault;
 
 /// Puts each message as a stray.
 #[derive(Drop)]

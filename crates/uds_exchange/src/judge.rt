@@ -43,7 +43,7 @@ impl Judge {
         }
     }
 
-    /// Judges one more message. Laid in line: a call would answer by bytes in memory, which are then loaded by words.
+    /// Judges one more message. Laid in line: what a call answers in memory is read by covering loads.
     #[inline(always)]
     pub fn take<'a>(&mut self, dir: Dir, message: &'a [u8]) -> Judged<'a>
         ensures next { (M : List Message) → length M < 2 ^ 62 → HasJudged M self.old → HasJudged (M ++ (dir, message.now) ∷ []) self.new }

@@ -39,5 +39,5 @@ pub use meaning::Meaning;
 pub use order_fault::OrderFault;
 pub use orderer::Orderer;
 pub use pairing::Pairing;
-pub use sink::MessageSink;
+pub use sink::{MessageSink, NoFault};
 pub use step::Step;
