@@ -25,7 +25,7 @@ use isotp_segment::{SINGLE_LIMIT, Segments, single_frame};
 use std::alloc::AllocError;
 use trace_io::TextSink;
 use trace_log::Config;
-use uds_exchange::{JudgedOrderer, Judged, MessageSink, NoFault, OrderFault};
+use uds_exchange::{Judged, JudgedOrderer, MessageSink, NoFault, OrderFault};
 
 /// How many bytes a canonical line has beside what its identifier gives.
 const NAMELESS: usize = BASE_LINE - BASE_NAME;
