@@ -223,15 +223,18 @@ class Formats(unittest.TestCase):
                 self.assertEqual((found.lines, found.fault, found.tally.left_out), ([], None, longer))
         ends = (whole, few, "130000 68 1000 0 0 0 0", "130000 100 1000", "29000 100 1000 0 0 0 0", "102203 133 303000 e0006659 46500250 4b140250")
         zeros = "0 0 1000 0 0 0 0"
+        unknown = (zeros, "100000 0 303000 0 0 0 0 0", "101000 0 3000", "0 0 303000 1234 0 0 0 0")
         for base, three, surplus in (("hex", "01 02 03", ("00", "04", "10", "64", "99", "FF")), ("dec", "1 2 3", ("0", "4", "16", "100", "144", "255"))):
             head = f"date Tue Nov 14 10:13:20 pm 2023\nbase {base}  timestamps absolute\n   1.000000 CANFD   1 Rx 7 0 0 3 3 {three} "
-            for behind in (*ends, zeros):
+            for behind in (*ends, *unknown):
                 with self.subTest(base=base, behind=behind):
                     found = Read("a.asc", f"{head}{behind}\n".encode())
                     self.assertEqual((found.fault, str(found.tally)), (None, ""))
                     self.assertEqual([re.sub("##.", "#", line) for line in found.lines], [samples.line(1000000, "can1", 7, b"\1\2\3")])
+            for behind in (*ends, zeros):
                 more_of = surplus if behind != zeros else surplus[1:]
-                for more in (*more_of, *(f"{one} {other}" for one in more_of for other in more_of if behind != zeros)):
+                two = (f"{one} {other}" for one in more_of for other in more_of if behind != zeros and (one, other) != ("0", "0"))
+                for more in (*more_of, *two):
                     with self.subTest(base=base, behind=behind, more=more):
                         found = Read("a.asc", f"{head}{more} {behind}\n".encode())
                         self.assertEqual((found.lines, found.fault, found.tally.left_out), ([], None, longer))
@@ -727,6 +730,9 @@ class Tool(unittest.TestCase):
         for words in (["compare", "run", "../none"], ["report", "run", "../none"], ["compare", "run", "none"]):
             found = package(words, **more)
             self.assertEqual((found.status, found.output, found.error), (DEVICE, b"", b"right: read failed\n"), words)
+        # It lies by two names in a folder that is named from where the command runs.
+        more["env"]["TMPDIR"] = "."
+        self.assertEqual(package(["compare", "run", "../below/run"], **more), (DONE, b"same\n", b""))
 
     def test_pages_that_cannot_be_written(self):
         """A page in which names are put right fails as any other one."""
@@ -779,8 +785,10 @@ class Tool(unittest.TestCase):
         self.assertEqual(package(["convert", "run.blf", "run.log"], cwd=self.folder), (DONE, b"", b""))
         self.assertEqual((self.folder / "run.log").read_bytes(), VIN.read_bytes())
         self.assertEqual(package(["convert", "-"], log=blf_of(VIN.read_bytes())).output, VIN.read_bytes())
-        for words in ([], ["a", "b", "c"], ["--json", "a"], ["run.blf", "run.blf"]):
+        self.assertEqual(package(["convert", "run.blf", "-"], cwd=self.folder).output, VIN.read_bytes())
+        for words in ([], ["a", "b", "c"], ["--json", "a"], ["run.blf", "run.blf"], ["run.blf", "--help"], ["run.blf", "--limit=3"]):
             self.assertEqual(package(["convert", *words], cwd=self.folder).status, WORDS, words)
+        self.assertEqual(sorted(one.name for one in self.folder.iterdir()), ["run.blf", "run.log"])
         self.put("same.log", VIN.read_bytes())
         for name in ("run.blf", "same.log"):
             content = (self.folder / name).read_bytes()
@@ -811,6 +819,9 @@ class Tool(unittest.TestCase):
         with open(path, "rb") as file:
             self.assertEqual(package(["list", "/dev/stdin"], stdin=file).output, want)
         self.assertEqual(package(["list", "/dev/stdin"], log=blf).output, want)
+        for content in (log, blf):
+            found = package(["compare", "/dev/stdin", "/dev/fd/0"], log=content)
+            self.assertEqual(found, (WORDS, b"", b"both logs are the same stream\n"))
         self.assertEqual(package(["list", "/dev/stdin"], log=log).output, want)
         ask = f"{sys.executable} -B -m udsnorm"
         for words in ("<(cat run.blf) run.log", "<(cat run.log) run.blf", "<(cat run.log) <(cat run.blf)", "<(cat run.log) <(cat run.log)"):
@@ -982,6 +993,11 @@ class Tool(unittest.TestCase):
         database = self.put("run.db", b"SQLite format 3\0" + bytes(100))
         blocked = self.put("blocked/can.py", b"raise ImportError").parent
         found = package(["convert", database], env={**environment(), "PYTHONPATH": f"{TOP / 'python'}:{blocked}"})
+        self.assertEqual((found.status, found.output), (WORDS, b""))
+        self.assertIn(b"pip install python-can; apt install python3-can", found.error)
+        # What has the name of the library where the command runs is another one.
+        self.put("here/can.py", b"")
+        found = package(["compare", VIN, database], cwd=self.folder / "here")
         self.assertEqual((found.status, found.output), (WORDS, b""))
         self.assertIn(b"pip install python-can; apt install python3-can", found.error)
 

@@ -108,8 +108,8 @@ def normalise(log: Log, *, tester: Identifier = TESTER, unit: Identifier = UNIT,
     `EXTENDED | number` with a number up to 0x1FFFFFFF; or as a text, "7E0" or "18DA10F1". They have to be different.
     `limit`: the most bytes of the log, and of its canonical log: 1 to 2**40. It bounds the memory that a call takes.
 
-    Raises `Refused` where the log is refused, `ValueError` for settings that there are not, `MemoryError`, and
-    `OSError` where a file can't be read.
+    Raises `Refused` where the log is refused, `ValueError` for settings that there are not, `MemoryError`,
+    `OSError` where a file can't be read, and `ImportError` where python-can is missing that reads it.
     """
     return _text("normalise", log, _settings(tester, unit, limit))[1]
 

@@ -1,7 +1,8 @@
 """The program udsnorm over logs of any form:
 
     python3 -m udsnorm COMMAND ...           a command of the program; python3 -m udsnorm --help tells them
-    python3 -m udsnorm convert FILE [LOG]    the candump log of a file, on standard output where no LOG is named
+    python3 -m udsnorm convert FILE [LOG]    the candump log of a file, on standard output where no LOG is named;
+                                             - is standard input, or output
 
 A file may be a candump log, also packed (.gz, .xz, .bz2) or with days or nanoseconds, what candump writes for the
 screen, ASC, BLF, TRC, CSV of SavvyCAN or of python-can, pcap or pcapng; with python-can, MF4 or a database of its own.
@@ -18,7 +19,7 @@ import subprocess
 import sys
 import tempfile
 from types import FrameType
-from typing import BinaryIO, List, Optional
+from typing import BinaryIO, List, Optional, Union
 
 from . import _program
 from ._formats import Fault, Log, Missing
@@ -60,7 +61,8 @@ def _run(words: List[str]) -> int:
     unnamed = {at for at, source in logs.items() if source is not None and not _program.is_text(words[at])}
     pipes = {at for at, source in logs.items() if _program.is_named_pipe(words[at], source)}
     is_given = _program.reads_standard_input(words) and _program.is_other(_program.STANDARD_INPUT)
-    if not (others or unnamed or pipes or is_given) or (logs and not _program.is_command(program, words[0])):
+    is_read_here = bool(others or unnamed or pipes or is_given) and not _program.are_one_pipe(logs.values())
+    if not is_read_here or (logs and not _program.is_command(program, words[0])):
         # Python ignores this signal, and the program would, too.
         signal.signal(signal.SIGPIPE, signal.SIG_DFL)
         os.execv(program, ["udsnorm", *words])
@@ -92,18 +94,17 @@ def _convert(words: List[str]) -> int:
     """Writes the candump log of a file."""
     if words in (["-h"], ["--help"]):
         return _say(f"{__doc__}")
-    if len(words) not in (1, 2) or (words[0].startswith("-") and words[0] != "-"):
+    if len(words) not in (1, 2) or any(word.startswith("-") and word != "-" for word in words):
         _program.tell("usage", "python3 -m udsnorm convert FILE [LOG]")
         return _WRONG_WORDS
+    source: Union[str, int] = _program.STANDARD_INPUT if words[0] == "-" else words[0]
+    target: Union[str, int] = _program.STANDARD_OUTPUT if words[1:] in ([], ["-"]) else words[1]
     try:
-        with Log(_program.STANDARD_INPUT if words[0] == "-" else words[0]) as log:
-            if log.is_read_from(words[1] if len(words) == 2 else _program.STANDARD_OUTPUT):
+        with Log(source) as log:
+            if log.is_read_from(target):
                 _program.tell(words[-1], "this is the file that is read")
                 return _WRONG_WORDS
-            if len(words) == 1:
-                with open(_program.STANDARD_OUTPUT, "wb", closefd=False) as out:
-                    return _write(log, out)
-            with open(words[1], "wb") as out:
+            with open(target, "wb", closefd=isinstance(target, str)) as out:
                 return _write(log, out)
     except BrokenPipeError:
         return _program.FAILED_DEVICE

@@ -14,7 +14,7 @@ import subprocess
 import sys
 import threading
 from pathlib import Path
-from typing import IO, Dict, List, Optional, Sequence, Union
+from typing import IO, Dict, Iterable, List, Optional, Sequence, Union
 
 from ._formats import HEAD, Fault, Log, decides, is_for_the_program, shown
 
@@ -31,7 +31,7 @@ _LARGEST_LIMIT = 1 << 40
 _PAUSE = 20
 # No name of a file has more bytes.
 _LONGEST_NAME = 255
-# Behind the mark of a folder: a log lies aside of another one.
+# Behind the mark of a folder, as in `MARK_/run.blf`: a log lies aside of another one of that path.
 _ASIDE = "_/"
 # What Python has in a word for a byte that is no sign of UTF-8.
 _SURROGATE = re.compile("[\udc80-\udcff]")
@@ -96,6 +96,12 @@ def source_of(word: str) -> Optional[Source]:
 def is_named_pipe(word: str, source: Optional[Source]) -> bool:
     """A log comes from a pipe that lies in a folder. Whoever opens it once more waits for another writer."""
     return isinstance(source, int) and os.path.exists(os.path.realpath(word))
+
+
+def are_one_pipe(sources: Iterable[Optional[Source]]) -> bool:
+    """Two logs come from one pipe, which the program refuses."""
+    pipes = [os.fstat(source) for source in sources if isinstance(source, int)]
+    return len({(pipe.st_dev, pipe.st_ino) for pipe in pipes}) < len(pipes)
 
 
 def _handed_on(number: int) -> str:
@@ -163,8 +169,8 @@ def _in_pipe(number: int) -> bytes:
 
 def is_command(program: str, word: str) -> bool:
     """The program has this command."""
-    found = subprocess.run([program, word, "--help"], stdout=subprocess.DEVNULL, stderr=subprocess.DEVNULL, check=False)
-    return found.returncode == 0
+    helped = subprocess.run([program, word, "--help"], stdout=subprocess.DEVNULL, stderr=subprocess.DEVNULL, check=False)
+    return helped.returncode == 0
 
 
 def limit_of(program: str, words: Sequence[str]) -> int:
@@ -181,7 +187,7 @@ class Folder:
     hints show that, and ends just behind the limit, so that the program refuses it there."""
 
     def __init__(self, root: str, limit: int = _LARGEST_LIMIT) -> None:
-        self._root, self._limit = Path(root), limit
+        self._root, self._limit = Path(os.path.abspath(root)), limit
         self._sources: Dict[Path, str] = {}
         # Stands in a path where that would lead out of the folder, or to another log, and is taken from what the program
         # tells. No log has it in its name.

@@ -44,7 +44,11 @@ def frames_of_file(path: Optional[str], reader: str, tally: Tally) -> Iterator[F
 
 def _imported(module: str) -> Any:
     try:
-        return importlib.import_module(module)
+        found = importlib.import_module(module)
+        # What else has this name where the command runs is no library.
+        if not hasattr(found, "__version__"):
+            raise ImportError
+        return found
     except Exception:
         # Also one that is installed may be broken.
         debian = f"apt install {_DEBIAN[module]}" if module in _DEBIAN else "Debian has no package"
