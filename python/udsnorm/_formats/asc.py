@@ -188,7 +188,7 @@ def _is_shifted(behind: List[str]) -> bool:
     if len(behind) > _MOST_BEHIND or (behind and _NO_DURATION.fullmatch(behind[0])):
         return True
     duration, bits, third, fourth = (int(word) if _NUMBER.fullmatch(word) else 0 for word in [*behind, "", "", "", ""][:4])
-    # A tool that knows one of the two not has 0 there.
+    # A tool that doesn't know one of the two writes 0 there.
     if bits > _MOST_BITS or (0 < duration < 256 and behind[1:2] == ["0"]):
         return True
     return 0 < max(duration, bits) < 256 and third > _MOST_BITS >= fourth > 0
