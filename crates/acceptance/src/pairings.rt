@@ -8,7 +8,9 @@ use direction::Dir::{self, Tester, Unit};
 use std::alloc::{AllocError, Global};
 use std::process::Abort;
 use std::test::Fail;
-use uds_exchange::{Decider, Item, ItemSink, Meaning, MessageSink, OrderFault, Orderer, Pairing};
+use uds_exchange::{
+    Decider, Item, ItemSink, Judge, Meaning, MessageSink, OrderFault, Orderer, Pairing,
+};
 
 /// Lists of messages, and the items that they mean.
 const MEANINGS: &str = "\
@@ -263,12 +265,13 @@ fn what_has_taken_messages_is_shown_by_them(rt: HostRuntime) -> Result<(), Fail>
         let mut pairing = Pairing::new(alloc);
         let mut orderer = Orderer::new(alloc);
         let mut decider = Decider::new(alloc);
+        let mut judge = Judge::new();
         for line in lines_of(row) {
             if let Some(message) = line.strip_prefix("message ") {
                 let (dir, bytes) = message_spelled(alloc, message)?;
                 pairing.take(dir, &bytes)?;
                 orderer.take(dir, &bytes, &mut Recorder::new(alloc, 10))?;
-                decider.take(dir, &bytes, &mut Unheard)?;
+                decider.take(judge.take(dir, &bytes), &mut Unheard)?;
             }
         }
         assert_text(

@@ -12,7 +12,9 @@ use trace_io::{Reading, Writing};
 use trace_log::{CompareFault, Config, Fault};
 use trace_report::PairTitle;
 use trace_text::{ItemStyle, Notation, Numbering};
-use uds_exchange::{Decider, Item, ItemSink, Meaning, MessageSink, OrderFault, Orderer, Pairing};
+use uds_exchange::{
+    Decider, Item, ItemSink, Judge, Meaning, MessageSink, OrderFault, Orderer, Pairing,
+};
 
 /// How often a call was made until it answered: again, where it was refused memory.
 #[derive(Clone, Copy)]
@@ -135,15 +137,17 @@ fn decider_take(rt: HostRuntime) -> Result<(), Fail> {
 /// Decides the items of the session. A message that was refused memory is taken again.
 fn decided(alloc: Global, session: Session) -> Result<Made, Fail> {
     let mut decider = Decider::new(alloc);
+    let mut judge = Judge::new();
     let mut sink = AsItems {
         messages: InOrder::new(session.ordered),
         are_next: true,
     };
     let mut made = Made::Once;
     for (dir, message) in session.messages {
-        if decider.take(*dir, message, &mut sink).is_err() {
+        let judged = judge.take(*dir, message);
+        if decider.take(judged, &mut sink).is_err() {
             made = Made::Again;
-            decider.take(*dir, message, &mut sink)?;
+            decider.take(judged, &mut sink)?;
         }
     }
     decider.finish(&mut sink);

@@ -5,10 +5,13 @@ use Rattle.direction.specs.Dir.{Message}
 use Rattle.direction.specs.declared.Dir.{Dir}
 use Rattle.isotp_receive.specs.declared.TheConstants.{MESSAGE_LIMIT}
 use Rattle.isotp_receive.specs.Trace.{Entry}
-use Rattle.isotp_receive.specs.Verdict.{EventValue, message as message_of, messages, told_message, verdict}
+use Rattle.isotp_receive.specs.Verdict.{EventValue, messages, told_message, verdict}
 use Rattle.isotp_segment.specs.Timed.{all_frames}
 use Rattle.uds_exchange.specs.Order.{early}
-use Rattle.uds_exchange.specs.Orderer.{IsHeld, OrdererValue, stands_after}
+use Rattle.uds_exchange.specs.Numbering.{sent}
+use Rattle.uds_exchange.specs.declared.judge.Judged.{Judged}
+use Rattle.trace_run.proofs.Promises.{CompletesJudged}
+use Rattle.uds_exchange.specs.Orderer.{IsHeld, JudgedOrdererValue, orders_after}
 use Rattle.trace_canon.specs.Keeping.{CompletesMessage, CompletesHeld}
 use Rattle.trace_canon.specs.CanonicalScript.{place_behind, lines_due, StandsCanonical}
 use Rattle.trace_canon.specs.proving.Saying.{SaysDue}
@@ -24,20 +27,18 @@ messages_next T e d event dir_is is =
     sym (ap (λ v. messages MESSAGE_LIMIT T ++ told_message d v) (ap (λ (x : EventValue). x.verdict) is)
     ∙ ap (λ x. messages MESSAGE_LIMIT T ++ told_message x (verdict MESSAGE_LIMIT T e).verdict) (sym dir_is) ∙ sym (messages_more MESSAGE_LIMIT T e))
 
--- a frame that completes a message which is held
-pub completes_message : (T : List Entry) (e : Entry) (event : EventValue) (bytes : List ℕ) → event ≡ verdict MESSAGE_LIMIT T e → event.verdict ≡ message_of bytes
-    → CompletesMessage MESSAGE_LIMIT T e
-completes_message T e event bytes is told = (bytes, sym (ap (λ (x : EventValue). x.verdict) is) ∙ told)
+-- a frame that completes a message, and one which is held
+pub completes_message : (T : List Entry) (e : Entry) (judged : Judged) → CompletesJudged T e judged → CompletesMessage MESSAGE_LIMIT T e
+completes_message T e judged completes = (judged.bytes.now, completes.did)
 
-pub completes_held : (T : List Entry) (e : Entry) (d : Dir) (event : EventValue) (bytes : List ℕ) → e.dir ≡ d → event ≡ verdict MESSAGE_LIMIT T e → event.verdict ≡ message_of bytes
-    → IsHeld (messages MESSAGE_LIMIT T) (d, bytes) → CompletesHeld MESSAGE_LIMIT T e
-completes_held T e d event bytes dir_is is told held =
-    (bytes, sym (ap (λ (x : EventValue). x.verdict) is) ∙ told, subst (λ x. IsHeld (messages MESSAGE_LIMIT T) (x, bytes)) (sym dir_is) held)
+pub completes_held : (T : List Entry) (e : Entry) (judged : Judged) → CompletesJudged T e judged → IsHeld (messages MESSAGE_LIMIT T) (sent judged) → CompletesHeld MESSAGE_LIMIT T e
+completes_held T e judged completes held =
+    (judged.bytes.now, completes.did, subst (λ d. IsHeld (messages MESSAGE_LIMIT T) (d, judged.bytes.now)) (sym completes.dir) held)
 
 -- a message: what is due with it was said
 pub says_next : {S : Type 0} (says : S → List ℕ → S → Type 0) (settings config : Settings) (T : List Entry) (e : Entry) (message : Message)
-    (orderer orderer_now : OrdererValue) (place place_now : Place) (out out_now : S) → messages MESSAGE_LIMIT (T ++ e ∷ []) ≡ messages MESSAGE_LIMIT T ++ message ∷ []
-    → StandsCanonical settings T orderer config place → orderer_now ≡ stands_after (messages MESSAGE_LIMIT T ++ message ∷ [])
+    (orderer orderer_now : JudgedOrdererValue) (place place_now : Place) (out out_now : S) → messages MESSAGE_LIMIT (T ++ e ∷ []) ≡ messages MESSAGE_LIMIT T ++ message ∷ []
+    → StandsCanonical settings T orderer config place → orderer_now ≡ orders_after (messages MESSAGE_LIMIT T ++ message ∷ [])
     → SaysDue says config (messages MESSAGE_LIMIT T) message place out place_now out_now
     → StandsCanonical settings (T ++ e ∷ []) orderer_now config place_now
     × says out (lines_due settings (messages MESSAGE_LIMIT T) (messages MESSAGE_LIMIT (T ++ e ∷ []))) out_now
@@ -48,7 +49,7 @@ says_next says settings config T e message orderer orderer_now place place_now o
     let same = stood.same in
     let stood_at = stood.at in (
       record {
-        ordered = ordered ∙ ap stands_after (sym next);
+        ordered = ordered ∙ ap orders_after (sym next);
         same = same;
         at = at ∙ ap (λ c. place_after c place (all_frames MESSAGE_LIMIT due)) same ∙ ap (λ p. place_after settings p (all_frames MESSAGE_LIMIT due)) stood_at
             ∙ sym (place_append settings (start_of settings.max_bytes) (all_frames MESSAGE_LIMIT (early M)) (all_frames MESSAGE_LIMIT due))
@@ -61,16 +62,16 @@ says_next says settings config T e message orderer orderer_now place place_now o
 
 -- no message: nothing is
 pub says_nothing_more : {S : Type 0} (says : S → List ℕ → S → Type 0) (nothing : (s : S) → says s [] s) (settings config : Settings) (T : List Entry) (e : Entry)
-    (orderer : OrdererValue) (place : Place) (out : S) → messages MESSAGE_LIMIT (T ++ e ∷ []) ≡ messages MESSAGE_LIMIT T ++ []
+    (orderer : JudgedOrdererValue) (place : Place) (out : S) → messages MESSAGE_LIMIT (T ++ e ∷ []) ≡ messages MESSAGE_LIMIT T
     → StandsCanonical settings T orderer config place
     → StandsCanonical settings (T ++ e ∷ []) orderer config place
     × says out (lines_due settings (messages MESSAGE_LIMIT T) (messages MESSAGE_LIMIT (T ++ e ∷ []))) out
 says_nothing_more says nothing settings config T e orderer place out next stood =
     let M = messages MESSAGE_LIMIT T in
-    let same : messages MESSAGE_LIMIT (T ++ e ∷ []) ≡ M = next ∙ append-nil M in
+    let same : messages MESSAGE_LIMIT (T ++ e ∷ []) ≡ M = next in
     let none : drop (length (early M)) (early (messages MESSAGE_LIMIT (T ++ e ∷ []))) ≡ [] =
     ap (λ x. drop (length (early M)) (early x)) same ∙ ap (drop (length (early M))) (sym (append-nil (early M))) ∙ drop-append_seam (early M) [] in (
-      record { ordered = stood.ordered ∙ ap stands_after (sym same); same = stood.same; at = stood.at ∙ ap (λ x. place_behind settings (early x)) (sym same) },
+      record { ordered = stood.ordered ∙ ap orders_after (sym same); same = stood.same; at = stood.at ∙ ap (λ x. place_behind settings (early x)) (sym same) },
       subst (λ text. says out text out)
           (sym (ap (λ x. text_from settings (place_behind settings (early M)) (all_frames MESSAGE_LIMIT x)) none ∙ text_none settings (place_behind settings (early M)))) (nothing out),
     )

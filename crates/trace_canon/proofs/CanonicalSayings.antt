@@ -7,8 +7,8 @@ use Rattle.isotp_segment.specs.CanonicalFrames.{canonical_frames}
 use Rattle.isotp_segment.specs.Timed.{all_frames}
 use Rattle.uds_exchange.specs.Orderer.{StopsHeld, StopsDue}
 use Rattle.uds_exchange.specs.Sink.{AfterOk, Puts}
-use Rattle.uds_exchange.specs.declared.orderer.OrderFault.{OrderFault}
-use Rattle.uds_exchange.specs.declared.orderer.OrderFault.TheVariants as order_fault
+use Rattle.uds_exchange.specs.declared.order_fault.OrderFault.{OrderFault}
+use Rattle.uds_exchange.specs.declared.order_fault.OrderFault.TheVariants as order_fault
 use Rattle.trace_canon.specs.proving.Writing.{text_from, place_after}
 use Rattle.trace_canon.specs.declared.canonical_sink.CanonicalSink.{CanonicalSink}
 use Rattle.trace_canon.proofs.CanonicalWriting.{text_none, place_none, text_append, place_append}

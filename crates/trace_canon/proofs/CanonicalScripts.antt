@@ -13,7 +13,7 @@ use Rattle.isotp_receive.specs.Trace.{Entry}
 use Rattle.isotp_receive.specs.Verdict.{messages, told_message, verdict}
 use Rattle.isotp_segment.specs.Timed.{all_frames}
 use Rattle.uds_exchange.specs.Order.{early, held}
-use Rattle.uds_exchange.specs.Orderer.{OrdererValue}
+use Rattle.uds_exchange.specs.Orderer.{JudgedOrdererValue}
 use Rattle.uds_exchange.specs.Meaning.{meaning, flattened}
 use Rattle.uds_exchange.proofs.Promises.{early_grows, early_then_held}
 use Rattle.trace_canon.specs.CanonicalScript.{StandsCanonical, is_too_long, answers_canonical, CanonicalTellsTheSame, canonical_script, place_behind, lines_due, text_of_early, CanonicalTellsEarly}
@@ -81,7 +81,7 @@ place_at_end settings M =
     ∙ ap (place_after settings begin) (sym (all_frames-append MESSAGE_LIMIT (early M) (held M))) ∙ ap (place_behind settings) (early_then_held M)
 
 -- a line did not fit
-pub over_at_end : (settings config : Settings) (T : List Entry) (orderer : OrdererValue) (place after : Place) → StandsCanonical settings T orderer config place
+pub over_at_end : (settings config : Settings) (T : List Entry) (orderer : JudgedOrdererValue) (place after : Place) → StandsCanonical settings T orderer config place
     → after ≡ place_after config place (all_frames MESSAGE_LIMIT (held (messages MESSAGE_LIMIT T))) → after.is_over ≡ is_too_long settings T
 over_at_end settings config T orderer place after stands at =
     let frames = all_frames MESSAGE_LIMIT (held (messages MESSAGE_LIMIT T)) in

@@ -1,5 +1,5 @@
 -- What a machine that places messages keeps and says of one more frame.
-use Rattle.std.proofs.Common.{◌≡◌, ℕ, List, [], ◌∷◌, ◌++◌, refl, ap, sym, subst, ◌∙◌, codes}
+use Rattle.std.proofs.Common.{◌≡◌, ℕ, None, List, [], ◌∷◌, ◌++◌, refl, ap, sym, subst, ◌∙◌, codes}
 use Rattle.std.specs.Fmt.{decimal}
 use Rattle.can_log.specs.Frame.{FrameValue}
 use Rattle.direction.specs.Dir.{Message}
@@ -7,12 +7,17 @@ use Rattle.direction.specs.declared.Dir.{Dir}
 use Rattle.direction.specs.declared.Dir.TheVariants.{Tester, Unit}
 use Rattle.isotp_receive.specs.declared.TheConstants.{MESSAGE_LIMIT}
 use Rattle.isotp_receive.specs.Trace.{Entry}
-use Rattle.isotp_receive.specs.Verdict.{EventValue, message, messages, verdict}
+use Rattle.isotp_receive.specs.Verdict.{EventValue, VerdictValue, message, began, stored, flowed, dropped, messages, told_message, verdict}
+use Rattle.isotp_receive.specs.EventSeen.{seen_event}
+use Rattle.uds_exchange.specs.declared.judge.Judged.{Judged}
+use Rattle.trace_run.specs.Seen.{IsSeen}
+use Rattle.trace_run.specs.declared.machine.Seen.{Seen}
+use Rattle.trace_run.proofs.Promises.{CompletesJudged, tells_no_message}
 use Rattle.uds_exchange.specs.Numbering.{step_after, number_after}
 use Rattle.uds_exchange.specs.declared.step.Step.{Step}
 use Rattle.trace_canon.specs.proving.Begun.{IsBegunAt}
 use Rattle.trace_canon.specs.Begun.{begun_after, began_at}
-use Rattle.trace_canon.specs.MessageLines.{PlacedMessage, place_of, stamp_text, first_frame, placed_members, placed_text, placed_behind, delivered_line}
+use Rattle.trace_canon.specs.MessageLines.{PlacedMessage, judged_at, place_of, stamp_text, first_frame, placed_members, placed_text, placed_behind, delivered_line}
 use Rattle.trace_text.specs.Words.{role_text}
 use Rattle.trace_text.specs.Json.{object_line}
 use Rattle.trace_text.specs.Words.{bytes_text, direction_text}
@@ -85,6 +90,34 @@ module _ (T : List Entry) (e : Entry) (line micros : ℕ) (d : Dir) (event : Eve
       (λ i. placed_text (same i) (placed_at (number_is i) (step_is i) (d, whole) (first_is i) (here_at (sym line_is i) (sym micros_is i)))) in
       words ∙ ap (λ x. placed_text notation (placed_behind (messages MESSAGE_LIMIT T) (x, whole) (first_frame T e) e)) (sym dir_is)
       ∙ ap (delivered_line notation MESSAGE_LIMIT T e) (sym told)
+
+-- so it is of what a machine was handed
+pub judged_said : (T : List Entry) (e : Entry) (seen : Seen) (judged : Judged) → IsSeen T e seen → CompletesJudged T e judged
+    → (begun : Begun) → IsBegunAt Tester T begun.tester → IsBegunAt Unit T begun.unit → (notation kept : Notation) (first : FramePlace) → kept ≡ notation
+    → (seen.dir ≡ Tester → first ≡ began_at seen.dir (seen_event seen.event) (here_at seen.line seen.micros) begun.tester)
+    → (seen.dir ≡ Unit → first ≡ began_at seen.dir (seen_event seen.event) (here_at seen.line seen.micros) begun.unit)
+    → placed_text kept (judged_at judged first (here_at seen.line seen.micros)) ≡ delivered_line notation MESSAGE_LIMIT T e (verdict MESSAGE_LIMIT T e).verdict
+judged_said T e seen judged is completes begun tester unit notation kept first same of_tester of_unit =
+    let at = is.event in
+    let event = seen_event seen.event in
+    let here = here_at seen.line seen.micros in
+    let side : seen.dir ≡ judged.dir = sym at.dir ∙ completes.dir in
+    line_said T e seen.line seen.micros judged.dir event at.line at.micros completes.dir at.did begun tester unit notation kept judged.bytes.now judged.item judged.step first same
+    (ap (λ (x : EventValue). x.verdict) at.did ∙ completes.did) completes.item completes.step
+    (λ is_tester. of_tester (side ∙ is_tester) ∙ ap (λ d. began_at d event here begun.tester) side)
+    (λ is_unit. of_unit (side ∙ is_unit) ∙ ap (λ d. began_at d event here begun.unit) side)
+
+-- of a frame that completed no message nothing is said
+silent_line : (notation : Notation) (T : List Entry) (e : Entry) (d : Dir) (did : VerdictValue) → told_message d did ≡ [] → delivered_line notation MESSAGE_LIMIT T e did ≡ []
+silent_line notation T e d (message bytes) none = cc none
+silent_line notation T e d began none = refl
+silent_line notation T e d stored none = refl
+silent_line notation T e d flowed none = refl
+silent_line notation T e d (dropped reason) none = refl
+
+pub nothing_said : (notation : Notation) (T : List Entry) (e : Entry) (seen : Seen) → IsSeen T e seen → seen.message ≡ None
+    → delivered_line notation MESSAGE_LIMIT T e (verdict MESSAGE_LIMIT T e).verdict ≡ []
+nothing_said notation T e seen is none = silent_line notation T e e.dir (verdict MESSAGE_LIMIT T e).verdict (tells_no_message T e seen is none)
 
 -- the parts of the object of a message
 abbrev object_parts_of : ℕ → List ℕ → List ℕ → List ℕ → FramePlace → FramePlace → List ℕ

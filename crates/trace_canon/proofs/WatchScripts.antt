@@ -3,28 +3,29 @@ use Rattle.std.proofs.Common.{◌≡◌, ℕ, ◌+◌, ◌^◌, ◌<◌, ◌≤�
 use Rattle.std.proofs.Math.Seq.{drop-append_seam}
 use Rattle.std.specs.Prelude.{OnOk}
 use Rattle.direction.specs.Dir.{Message}
-use Rattle.direction.specs.declared.Dir.{Dir}
 use Rattle.isotp_receive.specs.declared.TheConstants.{MESSAGE_LIMIT}
 use Rattle.isotp_receive.specs.Trace.{Entry}
-use Rattle.isotp_receive.specs.Verdict.{EventValue, message as message_of, messages, told_message, verdict}
+use Rattle.isotp_receive.specs.Verdict.{messages, told_message, verdict}
 use Rattle.isotp_receive.proofs.Promises.{messages_are_few}
 use Rattle.uds_exchange.specs.Decided.{decided, undecided}
 use Rattle.uds_exchange.specs.Decider.{DeciderValue, decides_after, IsKept}
 use Rattle.uds_exchange.specs.ItemSink.{PutsItems}
 use Rattle.uds_exchange.specs.Meaning.{ItemValue, meaning}
-use Rattle.uds_exchange.specs.Numbering.{one_more}
+use Rattle.uds_exchange.specs.Numbering.{one_more, sent}
+use Rattle.uds_exchange.specs.declared.judge.Judged.{Judged}
+use Rattle.trace_run.proofs.Promises.{CompletesJudged}
 use Rattle.uds_exchange.proofs.Promises.{decided_grows, decided_then_undecided, items_are_few, none_is_lost}
 use Rattle.trace_text.specs.ListText.{item_line, list_text, list_text_from}
 use Rattle.trace_log.specs.Messages.{meaning_of_lines}
 use Rattle.trace_canon.specs.Keeping.{CompletesKept}
 use Rattle.trace_log.specs.Settings.{Settings}
 use Rattle.trace_log.specs.Summing.{summary_of}
-use Rattle.trace_run.specs.Told.{AnswersTold, answers_counts, told_after, told}
+use Rattle.trace_run.specs.Told.{AnswersTold, answers_counts, told_after}
 use Rattle.trace_log.specs.Trace.{trace}
 use Rattle.trace_canon.specs.WatchScript.{decided_of, decided_by, text_behind, watching_script, WatchTellsDecided, WatchTellsTheList, WritesTheList}
 use Rattle.trace_canon.specs.proving.Watching.{SaysLines, SaysDecided, WatchesItems}
 use Rattle.trace_log.specs.declared.fault.Fault.{Fault}
-use Rattle.trace_text.specs.declared.item_lines.ItemStyle.{ItemStyle}
+use Rattle.trace_text.specs.declared.item_style.ItemStyle.{ItemStyle}
 use Rattle.trace_log.specs.declared.summary.Summary.{Summary}
 use Rattle.trace_canon.specs.declared.watcher.LineSink.{LineSink}
 use Rattle.trace_text.proofs.Promises.{lines-append}
@@ -82,10 +83,9 @@ few_items T =
     omega arith
 
 -- a frame that completes a message which is kept
-pub completes_kept : (T : List Entry) (e : Entry) (d : Dir) (event : EventValue) (bytes : List ℕ) → e.dir ≡ d → event ≡ verdict MESSAGE_LIMIT T e → event.verdict ≡ message_of bytes
-    → IsKept (messages MESSAGE_LIMIT T) (d, bytes) → CompletesKept MESSAGE_LIMIT T e
-completes_kept T e d event bytes dir_is is told kept =
-    (bytes, sym (ap (λ (x : EventValue). x.verdict) is) ∙ told, subst (λ x. IsKept (messages MESSAGE_LIMIT T) (x, bytes)) (sym dir_is) kept)
+pub completes_kept : (T : List Entry) (e : Entry) (judged : Judged) → CompletesJudged T e judged → IsKept (messages MESSAGE_LIMIT T) (sent judged) → CompletesKept MESSAGE_LIMIT T e
+completes_kept T e judged completes kept =
+    (judged.bytes.now, completes.did, subst (λ d. IsKept (messages MESSAGE_LIMIT T) (d, judged.bytes.now)) (sym completes.dir) kept)
 
 module _ {S : Type 0} (says : S → List ℕ → S → Type 0) (style kept : ItemStyle) (T : List Entry) where
   -- a message: the lines of what it decides were said
@@ -109,11 +109,11 @@ module _ {S : Type 0} (says : S → List ℕ → S → Type 0) (style kept : Ite
 
   -- no message: nothing is
   pub watches_on : (nothing : (s : S) → says s [] s) (e : Entry) (decider : DeciderValue) (number : ℕ) (out : S) → length T < 2 ^ 62
-      → messages MESSAGE_LIMIT (T ++ e ∷ []) ≡ messages MESSAGE_LIMIT T ++ [] → WatchesItems style T decider kept number
+      → messages MESSAGE_LIMIT (T ++ e ∷ []) ≡ messages MESSAGE_LIMIT T → WatchesItems style T decider kept number
       → WatchesItems style (T ++ e ∷ []) decider kept number × says out (text_behind style T (decided_by T e)) out
   watches_on nothing e decider number out few next stood =
       let before = decided_of T in
-      let same : messages MESSAGE_LIMIT (T ++ e ∷ []) ≡ messages MESSAGE_LIMIT T = next ∙ append-nil (messages MESSAGE_LIMIT T) in
+      let same : messages MESSAGE_LIMIT (T ++ e ∷ []) ≡ messages MESSAGE_LIMIT T = next in
       let none : decided_by T e ≡ [] = ap (λ M. drop (length before) (decided M)) same ∙ ap (drop (length before)) (sym (append-nil before)) ∙ drop-append_seam before [] in
       let frames = length-append T (e ∷ []) in (
         record {

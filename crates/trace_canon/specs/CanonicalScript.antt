@@ -6,7 +6,7 @@ use Rattle.isotp_receive.specs.Trace.{Entry}
 use Rattle.isotp_receive.specs.Verdict.{messages}
 use Rattle.isotp_segment.specs.Timed.{all_frames}
 use Rattle.uds_exchange.specs.Order.{early, held}
-use Rattle.uds_exchange.specs.Orderer.{OrdererValue, stands_after}
+use Rattle.uds_exchange.specs.Orderer.{JudgedOrdererValue, orders_after}
 use Rattle.trace_log.specs.Settings.{Settings}
 use Rattle.trace_run.specs.Told.{Script, Answering, AnswersTold, told, TellsEagerly}
 use Rattle.trace_log.specs.Answers.{Answers}
@@ -35,8 +35,8 @@ canonical_script settings = record {
 }
 
 -- The orderer stands after the messages of the trace, and the text after those that are early.
-pub record StandsCanonical (settings : Settings) (T : List Entry) (orderer : OrdererValue) (config : Settings) (place : Place) : Type 0 where
-  pub ordered : orderer ≡ stands_after (messages MESSAGE_LIMIT T)
+pub record StandsCanonical (settings : Settings) (T : List Entry) (orderer : JudgedOrdererValue) (config : Settings) (place : Place) : Type 0 where
+  pub ordered : orderer ≡ orders_after (messages MESSAGE_LIMIT T)
   pub same : config ≡ settings
   pub at : place ≡ place_behind settings (early (messages MESSAGE_LIMIT T))
 

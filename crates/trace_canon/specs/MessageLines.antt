@@ -7,7 +7,8 @@ use Rattle.direction.specs.Dir.{Message}
 use Rattle.direction.specs.declared.Dir.{Dir}
 use Rattle.isotp_receive.specs.Trace.{Entry, FrameRole, single, first, consecutive, continue_or_wait, overflow, no_part, role}
 use Rattle.isotp_receive.specs.Verdict.{VerdictValue, message, began, stored, flowed, dropped, messages, verdict}
-use Rattle.uds_exchange.specs.Numbering.{step_after, number_after}
+use Rattle.uds_exchange.specs.Numbering.{sent, step_after, number_after}
+use Rattle.uds_exchange.specs.declared.judge.Judged.{Judged}
 use Rattle.uds_exchange.specs.declared.step.Step.{Step}
 use Rattle.trace_text.specs.Json.{Members, nothing, member, object_line}
 use Rattle.trace_text.specs.Json as json
@@ -40,6 +41,10 @@ pub record PlacedMessage : Type 0 where
   -- where its first frame stands, and its last one
   pub start : FramePlace
   pub end : FramePlace
+
+-- a message that was judged, from its first frame to its last one
+abbrev pub judged_at : Judged → FramePlace → FramePlace → PlacedMessage
+judged_at judged start end = record { number = judged.item; step = judged.step; sent = sent judged; start = start; end = end }
 
 -- its line in words
 abbrev pub placed_line : PlacedMessage → List ℕ

@@ -7,8 +7,9 @@ ghost use Rattle.direction.specs.declared.Dir.{Dir as DirValue};
 ghost use Rattle.isotp_receive.specs.declared.TheConstants.{MESSAGE_LIMIT};
 ghost use Rattle.isotp_segment.specs.CanonicalFrames.{IsFullNext, canonical_frames};
 ghost use Rattle.isotp_segment.specs.Timed.{all_frames};
+ghost use Rattle.uds_exchange.specs.Numbering.{IsJudgedAfter, sent};
 ghost use Rattle.uds_exchange.specs.Order.{held as held_after};
-ghost use Rattle.uds_exchange.specs.Orderer.{IsHeld, stands_after};
+ghost use Rattle.uds_exchange.specs.Orderer.{IsHeld, orders_after};
 ghost use Rattle.trace_log.specs.Settings.{id_of};
 ghost use Rattle.trace_canon.specs.proving.Saying.{SaysDue, SaysFront};
 ghost use Rattle.trace_canon.specs.proving.Writing.{filled_up, text_from, place_after};
@@ -24,14 +25,10 @@ use isotp_segment::{SINGLE_LIMIT, Segments, single_frame};
 use std::alloc::AllocError;
 use trace_io::TextSink;
 use trace_log::Config;
-use uds_exchange::{MessageSink, OrderFault, Orderer};
+use uds_exchange::{Judged, JudgedOrderer, MessageSink, NoFault, OrderFault};
 
 /// How many bytes a canonical line has beside what its identifier gives.
 const NAMELESS: usize = BASE_LINE - BASE_NAME;
-
-/// No fault: a text sink takes all that is said.
-#[derive(Clone, Copy, Debug)]
-pub(crate) struct NoFault;
 
 /// Says the canonical lines of each message that is put, as far as they are within the limit.
 #[derive(Drop)]
@@ -182,8 +179,8 @@ fn lasting_extended_name(number: u32) -> [u8; EXTENDED_NAME]
 }
 
 /// The same by the name of the sender, beside which time and data alone differ from frame to frame. The three are said as they
-/// lie: none is put together first, so that no load waits for several stores. The frames are moved in and out, so that none of
-/// their parts has to lie in memory meanwhile.
+/// lie: none is put together first, which would end in a covering load. The frames are moved in and out, so that none of their
+/// parts has to lie in memory meanwhile.
 #[inline(always)]
 fn say_stretch<'a, S: TextSink, const NAME: usize>(
     out: &mut S,
@@ -212,25 +209,24 @@ fn say_stretch<'a, S: TextSink, const NAME: usize>(
 
 /// Takes one more message, and says the lines of all whose place is now known.
 pub(crate) fn order_to<S: TextSink>(
-    orderer: &mut Orderer,
+    orderer: &mut JudgedOrderer,
     config: &Config,
     place: &mut Place,
     out: &mut S,
-    dir: Dir,
-    message: &[u8],
+    message: Judged<'_>,
 ) -> Result<(), AllocError>
-    ensures stands { OnOk result ((M : List Message) → orderer.old ≡ stands_after M → orderer.new ≡ stands_after (M ++ (dir, message.now) ∷ [])) }
-    ensures says { OnOk result ((M : List Message) → orderer.old ≡ stands_after M
-        → SaysDue S.says config.now M (dir, message.now) place.old out.old place.new out.new) }
-    ensures held { OnErr result ((M : List Message) → orderer.old ≡ stands_after M → IsHeld M (dir, message.now)) }
-    ensures refused { OnErr result ((M : List Message) → orderer.old ≡ stands_after M → (place.new ≡ place.old) × S.says out.old [] out.new) }
+    ensures stands { OnOk result ((M : List Message) → orderer.old ≡ orders_after M → IsJudgedAfter M message.entry → orderer.new ≡ orders_after (M ++ sent message.entry ∷ [])) }
+    ensures says { OnOk result ((M : List Message) → orderer.old ≡ orders_after M → IsJudgedAfter M message.entry
+        → SaysDue S.says config.now M (sent message.entry) place.old out.old place.new out.new) }
+    ensures held { OnErr result ((M : List Message) → orderer.old ≡ orders_after M → IsJudgedAfter M message.entry → IsHeld M (sent message.entry)) }
+    ensures refused { OnErr result ((M : List Message) → orderer.old ≡ orders_after M → IsJudgedAfter M message.entry → (place.new ≡ place.old) × S.says out.old [] out.new) }
 {
     let mut sink = CanonicalSink {
         out,
         place,
         config: *config,
     };
-    match orderer.take(dir, message, &mut sink) {
+    match orderer.take(message, &mut sink) {
         Ok(()) => Ok(()),
         Err(_fault) => Err(AllocError),
     }
@@ -238,14 +234,14 @@ pub(crate) fn order_to<S: TextSink>(
 
 /// Says the lines of what is held.
 pub(crate) fn finish_to<S: TextSink>(
-    orderer: Orderer,
+    orderer: JudgedOrderer,
     config: &Config,
     place: &mut Place,
     out: &mut S,
 )
-    ensures place { (M : List Message) → orderer ≡ stands_after M
+    ensures place { (M : List Message) → orderer ≡ orders_after M
         → place.new ≡ place_after config.now place.old (all_frames MESSAGE_LIMIT (held_after M)) }
-    ensures says { (M : List Message) → orderer ≡ stands_after M
+    ensures says { (M : List Message) → orderer ≡ orders_after M
         → S.says out.old (text_from config.now place.old (all_frames MESSAGE_LIMIT (held_after M))) out.new }
 {
     let mut sink = CanonicalSink {

@@ -16,12 +16,12 @@ ghost use Rattle.trace_io.specs.Stream.{Agrees};
 
 use crate::length::message_length;
 use direction::Dir;
-use isotp_receive::{Event, Pair, Verdict};
+use isotp_receive::Pair;
 use std::alloc::{AllocError, Global};
 use trace_io::{Source, TextSink};
 use trace_log::{Config, Fault, Summary};
-use trace_run::{Machine, Nowhere, Stop, run};
-use uds_exchange::{Meaning, Pairing, Step};
+use trace_run::{Machine, Nowhere, Seen, Stop, run};
+use uds_exchange::{Judged, JudgedPairing, Meaning, Step};
 
 /// What an accepted log means, and what was counted in it.
 #[derive(Debug, Drop)]
@@ -81,7 +81,7 @@ pub(crate) fn session_of<R: Source>(
 {
     let machine = Collector {
         alloc,
-        pairing: Pairing::new(alloc),
+        pairing: JudgedPairing::new(alloc),
         length: 0,
         config: *config,
     };
@@ -93,38 +93,38 @@ pub(crate) fn session_of<R: Source>(
 pub(crate) struct Collector {
     alloc: Global,
     /// What the messages so far mean, or nothing where its canonical log is too long.
-    pub pairing: Pairing,
+    pub pairing: JudgedPairing,
     /// How long that canonical log is, or a number above the limit.
     pub length: u64,
     pub config: Config,
 }
 
 impl Collector {
-    ghost use Rattle.std.specs.Prelude.{◌≡◌, ◌+◌, ℕ, List, [], ◌∷◌, ◌++◌, OnOk};
+    ghost use Rattle.std.specs.Prelude.{◌≡◌, ◌<◌, ◌+◌, ℕ, List, [], ◌∷◌, ◌++◌, OnOk};
     ghost use Rattle.direction.specs.Dir.{Message};
     ghost use Rattle.uds_exchange.specs.Meaning.{meaning, flattened};
-    ghost use Rattle.uds_exchange.specs.Numbering.{step_after};
+    ghost use Rattle.uds_exchange.specs.Numbering.{IsJudgedAfter, sent};
     ghost use Rattle.trace_log.specs.Settings.{Settings};
     ghost use Rattle.trace_canon.specs.SessionScript.{Collects};
     ghost use Rattle.trace_canon.specs.proving.Measuring.{HaveLengths};
 
     /// Takes one more message, while the canonical log is within the limit.
-    fn take(&mut self, dir: Dir, message: &[u8]) -> Result<(), AllocError>
-        ensures { OnOk result ((settings : Settings) (M : List Message) → Collects settings M self.old.pairing self.old.length self.old.config
-            → Collects settings (M ++ (dir, message.now) ∷ []) self.new.pairing self.new.length self.new.config) }
+    fn take(&mut self, message: Judged<'_>) -> Result<(), AllocError>
+        ensures { OnOk result ((settings : Settings) (M : List Message) → IsJudgedAfter M message.entry → Collects settings M self.old.pairing self.old.length self.old.config
+            → Collects settings (M ++ sent message.entry ∷ []) self.new.pairing self.new.length self.new.config) }
     {
         let limit = self.config.max_bytes();
         if self.length > limit {
+            self.stay_over(message.dir, message.bytes);
             return Ok(());
         }
-        let step = self.pairing.step(dir, message);
-        let length = self.length.saturating_add(self.added(step, dir, message));
+        let length = self.length.saturating_add(self.added(message));
         if length > limit {
-            self.pairing = Pairing::new(self.alloc);
+            self.pairing = JudgedPairing::new(self.alloc);
             self.length = length;
             return Ok(());
         }
-        match self.pairing.take_step(step, dir, message) {
+        match self.pairing.take(message) {
             Ok(()) => {
                 self.length = length;
                 Ok(())
@@ -133,13 +133,20 @@ impl Collector {
         }
     }
 
-    /// By how many bytes one more message, of which this becomes, makes the canonical log longer.
-    fn added(&self, step: Step, dir: Dir, message: &[u8]) -> u64
-        ensures { (M : List Message) (size : ℕ) → self.now.pairing ≡ meaning M → step ≡ step_after M (dir, message.now) → HaveLengths self.now.config (flattened (meaning M)) size
-            → HaveLengths self.now.config (flattened (meaning (M ++ (dir, message.now) ∷ []))) (size + result) }
+    /// One more message leaves the canonical log above the limit. Nothing is done.
+    #[inline(always)]
+    fn stay_over(&self, dir: Dir, bytes: &[u8])
+        ensures { (settings : Settings) (M : List Message) → settings.max_bytes < self.now.length → Collects settings M self.now.pairing self.now.length self.now.config
+            → Collects settings (M ++ (dir, bytes.now) ∷ []) self.now.pairing self.now.length self.now.config }
+    {}
+
+    /// By how many bytes one more message, makes the canonical log longer.
+    fn added(&self, message: Judged<'_>) -> u64
+        ensures { (M : List Message) (size : ℕ) → self.now.pairing ≡ meaning M → IsJudgedAfter M message.entry → HaveLengths self.now.config (flattened (meaning M)) size
+            → HaveLengths self.now.config (flattened (meaning (M ++ sent message.entry ∷ []))) (size + result) }
     {
-        if has_place(step) {
-            message_length(&self.config, dir, message)
+        if has_place(message.step) {
+            message_length(&self.config, message.dir, message.bytes)
         } else {
             0
         }
@@ -178,20 +185,13 @@ impl Machine for Collector {
     }
 
     #[inline(always)]
-    fn event<S: TextSink>(
-        &mut self,
-        _line: u64,
-        _micros: u64,
-        dir: Dir,
-        event: Event<'_>,
-        _out: &mut S,
-    ) -> Result<(), AllocError> {
-        match event.verdict {
-            Verdict::Message(message) => match self.take(dir, message) {
-                Ok(()) => Ok(()),
-                Err(refused) => Err(refused),
-            },
-            Verdict::Began | Verdict::Stored | Verdict::Flow | Verdict::Dropped(_) => Ok(()),
+    fn event<S: TextSink>(&mut self, seen: Seen<'_>, _out: &mut S) -> Result<(), AllocError> {
+        let Some(message) = seen.message else {
+            return Ok(());
+        };
+        match self.take(message) {
+            Ok(()) => Ok(()),
+            Err(refused) => Err(refused),
         }
     }
 

@@ -14,7 +14,7 @@ use isotp_receive::{Ended, Event, Pair, Verdict};
 use std::alloc::{AllocError, Global};
 use trace_io::{Source, Target, TextSink};
 use trace_log::{Config, Fault, Summary};
-use trace_run::{Machine, Stop, run_lenient};
+use trace_run::{Machine, Seen, Stop, run_lenient};
 use trace_text::{Notation, Remark, say_remark};
 
 /// Reads a log and writes a line for each reception that ended without its message and for each frame that was dropped, as
@@ -68,15 +68,8 @@ impl Machine for Explainer {
     }
 
     #[inline(always)]
-    fn event<S: TextSink>(
-        &mut self,
-        line: u64,
-        _micros: u64,
-        dir: Dir,
-        event: Event<'_>,
-        out: &mut S,
-    ) -> Result<(), AllocError> {
-        say_event(self.notation, line, dir, event, out);
+    fn event<S: TextSink>(&mut self, seen: Seen<'_>, out: &mut S) -> Result<(), AllocError> {
+        say_event(self.notation, seen.line, seen.dir, seen.event, out);
         Ok(())
     }
 
@@ -94,7 +87,7 @@ impl Machine for Explainer {
 }
 
 /// Says the lines of a frame, which is in this line and was sent by this side. Laid in line, where it is known of most frames
-/// that they have none: a call would put what the frame did in memory by bytes, and load it by words.
+/// that they have none: a call would end in covering loads of what the frame did.
 #[inline(always)]
 fn say_event<S: TextSink>(notation: Notation, line: u64, dir: Dir, event: Event<'_>, out: &mut S)
     ensures { S.says out.old (event_text notation line dir (seen_event event.entry)) out.new }

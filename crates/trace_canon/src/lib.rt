@@ -55,6 +55,7 @@ mod normaliser;
 mod pair_lines;
 mod place;
 mod placer;
+mod stamp;
 mod watcher;
 
 pub use collector::{Session, meaning_of};

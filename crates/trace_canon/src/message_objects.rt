@@ -1,33 +1,29 @@
 //! The messages of a log, with their places, as objects of JSON.
 ghost use Rattle.trace_text.specs.Json.{object_line};
-ghost use Rattle.trace_canon.specs.MessageLines.{placed_members};
+ghost use Rattle.trace_canon.specs.MessageLines.{judged_at, placed_members};
 
 use crate::begun::FramePlace;
-use crate::placer::say_stamp;
-use direction::Dir;
+use crate::stamp::say_stamp;
 use trace_io::TextSink;
 use trace_text::names::role_name;
 use trace_text::say::{say_bytes, say_direction, say_number, say_text};
-use uds_exchange::Step;
+use uds_exchange::Judged;
 
 /// Says the line of a message, that has its first frame and its last one in these places, as an object.
 pub(crate) fn say_message_object<S: TextSink>(
-    number: u64,
-    step: Step,
-    dir: Dir,
-    message: &[u8],
+    message: Judged<'_>,
     first: FramePlace,
     last: FramePlace,
     out: &mut S,
 )
-    ensures { S.says out.old (object_line (placed_members (record { number = number; step = step; sent = (dir, message.now); start = first; end = last }))) out.new }
+    ensures { S.says out.old (object_line (placed_members (judged_at message.entry first last))) out.new }
 {
     say_text(out, "{\"item\":");
-    say_number(out, number);
+    say_number(out, message.item);
     say_text(out, ",\"role\":\"");
-    say_text(out, role_name(step));
+    say_text(out, role_name(message.step));
     say_text(out, "\",\"direction\":\"");
-    say_direction(out, dir);
+    say_direction(out, message.dir);
     say_text(out, "\",\"first_line\":");
     say_number(out, first.line);
     say_text(out, ",\"last_line\":");
@@ -37,6 +33,6 @@ pub(crate) fn say_message_object<S: TextSink>(
     say_text(out, "\",\"end\":\"");
     say_stamp(out, last.micros);
     say_text(out, "\",\"message\":\"");
-    say_bytes(out, message);
+    say_bytes(out, message.bytes);
     say_text(out, "\"}\n");
 }

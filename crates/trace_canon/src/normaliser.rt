@@ -16,13 +16,12 @@ ghost use Rattle.trace_io.specs.Counted.{IsLowCount, AreLowCounts};
 
 use crate::canonical_sink::{finish_to, order_to};
 use crate::place::Place;
-use direction::Dir;
-use isotp_receive::{Event, Pair, Verdict};
+use isotp_receive::Pair;
 use std::alloc::{AllocError, Global};
 use trace_io::{Source, Target, TextSink};
 use trace_log::{Config, Fault, Summary};
-use trace_run::{Machine, Stop, run};
-use uds_exchange::Orderer;
+use trace_run::{Machine, Seen, Stop, run};
+use uds_exchange::JudgedOrderer;
 
 /// Reads a log and writes the canonical lines of its messages, each as soon as its place is known.
 ///
@@ -72,7 +71,7 @@ pub fn normalise<R: Source, W: Target>(
     ensures wrote { WroteTo W.Target Fault.Write result writer.old writer.new }
 {
     let machine = Canonical {
-        orderer: Orderer::new(alloc),
+        orderer: JudgedOrderer::new(alloc),
         place: Place::start(config),
         config: *config,
     };
@@ -82,7 +81,7 @@ pub fn normalise<R: Source, W: Target>(
 /// Says the canonical lines of the messages, each as soon as its place is known.
 #[derive(Drop)]
 pub(crate) struct Canonical {
-    pub orderer: Orderer,
+    pub orderer: JudgedOrderer,
     pub place: Place,
     pub config: Config,
 }
@@ -108,27 +107,19 @@ impl Machine for Canonical {
     }
 
     #[inline(always)]
-    fn event<S: TextSink>(
-        &mut self,
-        _line: u64,
-        _micros: u64,
-        dir: Dir,
-        event: Event<'_>,
-        out: &mut S,
-    ) -> Result<(), AllocError> {
-        match event.verdict {
-            Verdict::Message(message) => match order_to(
-                &mut self.orderer,
-                &self.config,
-                &mut self.place,
-                out,
-                dir,
-                message,
-            ) {
-                Ok(()) => Ok(()),
-                Err(refused) => Err(refused),
-            },
-            Verdict::Began | Verdict::Stored | Verdict::Flow | Verdict::Dropped(_) => Ok(()),
+    fn event<S: TextSink>(&mut self, seen: Seen<'_>, out: &mut S) -> Result<(), AllocError> {
+        let Some(message) = seen.message else {
+            return Ok(());
+        };
+        match order_to(
+            &mut self.orderer,
+            &self.config,
+            &mut self.place,
+            out,
+            message,
+        ) {
+            Ok(()) => Ok(()),
+            Err(refused) => Err(refused),
         }
     }
 

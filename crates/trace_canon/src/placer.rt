@@ -1,22 +1,22 @@
 //! `messages`: a machine that says each message with its place in the log, as it is delivered.
 ghost use Rattle.std.specs.Prelude.{length};
 ghost use Rattle.isotp_receive.specs.declared.TheConstants.{MESSAGE_LIMIT};
-ghost use Rattle.trace_canon.specs.MessageLines.{extent_text, placed_line, placed_text, placing_script, stamp_text};
+ghost use Rattle.trace_canon.specs.MessageLines.{extent_text, judged_at, placed_line, placed_text, placing_script};
 ghost use Rattle.trace_run.specs.Told.{RanLenient, answers_counts, needs_none};
 ghost use Rattle.trace_io.specs.Counted.{IsLowCount, AreLowCounts};
 
 use crate::begun::{Begun, FramePlace};
 use crate::message_objects::say_message_object;
-use direction::Dir;
-use isotp_receive::{Event, Pair, Verdict};
+use crate::stamp::say_stamp;
+use isotp_receive::Pair;
 use std::alloc::{AllocError, Global};
 use trace_io::{Source, Target, TextSink};
 use trace_log::{Config, Fault, Summary};
-use trace_run::{Machine, Stop, run_lenient};
+use trace_run::{Machine, Seen, Stop, run_lenient};
 use trace_text::Notation;
 use trace_text::names::role_name;
-use trace_text::say::{say_bytes, say_direction, say_number, say_six_decimals, say_text};
-use uds_exchange::{Numbers, Step};
+use trace_text::say::{say_bytes, say_direction, say_number, say_text};
+use uds_exchange::Judged;
 
 /// Reads a log and writes a line for each message that is delivered, as it comes, in words or as an object of JSON: the
 /// number that [`list`](crate::list) gives its item, what it is to that, its direction, the lines and the time stamps of
@@ -38,7 +38,6 @@ pub fn messages<R: Source, W: Target>(
 {
     let machine = Placer {
         notation,
-        numbers: Numbers::new(),
         begun: Begun::start(),
     };
     run_lenient(alloc, config, machine, reader, writer)
@@ -48,7 +47,6 @@ pub fn messages<R: Source, W: Target>(
 #[derive(Drop)]
 pub(crate) struct Placer {
     pub notation: Notation,
-    pub numbers: Numbers,
     pub begun: Begun,
 }
 
@@ -60,7 +58,7 @@ impl Machine for Placer {
 
     type Answer = Summary;
 
-    ghost stands = { λ start T now. PlacesMessages start.notation T now.notation now.numbers now.begun };
+    ghost stands = { λ start T now. PlacesMessages start.notation T now.notation now.begun };
 
     ghost script = { λ start. placing_script start.notation MESSAGE_LIMIT };
 
@@ -74,24 +72,16 @@ impl Machine for Placer {
     }
 
     #[inline(always)]
-    fn event<S: TextSink>(
-        &mut self,
-        line: u64,
-        micros: u64,
-        dir: Dir,
-        event: Event<'_>,
-        out: &mut S,
-    ) -> Result<(), AllocError> {
-        let here = FramePlace { line, micros };
-        let first = self.begun.take(here, dir, event);
-        match event.verdict {
-            Verdict::Message(message) => {
-                let (number, step) = self.numbers.take(dir, message);
-                say_message(self.notation, number, step, dir, message, first, here, out);
-                Ok(())
-            }
-            Verdict::Began | Verdict::Stored | Verdict::Flow | Verdict::Dropped(_) => Ok(()),
+    fn event<S: TextSink>(&mut self, seen: Seen<'_>, out: &mut S) -> Result<(), AllocError> {
+        let here = FramePlace {
+            line: seen.line,
+            micros: seen.micros,
+        };
+        let first = self.begun.take(here, seen.dir, seen.event);
+        if let Some(message) = seen.message {
+            say_message(self.notation, message, first, here, out);
         }
+        Ok(())
     }
 
     fn end<S: TextSink>(
@@ -109,42 +99,36 @@ impl Machine for Placer {
 /// Says the line of a message that has its first frame and its last one in these places.
 fn say_message<S: TextSink>(
     notation: Notation,
-    number: u64,
-    step: Step,
-    dir: Dir,
-    message: &[u8],
+    message: Judged<'_>,
     first: FramePlace,
     last: FramePlace,
     out: &mut S,
 )
-    ensures { S.says out.old (placed_text notation (record { number = number; step = step; sent = (dir, message.now); start = first; end = last })) out.new }
+    ensures { S.says out.old (placed_text notation (judged_at message.entry first last)) out.new }
 {
     match notation {
-        Notation::Text => say_message_line(number, step, dir, message, first, last, out),
-        Notation::Json => say_message_object(number, step, dir, message, first, last, out),
+        Notation::Text => say_message_line(message, first, last, out),
+        Notation::Json => say_message_object(message, first, last, out),
     }
 }
 
 /// Says it in words.
 fn say_message_line<S: TextSink>(
-    number: u64,
-    step: Step,
-    dir: Dir,
-    message: &[u8],
+    message: Judged<'_>,
     first: FramePlace,
     last: FramePlace,
     out: &mut S,
 )
-    ensures { S.says out.old (placed_line (record { number = number; step = step; sent = (dir, message.now); start = first; end = last })) out.new }
+    ensures { S.says out.old (placed_line (judged_at message.entry first last)) out.new }
 {
-    say_number(out, number);
+    say_number(out, message.item);
     say_text(out, " ");
-    say_text(out, role_name(step));
+    say_text(out, role_name(message.step));
     say_text(out, " ");
-    say_direction(out, dir);
+    say_direction(out, message.dir);
     say_extent(out, first, last);
     say_text(out, " ");
-    say_bytes(out, message);
+    say_bytes(out, message.bytes);
     say_text(out, "\n");
 }
 
@@ -160,13 +144,4 @@ fn say_extent<S: TextSink>(out: &mut S, first: FramePlace, last: FramePlace)
     say_stamp(out, first.micros);
     say_text(out, " to ");
     say_stamp(out, last.micros);
-}
-
-/// Says the time of a frame: its seconds, a dot, and six digits.
-pub(crate) fn say_stamp<S: TextSink>(out: &mut S, micros: u64)
-    ensures { S.says out.old (stamp_text micros) out.new }
-{
-    say_number(out, micros / 1_000_000);
-    say_text(out, ".");
-    say_six_decimals(out, micros);
 }

@@ -2,6 +2,7 @@
 ghost use Rattle.std.specs.Prelude.{◌≡◌, ℕ, List, [], ◌∷◌, ◌++◌, length, OnOk, OnErr, Err};
 ghost use Rattle.direction.specs.Dir.{Message};
 ghost use Rattle.isotp_receive.specs.declared.TheConstants.{MESSAGE_LIMIT};
+ghost use Rattle.uds_exchange.specs.Numbering.{IsJudgedAfter, sent};
 ghost use Rattle.uds_exchange.specs.Decided.{undecided};
 ghost use Rattle.uds_exchange.specs.Decider.{decides_after, IsKept};
 ghost use Rattle.trace_canon.specs.Keeping.{CompletesKept};
@@ -11,14 +12,13 @@ ghost use Rattle.trace_canon.specs.proving.Watching.{SaysDecided, SaysLines};
 ghost use Rattle.trace_io.specs.Stream.{Agrees};
 ghost use Rattle.trace_io.specs.Counted.{IsLowCount, AreLowCounts};
 
-use direction::Dir;
-use isotp_receive::{Event, Pair, Verdict};
+use isotp_receive::Pair;
 use std::alloc::{AllocError, Global};
 use trace_io::{Source, Target, TextSink};
 use trace_log::{Config, Fault, Summary};
-use trace_run::{Machine, Stop, run_lenient};
+use trace_run::{Machine, Seen, Stop, run_lenient};
 use trace_text::{ItemStyle, say_item};
-use uds_exchange::{Decider, Item, ItemSink};
+use uds_exchange::{Decider, Item, ItemSink, Judged};
 
 /// Reads a log and writes the lines of [`list`](crate::list), each as soon as its item is decided: an exchange when its
 /// answer comes or the next request does, and the strays after it then too. What is not decided is written at the end.
@@ -81,27 +81,19 @@ impl Machine for Watcher {
     }
 
     #[inline(always)]
-    fn event<S: TextSink>(
-        &mut self,
-        _line: u64,
-        _micros: u64,
-        dir: Dir,
-        event: Event<'_>,
-        out: &mut S,
-    ) -> Result<(), AllocError> {
-        match event.verdict {
-            Verdict::Message(message) => match decide_to(
-                &mut self.decider,
-                self.style,
-                &mut self.number,
-                out,
-                dir,
-                message,
-            ) {
-                Ok(()) => Ok(()),
-                Err(refused) => Err(refused),
-            },
-            Verdict::Began | Verdict::Stored | Verdict::Flow | Verdict::Dropped(_) => Ok(()),
+    fn event<S: TextSink>(&mut self, seen: Seen<'_>, out: &mut S) -> Result<(), AllocError> {
+        let Some(message) = seen.message else {
+            return Ok(());
+        };
+        match decide_to(
+            &mut self.decider,
+            self.style,
+            &mut self.number,
+            out,
+            message,
+        ) {
+            Ok(()) => Ok(()),
+            Err(refused) => Err(refused),
         }
     }
 
@@ -151,17 +143,16 @@ fn decide_to<S: TextSink>(
     style: ItemStyle,
     number: &mut u64,
     out: &mut S,
-    dir: Dir,
-    message: &[u8],
+    message: Judged<'_>,
 ) -> Result<(), AllocError>
-    ensures stands { OnOk result ((M : List Message) → decider.old ≡ decides_after M → decider.new ≡ decides_after (M ++ (dir, message.now) ∷ [])) }
-    ensures says { OnOk result ((M : List Message) → decider.old ≡ decides_after M
-        → SaysDecided S.says style M (dir, message.now) number.old out.old number.new out.new) }
-    ensures kept { OnErr result ((M : List Message) → decider.old ≡ decides_after M → IsKept M (dir, message.now)) }
+    ensures stands { OnOk result ((M : List Message) → decider.old ≡ decides_after M → IsJudgedAfter M message.entry → decider.new ≡ decides_after (M ++ sent message.entry ∷ [])) }
+    ensures says { OnOk result ((M : List Message) → decider.old ≡ decides_after M → IsJudgedAfter M message.entry
+        → SaysDecided S.says style M (sent message.entry) number.old out.old number.new out.new) }
+    ensures kept { OnErr result ((M : List Message) → decider.old ≡ decides_after M → IsJudgedAfter M message.entry → IsKept M (sent message.entry)) }
     ensures quiet { OnErr result (S.says out.old [] out.new) }
 {
     let mut sink = LineSink { out, number, style };
-    match decider.take(dir, message, &mut sink) {
+    match decider.take(message, &mut sink) {
         Ok(()) => Ok(()),
         Err(refused) => Err(refused),
     }

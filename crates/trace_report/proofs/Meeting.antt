@@ -7,7 +7,12 @@ use Rattle.direction.specs.declared.Dir.{Dir}
 use Rattle.isotp_receive.specs.declared.TheConstants.{MESSAGE_LIMIT}
 use Rattle.isotp_receive.specs.StandingReception.{stands}
 use Rattle.isotp_receive.specs.Trace.{Entry, role}
-use Rattle.isotp_receive.specs.Verdict.{EventValue, message, messages, told_message, verdict}
+use Rattle.isotp_receive.specs.Verdict.{EventValue, VerdictValue, message, began, stored, flowed, dropped, messages, told_message, verdict}
+use Rattle.isotp_receive.specs.EventSeen.{seen_event}
+use Rattle.trace_run.specs.Seen.{IsSeen}
+use Rattle.trace_run.specs.declared.machine.Seen.{Seen}
+use Rattle.trace_run.proofs.Promises.{tells_no_message}
+use Rattle.trace_report.specs.Rows as row
 use Rattle.uds_exchange.specs.Laws.{open_with}
 use Rattle.uds_exchange.specs.Meaning.{is_answer_to, is_tester_request}
 use Rattle.uds_exchange.specs.Numbering.{number_after, step_after}
@@ -19,12 +24,12 @@ use Rattle.uds_exchange.specs.Meaning.{is_from_tester}
 use Rattle.trace_canon.specs.MessageLines.{first_frame, place_of}
 use Rattle.trace_canon.specs.declared.begun.FramePlace.{FramePlace}
 use Rattle.trace_canon.proofs.Promises.{messages_next}
-use Rattle.trace_report.specs.Events.{asked_in, completes_request, completes_request_by, ended_rows, frame_rows, frames_by, is_request_step, is_there, role_of_step, rows_before, verdict_rows}
+use Rattle.trace_report.specs.Events.{asked_in, completes_request, completes_request_by, ended_rows, event_rows, frame_rows, frames_by, is_request_step, is_there, role_of_step, rows_before, verdict_rows}
 use Rattle.trace_report.specs.Rows.{RowValue}
 use Rattle.trace_report.specs.Rows.{message as message_row}
 use Rattle.trace_report.specs.declared.follower.Follower.{Follower}
 use Rattle.trace_report.specs.declared.places.Extent.{Extent}
-use Rattle.trace_report.specs.proving.Following.{IsSilent, KnowsMessages}
+use Rattle.trace_report.specs.proving.Following.{IsSilent, KnowsMessages, dropped_by, dropped_rows}
 use Rattle.trace_report.proofs.Steps.{asked_next}
 
 -- a message that is no request begins no exchange
@@ -103,6 +108,38 @@ module _ (T : List Entry) (e : Entry) (d : Dir) (event : EventValue) (dir_is : e
       asked_next MESSAGE_LIMIT T e ∙ ap (λ (b : Bool). if b then e.micros else asked_in MESSAGE_LIMIT T) asks_not in
       subst (λ (l : List Message). KnowsMessages l (asked_in MESSAGE_LIMIT (T ++ e ∷ [])) follower) (sym all)
       (subst (λ n. KnowsMessages M n follower) (sym asked_then) known)
+
+-- a frame that completes no message completes no request, and has no row but that of its drop
+asks_none : (T : List Entry) (e : Entry) (d : Dir) (did : VerdictValue) → told_message d did ≡ [] → completes_request_by MESSAGE_LIMIT T e did ≡ false
+asks_none T e d (message bytes) none = cc none
+asks_none T e d began none = refl
+asks_none T e d stored none = refl
+asks_none T e d flowed none = refl
+asks_none T e d (dropped reason) none = refl
+
+pub met_none : (T : List Entry) (e : Entry) (seen : Seen) (follower : Follower) → IsSeen T e seen → seen.message ≡ None
+    → KnowsMessages (messages MESSAGE_LIMIT T) (asked_in MESSAGE_LIMIT T) follower
+    → KnowsMessages (messages MESSAGE_LIMIT (T ++ e ∷ [])) (asked_in MESSAGE_LIMIT (T ++ e ∷ [])) follower
+met_none T e seen follower is none known =
+    let told = tells_no_message T e seen is none in
+    met_still T e e.dir (verdict MESSAGE_LIMIT T e) refl refl follower told (asks_none T e e.dir (verdict MESSAGE_LIMIT T e).verdict told) known
+
+rows_by : (T : List Entry) (e : Entry) (d : Dir) (here : FramePlace) (named : Bool) (did : VerdictValue) → told_message e.dir did ≡ [] → here ≡ place_of e → e.dir ≡ d
+    → dropped_by here d named did ≡ verdict_rows MESSAGE_LIMIT T e named did
+rows_by T e d here named (message bytes) none here_is dir_is = cc none
+rows_by T e d here named began none here_is dir_is = refl
+rows_by T e d here named stored none here_is dir_is = refl
+rows_by T e d here named flowed none here_is dir_is = refl
+rows_by T e d here named (dropped reason) none here_is dir_is = (λ i. row.dropped (here_is i) (sym dir_is i) named reason ∷ [])
+
+pub rows_none : (T : List Entry) (e : Entry) (seen : Seen) (here : FramePlace) (ended drop : List RowValue) → IsSeen T e seen → seen.message ≡ None → here ≡ place_of e
+    → ended ≡ ended_rows e seen.event.ended → drop ≡ dropped_rows here seen.dir (seen_event seen.event) → (ended ++ []) ++ drop ≡ frame_rows MESSAGE_LIMIT T e
+rows_none T e seen here ended drop is none here_is ended_is drop_is =
+    let did = is.event.did in
+    let told : told_message e.dir (seen_event seen.event).verdict ≡ [] = ap (λ (x : EventValue). told_message e.dir x.verdict) did ∙ tells_no_message T e seen is none in
+    ap (λ l. l ++ drop) (append-nil ended)
+    ∙ (λ i. ended_is i ++ (drop_is ∙ rows_by T e seen.dir here (is_there seen.event.ended) (seen_event seen.event).verdict told here_is is.event.dir) i)
+    ∙ ap (λ x. event_rows MESSAGE_LIMIT T e x) did
 
 -- the rows of what a frame ended, then of the item that its message closes, and then of the message
 pub rows_of_message : (ended closing : List RowValue) (row : RowValue) → (ended ++ closing) ++ row ∷ [] ≡ ended ++ (closing ++ row ∷ [])

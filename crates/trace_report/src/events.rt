@@ -7,16 +7,6 @@ use direction::Dir;
 use uds_exchange::Step;
 use uds_message::{TesterKind, is_negative_response, tester_kind};
 
-/// Whether a message begins an exchange.
-pub(crate) fn is_request_step(step: Step) -> bool
-    ensures { result ≡ Spec.is_request_step step }
-{
-    match step {
-        Step::Request(_) => true,
-        Step::Answer | Step::Removed | Step::Hold | Step::Pass => false,
-    }
-}
-
 /// What a message is, by what becomes of it, where the last request was complete at the time `asked`.
 pub(crate) fn role_of_step(asked: u64, step: Step, dir: Dir, message: &[u8]) -> MessageRole
     ensures { result ≡ Spec.role_of_step asked step dir message.now }

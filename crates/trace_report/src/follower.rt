@@ -6,20 +6,22 @@ ghost use Rattle.isotp_receive.specs.EventSeen.{seen_event};
 ghost use Rattle.isotp_receive.specs.StandingReception.{receptions_after};
 ghost use Rattle.isotp_receive.specs.Trace.{Entry};
 ghost use Rattle.isotp_receive.specs.Verdict.{verdict};
-ghost use Rattle.uds_exchange.specs.Numbering.{CountsItems, number_after, step_after};
+ghost use Rattle.trace_run.specs.Seen.{IsSeen};
+ghost use Rattle.uds_exchange.specs.Numbering.{IsJudgedAfter, number_after, sent, step_after};
 ghost use Rattle.trace_canon.specs.MessageLines.{place_of};
-ghost use Rattle.trace_report.specs.Events.{closing_rows, end_rows, ended_rows, frame_rows, is_request_step as begins_exchange, role_of_step as role_by, rows_before, standing_row};
+ghost use Rattle.trace_report.specs.Events.{closing_rows, end_rows, ended_rows, frame_rows, role_of_step as role_by, rows_before, standing_row};
 ghost use Rattle.trace_report.specs.Rows.{message as message_row};
-ghost use Rattle.trace_report.specs.proving.Following.{Follows, IsSilent, MeetsMessage, row_if, rows_in, unfinished_if};
+ghost use Rattle.trace_report.specs.proving.Following.{Follows, IsSilent, IsWaiting, MeetsMessage, dropped_rows, row_if, rows_in, unfinished_if};
 ghost use Rattle.trace_report.specs.proving.Pages.{row_of};
 
-use crate::events::{is_request_step, role_of_step};
+use crate::events::role_of_step;
 use crate::places::{Extent, Places};
 use crate::row::{MessagePlace, Row};
 use direction::Dir;
 use isotp_receive::{Ended, Event, Pair, Verdict};
 use trace_canon::begun::FramePlace;
-use uds_exchange::{Numbers, Step};
+use trace_run::Seen;
+use uds_exchange::{Judged, Step};
 use uds_message::is_suppressing;
 
 /// The rows that a frame adds, or the end of a log: three at the most, in this order.
@@ -33,7 +35,8 @@ pub(crate) struct NewRows<'a> {
 /// What the rows of the frames to come depend on.
 #[derive(Clone, Copy, Debug)]
 pub(crate) struct Follower {
-    pub numbers: Numbers,
+    /// The number of the exchange that waits for its answer, if one does.
+    pub waits: Option<u64>,
     pub places: Places,
     /// When the last request was complete.
     pub asked: u64,
@@ -47,47 +50,36 @@ impl Follower {
         ensures { Follows [] result }
     {
         Follower {
-            numbers: Numbers::new(),
+            waits: None,
             places: Places::start(),
             asked: 0,
             silent: false,
         }
     }
 
-    /// Takes what a frame did that stands here, and answers its rows. Most frames add none: laid in line, so that no
-    /// room is cleared for rows then.
+    /// Takes what a frame did, and answers its rows. Most frames add none: laid in line, so that no room is cleared for rows
+    /// then.
     #[inline(always)]
-    pub(crate) fn take<'a>(&mut self, here: FramePlace, dir: Dir, event: Event<'a>) -> NewRows<'a>
-        ensures next { (T : List Entry) (e : Entry) → here ≡ place_of e → e.dir ≡ dir → length T < 2 ^ 62
-            → seen_event event.entry ≡ verdict MESSAGE_LIMIT T e → Follows T self.old → Follows (T ++ e ∷ []) self.new }
-        ensures rows { (T : List Entry) (e : Entry) → here ≡ place_of e → e.dir ≡ dir → length T < 2 ^ 62
-            → seen_event event.entry ≡ verdict MESSAGE_LIMIT T e → Follows T self.old → rows_in result ≡ frame_rows MESSAGE_LIMIT T e }
+    pub(crate) fn take<'a>(&mut self, seen: Seen<'a>) -> NewRows<'a>
+        ensures next { (T : List Entry) (e : Entry) → IsSeen T e seen.entry → Follows T self.old → Follows (T ++ e ∷ []) self.new }
+        ensures rows { (T : List Entry) (e : Entry) → IsSeen T e seen.entry → Follows T self.old → rows_in result ≡ frame_rows MESSAGE_LIMIT T e }
     {
-        let extent = self.places.take(here, dir, event);
-        let first = ended_row(here, event.ended);
-        match event.verdict {
-            Verdict::Message(message) => {
-                let (second, row) = self.take_message(here, dir, message, extent);
+        let here = here_of(seen);
+        let extent = self.places.take(here, seen.dir, seen.event);
+        let first = ended_row(here, seen.event.ended);
+        match seen.message {
+            Some(message) => {
+                let (second, row) = self.take_message(here, message, extent);
                 NewRows {
                     first,
                     second,
                     third: Some(row),
                 }
             }
-            Verdict::Dropped(reason) => NewRows {
+            None => NewRows {
                 first,
                 second: None,
-                third: Some(Row::Dropped {
-                    place: here,
-                    dir,
-                    named: event.ended.is_some(),
-                    reason,
-                }),
-            },
-            Verdict::Began | Verdict::Stored | Verdict::Flow => NewRows {
-                first,
-                second: None,
-                third: None,
+                third: dropped_row(here, seen.dir, seen.event),
             },
         }
     }
@@ -98,38 +90,43 @@ impl Follower {
     fn take_message<'a>(
         &mut self,
         here: FramePlace,
-        dir: Dir,
-        message: &'a [u8],
+        message: Judged<'a>,
         extent: Extent,
     ) -> (Option<Row<'a>>, Row<'a>)
         ensures places { self.new.places ≡ self.old.places }
-        ensures next { (M : List Message) → length M < 2 ^ 62 → CountsItems M self.old.numbers → IsSilent M self.old.silent
-            → MeetsMessage M (dir, message.now) here self.old.asked self.new }
-        ensures closing { (M : List Message) → CountsItems M self.old.numbers → IsSilent M self.old.silent
-            → row_if result.0 ≡ rows_before M (step_after M (dir, message.now)) }
-        ensures row { (M : List Message) → length M < 2 ^ 62 → CountsItems M self.old.numbers
-            → row_of result.1 ≡ message_row (role_by self.old.asked (step_after M (dir, message.now)) dir message.now) dir
-            (record { item = number_after M (dir, message.now); first = extent.first; last = here; frames = extent.frames }) message.now }
+        ensures next { (M : List Message) → IsJudgedAfter M message.entry → message.entry.item ≡ number_after M (sent message.entry)
+            → IsWaiting M self.old.waits → IsSilent M self.old.silent
+            → MeetsMessage M (sent message.entry) here self.old.asked self.new }
+        ensures closing { (M : List Message) → IsJudgedAfter M message.entry → IsWaiting M self.old.waits → IsSilent M self.old.silent
+            → row_if result.0 ≡ rows_before M (step_after M (sent message.entry)) }
+        ensures row { (M : List Message) → IsJudgedAfter M message.entry → message.entry.item ≡ number_after M (sent message.entry)
+            → row_of result.1 ≡ message_row (role_by self.old.asked (step_after M (sent message.entry)) message.entry.dir message.entry.bytes.now) message.entry.dir
+            (record { item = number_after M (sent message.entry); first = extent.first; last = here; frames = extent.frames }) message.entry.bytes.now }
     {
-        let waiting = waiting_row(self.numbers, self.silent);
-        let (item, step) = self.numbers.take(dir, message);
+        let waiting = waiting_row(self.waits, self.silent);
         let row = Row::Message {
-            role: role_of_step(self.asked, step, dir, message),
-            dir,
+            role: role_of_step(self.asked, message.step, message.dir, message.bytes),
+            dir: message.dir,
             place: MessagePlace {
-                item,
+                item: message.item,
                 first: extent.first,
                 last: here,
                 frames: extent.frames,
             },
-            message,
+            message: message.bytes,
         };
-        if is_request_step(step) {
-            self.asked = here.micros;
-            self.silent = is_suppressing(message);
-            (waiting, row)
-        } else {
-            (None, row)
+        match message.step {
+            Step::Request(_) => {
+                self.waits = Some(message.item);
+                self.asked = here.micros;
+                self.silent = is_suppressing(message.bytes);
+                (waiting, row)
+            }
+            Step::Answer => {
+                self.waits = None;
+                (None, row)
+            }
+            Step::Removed | Step::Hold | Step::Pass => (None, row),
         }
     }
 
@@ -140,21 +137,45 @@ impl Follower {
         NewRows {
             first: unfinished_row(Dir::Tester, pair.open(Dir::Tester)),
             second: unfinished_row(Dir::Unit, pair.open(Dir::Unit)),
-            third: waiting_row(self.numbers, self.silent),
+            third: waiting_row(self.waits, self.silent),
         }
     }
 }
 
 /// The row of the request that waits, if one does: it has no answer.
-fn waiting_row<'a>(numbers: Numbers, silent: bool) -> Option<Row<'a>>
-    ensures { (M : List Message) → CountsItems M numbers → IsSilent M silent → row_if result ≡ closing_rows M }
+fn waiting_row<'a>(waits: Option<u64>, silent: bool) -> Option<Row<'a>>
+    ensures { (M : List Message) → IsWaiting M waits → IsSilent M silent → row_if result ≡ closing_rows M }
 {
-    match numbers.open_sid {
-        Some(_) => Some(Row::NoAnswer {
-            number: numbers.items.saturating_sub(numbers.held),
-            silent,
-        }),
+    match waits {
+        Some(number) => Some(Row::NoAnswer { number, silent }),
         None => None,
+    }
+}
+
+/// Where a frame stands.
+#[inline(always)]
+fn here_of(seen: Seen<'_>) -> FramePlace
+    ensures { result ≡ record { line = seen.entry.line; micros = seen.entry.micros } }
+{
+    FramePlace {
+        line: seen.line,
+        micros: seen.micros,
+    }
+}
+
+/// The row of a frame here, if it was dropped.
+#[inline(always)]
+fn dropped_row<'a>(here: FramePlace, dir: Dir, event: Event<'_>) -> Option<Row<'a>>
+    ensures { row_if result ≡ dropped_rows here dir (seen_event event.entry) }
+{
+    match event.verdict {
+        Verdict::Dropped(reason) => Some(Row::Dropped {
+            place: here,
+            dir,
+            named: event.ended.is_some(),
+            reason,
+        }),
+        Verdict::Message(_) | Verdict::Began | Verdict::Stored | Verdict::Flow => None,
     }
 }
 

@@ -20,13 +20,11 @@ use crate::follower::{Follower, NewRows};
 use crate::held_session::{Held, HeldRow, HeldSession, copied_row};
 use crate::reporter::Span;
 use crate::row::Row;
-use direction::Dir;
-use isotp_receive::{Event, Pair};
+use isotp_receive::Pair;
 use std::alloc::{AllocError, Global};
-use trace_canon::begun::FramePlace;
 use trace_io::{Source, TextSink};
 use trace_log::{CompareFault, Config, Fault, Summary};
-use trace_run::{Machine, Nowhere, Stop, run};
+use trace_run::{Machine, Nowhere, Seen, Stop, run};
 
 /// Reads two logs, the first one whole before the second, and answers what both say. No announcement and no canonical
 /// log is too long for it.
@@ -199,16 +197,9 @@ impl Machine for Holder {
     }
 
     #[inline(always)]
-    fn event<S: TextSink>(
-        &mut self,
-        line: u64,
-        micros: u64,
-        dir: Dir,
-        event: Event<'_>,
-        _out: &mut S,
-    ) -> Result<(), AllocError> {
-        self.span = Some(span_with(self.span, micros));
-        let rows = self.follower.take(FramePlace { line, micros }, dir, event);
+    fn event<S: TextSink>(&mut self, seen: Seen<'_>, _out: &mut S) -> Result<(), AllocError> {
+        self.span = Some(span_with(self.span, seen.micros));
+        let rows = self.follower.take(seen);
         hold_rows(self.alloc, &mut self.rows, rows)?;
         Ok(())
     }

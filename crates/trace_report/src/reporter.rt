@@ -15,13 +15,11 @@ use crate::follower::Follower;
 use crate::front::{Title, say_front};
 use crate::help::say_help;
 use crate::verdict::{say_refused_verdict, say_stop_line, say_verdict};
-use direction::Dir;
-use isotp_receive::{Event, Pair};
+use isotp_receive::Pair;
 use std::alloc::{AllocError, Global};
-use trace_canon::begun::FramePlace;
 use trace_io::{Source, Target, TextSink};
 use trace_log::{Config, Fault, Summary};
-use trace_run::{Machine, Stop, run_lenient};
+use trace_run::{Machine, Seen, Stop, run_lenient};
 use trace_text::say::say_text;
 
 /// Reads a log and writes its session as a page of HTML, with this style and the name of the log: each row as its frame comes, and
@@ -96,20 +94,13 @@ impl<'a> Machine for Reporter<'a> {
     }
 
     #[inline(always)]
-    fn event<S: TextSink>(
-        &mut self,
-        line: u64,
-        micros: u64,
-        dir: Dir,
-        event: Event<'_>,
-        out: &mut S,
-    ) -> Result<(), AllocError> {
-        let origin = say_front_before(&self.title, self.span, micros, out);
+    fn event<S: TextSink>(&mut self, seen: Seen<'_>, out: &mut S) -> Result<(), AllocError> {
+        let origin = say_front_before(&self.title, self.span, seen.micros, out);
         self.span = Some(Span {
             first: origin,
-            last: micros,
+            last: seen.micros,
         });
-        let rows = self.follower.take(FramePlace { line, micros }, dir, event);
+        let rows = self.follower.take(seen);
         self.chart.say_rows(origin, rows, out);
         Ok(())
     }

@@ -112,8 +112,8 @@ fn say_front_behind<S: TextSink>(eight: &[u8; 8], count: usize, out: &mut S)
     out.put(&eight_behind(eight)[..3 * count]);
 }
 
-/// A blank and two digits for each of eight bytes, stored by two vectors: where each byte is stored by itself, every wider load
-/// of them waits.
+/// A blank and two digits for each of eight bytes, stored by two vectors: where each byte is stored by itself, wider loads of
+/// them are covering ones.
 #[inline(always)]
 fn eight_behind(bytes: &[u8; 8]) -> [u8; 24]
     ensures { result ≡ bytes_behind bytes.now }

@@ -1,7 +1,7 @@
 pub mod WrittenFronts
 pub mod Runs
-pub mod RemovedCounts
 pub mod Carryings
+pub mod SeenMessages
 pub mod Tellings
 pub mod LenientRuns
 pub mod Printings

@@ -2,3 +2,4 @@
 pub use Rattle.trace_run.proofs.Tellings.{front_of_whole}
 pub use Rattle.trace_run.proofs.LenientRuns.{certifies, lenient, unread_for}
 pub use Rattle.trace_run.proofs.QuietRuns.{never_write}
+pub use Rattle.trace_run.proofs.SeenMessages.{CompletesJudged, completes_judged, completes_none, tells_no_message}

@@ -8,7 +8,7 @@ use Rattle.isotp_receive.proofs.Promises.{new_pair_keeps_within}
 use Rattle.isotp_receive.specs.Trace.{Entry}
 use Rattle.trace_log.specs.declared.summary.Summary.{Summary}
 use Rattle.trace_log.specs.declared.fault.Fault.{Fault}
-use Rattle.trace_run.specs.declared.driver.Telling.{Telling}
+use Rattle.trace_run.specs.declared.telling.Telling.{Telling}
 use Rattle.trace_run.specs.declared.receiver.Receiver.{Receiver}
 use Rattle.trace_log.specs.Settings.{Settings, direction_of}
 use Rattle.trace_log.specs.Trace.{trace, trace_from}

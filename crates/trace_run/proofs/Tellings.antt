@@ -1,6 +1,6 @@
 -- What a run that tells a log answers, from what its parts have promised.
 use Rattle.std.proofs.Common.{◌-◌, Some, None, ◌≡◌, ◌≢◌, ◌⊎◌, ℕ, ◌+◌, ◌<◌, ◌≤◌, ◌^◌, Bool, true, false, List, [], ◌∷◌, ◌++◌, length, take, drop, arith, refl, ap, sym, subst, ◌∙◌, Option, Result, Ok, Err, inl, inr, append-nil, append_assoc, length-append}
-use Rattle.std.specs.Prelude.{min, not}
+use Rattle.std.specs.Prelude.{min, not, OnOk, IfErr}
 use Rattle.std.proofs.Math.Nat.{le-min, min-le_left}
 use Rattle.std.proofs.lemmas.List.{take-append-drop, length-take-le}
 use Rattle.can_log.specs.Log.{LogMeans}
@@ -12,17 +12,17 @@ use Rattle.isotp_receive.specs.declared.TheConstants.{MESSAGE_LIMIT}
 use Rattle.trace_io.proofs.Promises.{took_no_byte}
 use Rattle.trace_io.specs.Written.{HasFront}
 use Rattle.trace_io.specs.declared.device.Target.{Ghosts}
-use Rattle.trace_run.specs.declared.driver.Telling.{Telling}
+use Rattle.trace_run.specs.declared.telling.Telling.{Telling}
 use Rattle.trace_log.specs.declared.fault.Fault.{Fault}
 use Rattle.trace_log.specs.declared.fault.Fault.TheVariants as fault
-use Rattle.trace_run.specs.declared.pending.Pending.{Pending}
+use Rattle.uds_exchange.specs.declared.judge.Judge.{Judge}
 use Rattle.trace_run.specs.declared.receiver.Receiver.{Receiver}
 use Rattle.trace_run.specs.declared.machine.Stop.{Stop}
 use Rattle.trace_run.specs.declared.machine.Stop.TheVariants as end_stop
 use Rattle.trace_log.specs.declared.summary.Summary.{Summary}
 use Rattle.trace_run.specs.proving.Carrying.{StopsFor, stops_for, Carries, Speaks, Settles, IsTellingStart, Tells, StopsTelling, EndsSaying, EndsTelling, EndsAs, SettlesAs, SettlesWith, RefusesTelling, GivesUp, WroteTold}
 use Rattle.trace_log.specs.Feeding.{FeedsLog, FeedsSome, CountsRead, WroteBefore, Took, TakesFront, StopsWithin}
-use Rattle.trace_run.specs.proving.LeftOut.{CountsRemoved}
+use Rattle.uds_exchange.specs.Numbering.{HasJudged}
 use Rattle.trace_log.specs.Failing.{FailedIf}
 use Rattle.trace_log.specs.LinesRead.{counts_last, AreGiven, AreLinesRead, AreReadBefore, WritesTextOfRead}
 use Rattle.trace_log.specs.Settings.{Settings}
@@ -45,6 +45,17 @@ use Rattle.trace_run.proofs.Carryings.{wrote_all, wrote_front}
 use Rattle.trace_run.proofs.Runs.{TookEvents, StoppedOnEvent, StopsOn, IsRunStart, TookLines, StoppedOnLine, took_nothing, has_received, has_taken, has_stopped}
 use Rattle.trace_run.proofs.WrittenFronts.{front_longer}
 
+-- ---- what is known of each trace, of an answer
+
+pub on_ok_of_each : {A E I : Type 0} (P Q R : I → Type 0) (r : Result A E) → ((i : I) → P i → Q i → OnOk r (R i)) → OnOk r ((i : I) → P i → Q i → R i)
+on_ok_of_each P Q R (Ok x) each = each
+on_ok_of_each P Q R (Err e) each = tt
+
+pub if_err_of_each : {A E I : Type 0} (P Q : I → Type 0) (R : I → E → Type 0) (r : Result A E)
+    → ((i : I) → P i → Q i → IfErr r (R i)) → IfErr r (λ e. (i : I) → P i → Q i → R i e)
+if_err_of_each P Q R (Ok x) each = tt
+if_err_of_each P Q R (Err e) each = each
+
 -- ---- what is told of one more frame
 
 told-append : (word : List Entry → Entry → List ℕ) (past xs ys : List Entry) → told_after word past (xs ++ ys) ≡ told_after word past xs ++ told_after word (past ++ xs) ys
@@ -58,10 +69,10 @@ pub one_more_told : (word : List Entry → Entry → List ℕ) (T : List Entry) 
 one_more_told word T e = told-append word [] T (e ∷ []) ∙ ap (λ l. told word T ++ l) (append-nil (word T e))
 
 -- what one more frame's message counts
-pub counts_next : (T : List Entry) (e : Entry) (line : ℕ) (d : Dir) (event : EventValue) (pending : Pending) → e.dir ≡ d → event ≡ verdict MESSAGE_LIMIT T e
-    → CountsRemoved (messages MESSAGE_LIMIT T ++ told_message d event.verdict) pending → CountsRemoved (messages MESSAGE_LIMIT (T ++ e ∷ [])) pending
-counts_next T e line d event pending dir_is is counts =
-    subst (λ M. CountsRemoved M pending)
+pub counts_next : (T : List Entry) (e : Entry) (line : ℕ) (d : Dir) (event : EventValue) (judge : Judge) → e.dir ≡ d → event ≡ verdict MESSAGE_LIMIT T e
+    → HasJudged (messages MESSAGE_LIMIT T ++ told_message d event.verdict) judge → HasJudged (messages MESSAGE_LIMIT (T ++ e ∷ [])) judge
+counts_next T e line d event judge dir_is is counts =
+    subst (λ M. HasJudged M judge)
     (ap (λ v. messages MESSAGE_LIMIT T ++ told_message d v) (ap (λ (x : EventValue). x.verdict) is)
     ∙ ap (λ x. messages MESSAGE_LIMIT T ++ told_message x (verdict MESSAGE_LIMIT T e).verdict) (sym dir_is) ∙ sym (messages_more MESSAGE_LIMIT T e)) counts
 
@@ -118,44 +129,44 @@ module _ (settings : Settings) (log : List ℕ) where
 module _ {M W : Type 0} (stands : List Entry → M → Type 0) (target : Ghosts W) (script : Script) (needs : List Entry → Entry → Type 0) (start : W) (T : List Entry) (e : Entry) where
   -- it was told
   pub tells_next : (line : ℕ) (d : Dir) (event : EventValue) → e.dir ≡ d → event ≡ verdict MESSAGE_LIMIT T e
-      → (machine machine_now : M) (pending pending_now : Pending) (failed failed_now : Bool) (held held_now : List ℕ) (old new : W)
-      → Tells stands target script start T machine pending failed held old
-      → CountsRemoved (messages MESSAGE_LIMIT T ++ told_message d event.verdict) pending_now → stands (T ++ e ∷ []) machine_now → (script.strict ≡ true → AnnouncesWithin e)
+      → (machine machine_now : M) (judge judge_now : Judge) (failed failed_now : Bool) (held held_now : List ℕ) (old new : W)
+      → Tells stands target script start T machine judge failed held old
+      → HasJudged (messages MESSAGE_LIMIT T ++ told_message d event.verdict) judge_now → stands (T ++ e ∷ []) machine_now → (script.strict ≡ true → AnnouncesWithin e)
       → Speaks target failed held old (script.word T e) failed_now held_now new
-      → Tells stands target script start (T ++ e ∷ []) machine_now pending_now failed_now held_now new
-  tells_next line d event dir_is is machine machine_now pending pending_now failed failed_now held held_now old new so_far counts machine_stands one speaks = record {
-    removed = counts_next T e line d event pending_now dir_is is counts;
+      → Tells stands target script start (T ++ e ∷ []) machine_now judge_now failed_now held_now new
+  tells_next line d event dir_is is machine machine_now judge judge_now failed failed_now held held_now old new so_far counts machine_stands one speaks = record {
+    judged = counts_next T e line d event judge_now dir_is is counts;
     machine_stands = machine_stands;
     within = λ strict. each_more T e (so_far.within strict) (one strict);
     carried = subst (λ text. Carries target start text failed_now held_now new) (sym (one_more_told script.word T e)) (speaks start (told script.word T) so_far.carried);
   }
 
   -- nothing of it was said, and the run stopped
-  pub stops_at : (machine : M) (pending : Pending) (failed failed_now : Bool) (held held_now : List ℕ) (old new : W)
-      → Tells stands target script start T machine pending failed held old → (script.strict ≡ true → AnnouncesWithin e) → needs T e → Speaks target failed held old [] failed_now held_now new
+  pub stops_at : (machine : M) (judge : Judge) (failed failed_now : Bool) (held held_now : List ℕ) (old new : W)
+      → Tells stands target script start T machine judge failed held old → (script.strict ≡ true → AnnouncesWithin e) → needs T e → Speaks target failed held old [] failed_now held_now new
       → StopsTelling target script needs start T e fault.Memory failed_now held_now new
-  stops_at machine pending failed failed_now held held_now old new so_far one needed speaks = record {
+  stops_at machine judge failed failed_now held held_now old new so_far one needed speaks = record {
     within = so_far.within;
     reason = (one, inr needed);
     carried = subst (λ text. Carries target start text failed_now held_now new) (append-nil (told script.word T)) (speaks start (told script.word T) so_far.carried);
   }
 
-  pub stops_before : (machine : M) (pending : Pending) (failed : Bool) (held : List ℕ) (now : W) (why : Fault) → Tells stands target script start T machine pending failed held now
+  pub stops_before : (machine : M) (judge : Judge) (failed : Bool) (held : List ℕ) (now : W) (why : Fault) → Tells stands target script start T machine judge failed held now
       → StopsFor script.strict needs T e why → StopsTelling target script needs start T e why failed held now
-  stops_before machine pending failed held now why so_far reason = record { within = so_far.within; reason = reason; carried = so_far.carried }
+  stops_before machine judge failed held now why so_far reason = record { within = so_far.within; reason = reason; carried = so_far.carried }
 
 module _ {M W : Type 0} (stands : List Entry → M → Type 0) (target : Ghosts W) (script : Script) (start : W) (T : List Entry) where
   -- what was due was written, or that failed
-  pub settled_as : (machine : M) (pending : Pending) (failed : Bool) (held : List ℕ) (old new : W) (settled : Bool) → Tells stands target script start T machine pending failed held old
-      → Settles target failed held old settled new → Tells stands target script start T machine pending (not settled) [] new
-  settled_as machine pending failed held old new settled so_far settles =
-      record { removed = so_far.removed; machine_stands = so_far.machine_stands; within = so_far.within; carried = settles start (told script.word T) so_far.carried }
+  pub settled_as : (machine : M) (judge : Judge) (failed : Bool) (held : List ℕ) (old new : W) (settled : Bool) → Tells stands target script start T machine judge failed held old
+      → Settles target failed held old settled new → Tells stands target script start T machine judge (not settled) [] new
+  settled_as machine judge failed held old new settled so_far settles =
+      record { judged = so_far.judged; machine_stands = so_far.machine_stands; within = so_far.within; carried = settles start (told script.word T) so_far.carried }
 
-  pub same_page : (machine : M) (pending : Pending) (failed : Bool) (held : List ℕ) (now : W) → Tells stands target script start T machine pending false [] now
-      → failed ≡ false → held ≡ [] → Tells stands target script start T machine pending failed held now
-  same_page machine pending failed held now tells well blank =
-      subst (λ b. Tells stands target script start T machine pending b held now) (sym well)
-      (subst (λ h. Tells stands target script start T machine pending false h now) (sym blank) tells)
+  pub same_page : (machine : M) (judge : Judge) (failed : Bool) (held : List ℕ) (now : W) → Tells stands target script start T machine judge false [] now
+      → failed ≡ false → held ≡ [] → Tells stands target script start T machine judge failed held now
+  same_page machine judge failed held now tells well blank =
+      subst (λ b. Tells stands target script start T machine judge b held now) (sym well)
+      (subst (λ h. Tells stands target script start T machine judge false h now) (sym blank) tells)
 
 -- what is told of some lines begins what is told of more
 told_grows : (script : Script) (settings : Settings) (meanings more : List (Option Stamped)) → Begins (told_of_lines script settings meanings) (told_of_lines script settings (meanings ++ more))
@@ -319,22 +330,22 @@ blank_page target start low = record {
 module _ {M W : Type 0} (stands : M → List Entry → M → Type 0) (scripts : M → Script) (needs : M → List Entry → Entry → Type 0) (target : Ghosts W) where
   -- events were told
   abbrev pub ToldEvents : TookEvents M W
-  ToldEvents s T t = IsTellingStart (stands s.0.machine [] s.0.machine) s.0.pending s.0.page.failed s.0.page.block → target.failures s.1 ≤ 2 ^ 62
-      → Tells (stands s.0.machine) target (scripts s.0.machine) s.1 T t.0.machine t.0.pending t.0.page.failed t.0.page.block t.1
+  ToldEvents s T t = IsTellingStart (stands s.0.machine [] s.0.machine) s.0.judge s.0.page.failed s.0.page.block → target.failures s.1 ≤ 2 ^ 62
+      → Tells (stands s.0.machine) target (scripts s.0.machine) s.1 T t.0.machine t.0.judge t.0.page.failed t.0.page.block t.1
 
   -- and written, or that failed
   abbrev pub SettledEvents : Bool → TookEvents M W
-  SettledEvents failed s T t = IsTellingStart (stands s.0.machine [] s.0.machine) s.0.pending s.0.page.failed s.0.page.block → target.failures s.1 ≤ 2 ^ 62
-      → Tells (stands s.0.machine) target (scripts s.0.machine) s.1 T t.0.machine t.0.pending failed [] t.1
+  SettledEvents failed s T t = IsTellingStart (stands s.0.machine [] s.0.machine) s.0.judge s.0.page.failed s.0.page.block → target.failures s.1 ≤ 2 ^ 62
+      → Tells (stands s.0.machine) target (scripts s.0.machine) s.1 T t.0.machine t.0.judge failed [] t.1
 
   -- the run stopped at an event
   abbrev pub StoppedTelling : StoppedOnEvent M W
-  StoppedTelling s T e why t = IsTellingStart (stands s.0.machine [] s.0.machine) s.0.pending s.0.page.failed s.0.page.block → target.failures s.1 ≤ 2 ^ 62
+  StoppedTelling s T e why t = IsTellingStart (stands s.0.machine [] s.0.machine) s.0.judge s.0.page.failed s.0.page.block → target.failures s.1 ≤ 2 ^ 62
       → StopsTelling target (scripts s.0.machine) (needs s.0.machine) s.1 T e why t.0.page.failed t.0.page.block t.1
 
   told_nothing : (start : Telling M W × W) → ToldEvents start [] start
   told_nothing start fresh low = record {
-    removed = fresh.removed;
+    judged = fresh.judged;
     machine_stands = fresh.stands;
     within = λ strict. tt;
     carried =
@@ -344,13 +355,13 @@ module _ {M W : Type 0} (stands : M → List Entry → M → Type 0) (scripts : 
 
   -- no event was told
   abbrev pub HasToldNothing : Telling M W → Type 0
-  HasToldNothing taker = IsTellingStart (stands taker.machine [] taker.machine) taker.pending taker.page.failed taker.page.block
+  HasToldNothing taker = IsTellingStart (stands taker.machine [] taker.machine) taker.judge taker.page.failed taker.page.block
 
   -- so it is with a machine that stands at its start
-  pub told_none : (machine : M) (taker : Telling M W) → taker.machine ≡ machine → stands machine [] machine → CountsRemoved [] taker.pending → taker.page.failed ≡ false
+  pub told_none : (machine : M) (taker : Telling M W) → taker.machine ≡ machine → stands machine [] machine → HasJudged [] taker.judge → taker.page.failed ≡ false
       → taker.page.block ≡ [] → HasToldNothing taker
   told_none machine taker same at_start removed well blank =
-      record { stands = subst (λ m. stands m [] m) (sym same) at_start; removed = removed; well = well; blank = blank }
+      record { stands = subst (λ m. stands m [] m) (sym same) at_start; judged = removed; well = well; blank = blank }
 
   -- no line was taken
   pub takes_nothing : (start : Receiver M W × W) → TookLines ToldEvents start [] start
@@ -358,7 +369,7 @@ module _ {M W : Type 0} (stands : M → List Entry → M → Type 0) (scripts : 
 
   -- what was told of events was written
   abbrev pub WroteEvents : TookEvents M W
-  WroteEvents s T t = IsTellingStart (stands s.0.machine [] s.0.machine) s.0.pending s.0.page.failed s.0.page.block → target.failures s.1 ≤ 2 ^ 62
+  WroteEvents s T t = IsTellingStart (stands s.0.machine [] s.0.machine) s.0.judge s.0.page.failed s.0.page.block → target.failures s.1 ≤ 2 ^ 62
       → WroteTold target (scripts s.0.machine) s.1 T t.0.page.failed t.0.page.block t.1
 
   -- and of lines
@@ -390,7 +401,7 @@ module _ {M W : Type 0} (stands : M → List Entry → M → Type 0) (scripts : 
   -- from such a start on
   module _ (settings : Settings) (start now : Receiver M W × W) (begun : IsRunStart HasToldNothing settings start) (low : target.failures start.1 ≤ 2 ^ 62) where
     pub gives : (meanings : List (Option Stamped)) → TookLines ToldEvents start meanings now
-        → Tells (stands start.0.taker.machine) target (scripts start.0.taker.machine) start.1 (trace settings meanings) now.0.taker.machine now.0.taker.pending
+        → Tells (stands start.0.taker.machine) target (scripts start.0.taker.machine) start.1 (trace settings meanings) now.0.taker.machine now.0.taker.judge
         now.0.taker.page.failed now.0.taker.page.block now.1
     gives meanings lines = has_taken ToldEvents settings start now begun meanings lines begun.fresh low
 
@@ -406,7 +417,7 @@ module _ {M W : Type 0} (stands : M → List Entry → M → Type 0) (scripts : 
         (wrote.wrote ∙ ap (λ T. target.taken start.1 ++ told ((scripts start.0.taker.machine).word) T) of_settings) (more wrote.mid wrote.said wrote.carried)
 
     settled : (failed : Bool) (meanings : List (Option Stamped)) → TookLines (SettledEvents failed) start meanings now
-        → Tells (stands start.0.taker.machine) target (scripts start.0.taker.machine) start.1 (trace settings meanings) now.0.taker.machine now.0.taker.pending failed [] now.1
+        → Tells (stands start.0.taker.machine) target (scripts start.0.taker.machine) start.1 (trace settings meanings) now.0.taker.machine now.0.taker.judge failed [] now.1
     settled failed meanings lines = has_taken (SettledEvents failed) settings start now begun meanings lines begun.fresh low
 
     halts : (meanings : List (Option Stamped)) (what : Option Stamped) (why : Fault) → StoppedOnLine StoppedTelling start meanings what why now
@@ -421,7 +432,7 @@ module _ {M W : Type 0} (stands : M → List Entry → M → Type 0) (scripts : 
           → SettlesWith (refusal_of_lines (scripts start.0.taker.machine) MESSAGE_LIMIT settings why meanings) why target now.0.taker.page.failed now.0.taker.page.block now.1 answer new
       refuses why answer meanings taken up =
           let told_so = gives meanings taken in
-          up start.0.taker.machine settings meanings (has_received ToldEvents settings start now begun meanings taken) told_so.removed told_so.machine_stands
+          up start.0.taker.machine settings meanings (has_received ToldEvents settings start now begun meanings taken) told_so.judged told_so.machine_stands
 
       refuses_all : (why answer : Fault) (meanings : List (Option Stamped)) → TookLines ToldEvents start meanings now → RefusesTelling stands scripts target why now.0 now.1 answer new
           → EndsAs why target start.1 (refused_of_lines (scripts start.0.taker.machine) MESSAGE_LIMIT settings why meanings) answer new
@@ -761,11 +772,11 @@ only_stop end_stop.OutputLimit = refl
 -- all that is said at the end was said
 module _ {M W : Type 0} (stands : List Entry → M → Type 0) (target : Ghosts W) (script : Script) (start : W) (settings : Settings) (log : List ℕ) (meanings : List (Option Stamped)) where
   -- and settled so
-  pub carried_at_the_end : (machine : M) (pending : Pending) (failed failed_then : Bool) (held held_then : List ℕ) (old mid new : W) (settled : Bool) (summary : Summary)
-      → Tells stands target script start (trace settings meanings) machine pending failed held old → summary ≡ summary_of MESSAGE_LIMIT settings log meanings
+  pub carried_at_the_end : (machine : M) (judge : Judge) (failed failed_then : Bool) (held held_then : List ℕ) (old mid new : W) (settled : Bool) (summary : Summary)
+      → Tells stands target script start (trace settings meanings) machine judge failed held old → summary ≡ summary_of MESSAGE_LIMIT settings log meanings
       → Speaks target failed held old (script.last (trace settings meanings) summary) failed_then held_then mid → Settles target failed_then held_then mid settled new
       → Carries target start (whole_of_lines script MESSAGE_LIMIT settings log meanings) (not settled) [] new
-  carried_at_the_end machine pending failed failed_then held held_then old mid new settled summary so_far is speaks settles =
+  carried_at_the_end machine judge failed failed_then held held_then old mid new settled summary so_far is speaks settles =
       let T = trace settings meanings in
       subst (λ s. Carries target start (told script.word T ++ script.last T s) (not settled) [] new) is
       (settles start (told script.word T ++ script.last T summary)

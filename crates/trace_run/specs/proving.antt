@@ -1,5 +1,5 @@
 -- Devices of proof, apart from the definitions that the promises are made of.
 pub mod Gathering
-pub mod LeftOut
 pub mod Carrying
+pub mod Telling
 pub mod Drains

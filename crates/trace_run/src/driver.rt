@@ -10,7 +10,7 @@ ghost use Rattle.isotp_receive.specs.Trace.{Entry};
 ghost use Rattle.isotp_receive.specs.Verdict.{verdict};
 ghost use Rattle.trace_io.specs.Counted.{IsLowCount, AreLowCounts};
 ghost use Rattle.trace_run.specs.proving.Carrying.{Begins, Carries, Speaks, SettlesAs, Tells, EndsTelling, GivesUp, RefusesTelling, stops_for};
-ghost use Rattle.trace_run.specs.proving.LeftOut.{CountsRemoved};
+ghost use Rattle.uds_exchange.specs.Numbering.{HasJudged};
 ghost use Rattle.trace_log.specs.proving.Receiving.{Receives};
 ghost use Rattle.trace_log.specs.Settings.{Settings};
 ghost use Rattle.trace_log.specs.Summing.{ends_in_line_feed};
@@ -21,13 +21,11 @@ ghost use Rattle.trace_log.specs.declared.summary.Summary.{Summary as SummaryVal
 
 use crate::machine::{Machine, Stop};
 use crate::page::{Drain, Page, settle};
-use crate::pending::Pending;
 use crate::receiver::Receiver;
 use crate::summing::sum_up;
-use direction::Dir;
-use isotp_receive::{Event, Pair, Reason, Verdict};
-use std::alloc::{AllocError, Global};
-use std::marker::PhantomData;
+use crate::telling::Telling;
+use isotp_receive::Pair;
+use std::alloc::Global;
 use trace_io::{Source, Target};
 use trace_log::{Config, Fault, Summary, feed_lines};
 
@@ -116,11 +114,11 @@ fn refuse<M: Machine, W: Target>(why: Fault, receiver: Receiver<M, W>, target: &
     } = receiver;
     let Telling {
         machine,
-        pending,
+        judge,
         mut page,
         ..
     } = taker;
-    let summary = sum_up(&pair, lines, counts, pending.count, false);
+    let summary = sum_up(&pair, lines, counts, judge.removed, false);
     tell_refusal(machine, target, &mut page, &summary, why);
     settle_before(why, target, &mut page)
 }
@@ -133,162 +131,6 @@ fn settle_before<W: Target>(fault: Fault, target: &mut W, page: &mut Page) -> Fa
         fault
     } else {
         Fault::Write
-    }
-}
-
-/// A machine, the page that it writes on, and the count of the replies that a canonical log leaves out.
-#[derive(Drop)]
-pub(crate) struct Telling<M, W> {
-    pub machine: M,
-    pub pending: Pending,
-    pub page: Page,
-    pub target: PhantomData<W>,
-}
-
-impl<M, W> Telling<M, W> {
-    ghost use Rattle.std.specs.Prelude.{◌≡◌, [], false};
-    ghost use Rattle.trace_run.specs.proving.LeftOut.{CountsRemoved};
-
-    /// Before the first event.
-    fn start(machine: M) -> Telling<M, W>
-        ensures machine { result.machine ≡ machine }
-        ensures removed { CountsRemoved [] result.pending }
-        ensures well { result.page.failed ≡ false }
-        ensures blank { result.page.block ≡ [] }
-    {
-        Telling {
-            machine,
-            pending: Pending::start(),
-            page: Page::new(),
-            target: PhantomData,
-        }
-    }
-}
-
-impl<M: Machine, W: Target> Telling<M, W> {
-    ghost use Rattle.std.specs.Prelude.{◌≡◌, ◌^◌, ◌<◌, List, [], ◌∷◌, ◌++◌, length, OnOk, IfErr, true, false};
-    ghost use Rattle.isotp_receive.specs.declared.TheConstants.{MESSAGE_LIMIT};
-    ghost use Rattle.isotp_receive.specs.EventSeen.{seen_event};
-    ghost use Rattle.isotp_receive.specs.Trace.{Entry};
-    ghost use Rattle.isotp_receive.specs.Verdict.{verdict};
-    ghost use Rattle.trace_run.specs.proving.Carrying.{Tells, StopsTelling, WroteTold};
-    ghost use Rattle.trace_log.specs.Feeding.{IsOfTaker};
-
-    /// Writes what is due, before more is read. Answers whether it could.
-    pub(crate) fn rest(&mut self, target: &mut W) -> bool
-        ensures well { result ≡ true → (start : W) (first : M) (T : List Entry)
-            → Tells (M.stands first) W.Target (M.script first) start T self.old.machine self.old.pending self.old.page.failed self.old.page.block target.old
-            → Tells (M.stands first) W.Target (M.script first) start T self.new.machine self.new.pending false [] target.new
-            × Tells (M.stands first) W.Target (M.script first) start T self.new.machine self.new.pending self.new.page.failed self.new.page.block target.new }
-        ensures wrong { result ≡ false → (start : W) (first : M) (T : List Entry)
-            → Tells (M.stands first) W.Target (M.script first) start T self.old.machine self.old.pending self.old.page.failed self.old.page.block target.old
-            → Tells (M.stands first) W.Target (M.script first) start T self.new.machine self.new.pending true [] target.new }
-        ensures sure { result ≡ true → (start : W) (first : M) (T : List Entry)
-            → Tells (M.stands first) W.Target (M.script first) start T self.old.machine self.old.pending self.old.page.failed self.old.page.block target.old
-            → WroteTold W.Target (M.script first) start T self.new.page.failed self.new.page.block target.new }
-        ensures kept { (start : W) (first : M) (earlier : List Entry) → WroteTold W.Target (M.script first) start earlier self.old.page.failed self.old.page.block target.old
-            → WroteTold W.Target (M.script first) start earlier self.new.page.failed self.new.page.block target.new }
-    {
-        settle(target, &mut self.page)
-    }
-
-    /// Takes what the next frame of the trace did: one of this line, time and direction.
-    #[inline(always)]
-    pub(crate) fn take(
-        &mut self,
-        target: &mut W,
-        line: u64,
-        micros: u64,
-        dir: Dir,
-        event: Event<'_>,
-    ) -> Result<(), Fault>
-        ensures fault { IfErr result IsOfTaker }
-        ensures ok { OnOk result ((start : W) (first : M) (T : List Entry) (e : Entry) → e.line ≡ line → e.micros ≡ micros → e.dir ≡ dir → length T < 2 ^ 62
-            → seen_event event.entry ≡ verdict MESSAGE_LIMIT T e
-            → Tells (M.stands first) W.Target (M.script first) start T self.old.machine self.old.pending self.old.page.failed self.old.page.block target.old
-            → Tells (M.stands first) W.Target (M.script first) start (T ++ e ∷ []) self.new.machine self.new.pending self.new.page.failed self.new.page.block target.new) }
-        ensures err { IfErr result (λ fault. (start : W) (first : M) (T : List Entry) (e : Entry) → e.line ≡ line → e.micros ≡ micros → e.dir ≡ dir → length T < 2 ^ 62
-            → seen_event event.entry ≡ verdict MESSAGE_LIMIT T e
-            → Tells (M.stands first) W.Target (M.script first) start T self.old.machine self.old.pending self.old.page.failed self.old.page.block target.old
-            → StopsTelling W.Target (M.script first) (M.needs first) start T e fault self.new.page.failed self.new.page.block target.new) }
-        ensures kept { (start : W) (first : M) (T earlier : List Entry) (e : Entry) → e.line ≡ line → e.micros ≡ micros → e.dir ≡ dir → length T < 2 ^ 62
-            → seen_event event.entry ≡ verdict MESSAGE_LIMIT T e
-            → Tells (M.stands first) W.Target (M.script first) start T self.old.machine self.old.pending self.old.page.failed self.old.page.block target.old
-            → WroteTold W.Target (M.script first) start earlier self.old.page.failed self.old.page.block target.old
-            → WroteTold W.Target (M.script first) start earlier self.new.page.failed self.new.page.block target.new }
-    {
-        self.pending.take(dir, event.verdict);
-        match refusal(self.machine.is_strict(), event.verdict) {
-            Some(announced) => Err(Fault::Oversize { line, announced }),
-            None => match tell(
-                &mut self.machine,
-                target,
-                &mut self.page,
-                line,
-                micros,
-                dir,
-                event,
-            ) {
-                Ok(()) => Ok(()),
-                Err(_refused) => Err(Fault::Memory),
-            },
-        }
-    }
-}
-
-/// The length that a frame announced, where a run stops for that.
-#[inline(always)]
-fn refusal(strict: bool, verdict: Verdict<'_>) -> Option<u32>
-    ensures { result ≡ stops_for strict (seen_verdict verdict.entry) }
-{
-    if !strict {
-        return None;
-    }
-    match verdict {
-        Verdict::Dropped(reason) => announced(reason),
-        Verdict::Message(_) | Verdict::Began | Verdict::Stored | Verdict::Flow => None,
-    }
-}
-
-/// The length that a dropped frame announced, where it was dropped for that.
-fn announced(reason: Reason) -> Option<u32>
-    ensures { result ≡ announced_by reason }
-{
-    match reason {
-        Reason::TooLong { announced } => Some(announced),
-        Reason::Pdu(_)
-        | Reason::FlowUnexpected
-        | Reason::NextUnexpected
-        | Reason::NextLate
-        | Reason::NextSequence { .. }
-        | Reason::NextLength => None,
-    }
-}
-
-/// Has the machine say what it says of an event.
-#[inline(always)]
-fn tell<M: Machine, W: Target>(
-    machine: &mut M,
-    target: &mut W,
-    page: &mut Page,
-    line: u64,
-    micros: u64,
-    dir: Dir,
-    event: Event<'_>,
-) -> Result<(), AllocError>
-    ensures ok { OnOk result ((start : M) (T : List Entry) (e : Entry) → e.line ≡ line → e.micros ≡ micros → e.dir ≡ dir → length T < 2 ^ 62
-        → seen_event event.entry ≡ verdict MESSAGE_LIMIT T e → M.stands start T machine.old
-        → M.stands start (T ++ e ∷ []) machine.new
-        × Speaks W.Target page.old.failed page.old.block target.old ((M.script start).word T e) page.new.failed page.new.block target.new) }
-    ensures err { OnErr result ((start : M) (T : List Entry) → M.stands start T machine.old
-        → Speaks W.Target page.old.failed page.old.block target.old [] page.new.failed page.new.block target.new) }
-    ensures needs { OnErr result ((start : M) (T : List Entry) (e : Entry) → e.dir ≡ dir → seen_event event.entry ≡ verdict MESSAGE_LIMIT T e
-        → M.stands start T machine.old → M.needs start T e) }
-{
-    let mut out = Drain { target, page };
-    match machine.event(line, micros, dir, event, &mut out) {
-        Ok(()) => Ok(()),
-        Err(refused) => Err(refused),
     }
 }
 
@@ -333,7 +175,7 @@ fn finish<M: Machine, W: Target>(
 ) -> Result<M::Answer, Fault>
     ensures ends { (start : W) (first : M) (settings : Settings) (log : List ℕ) (meanings : List (Option StampedValue))
         → Receives settings meanings receiver.pair receiver.lines receiver.counts → ended ≡ ends_in_line_feed log
-        → Tells (M.stands first) W.Target (M.script first) start (trace settings meanings) receiver.taker.machine receiver.taker.pending
+        → Tells (M.stands first) W.Target (M.script first) start (trace settings meanings) receiver.taker.machine receiver.taker.judge
         receiver.taker.page.failed receiver.taker.page.block target.old
         → EndsTelling W.Target (M.script first) (M.answers first) start settings log meanings result target.new }
     ensures more { (mid : W) (said : List ℕ) (first : M) (settings : Settings) (meanings : List (Option StampedValue))
@@ -349,11 +191,11 @@ fn finish<M: Machine, W: Target>(
     } = receiver;
     let Telling {
         machine,
-        pending,
+        judge,
         mut page,
         ..
     } = taker;
-    let summary = sum_up(&pair, lines, counts, pending.count, ended);
+    let summary = sum_up(&pair, lines, counts, judge.removed, ended);
     let answer = tell_end(machine, target, &mut page, &pair, &summary);
     if !settle(target, &mut page) {
         return Err(Fault::Write);

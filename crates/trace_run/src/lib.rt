@@ -18,12 +18,12 @@ mod driver;
 mod machine;
 mod nowhere;
 mod page;
-mod pending;
 mod printer;
 mod receiver;
 mod summing;
+mod telling;
 
 pub use driver::{run, run_lenient};
-pub use machine::{Machine, Stop};
+pub use machine::{Machine, Seen, Stop};
 pub use nowhere::Nowhere;
 pub use printer::{Printable, print};

@@ -1,11 +1,10 @@
 //! A command as a machine: what it says of each frame of a log, and at the end.
-ghost use Rattle.std.specs.Prelude.{◌≡◌, ◌^◌, ◌<◌, List, [], ◌∷◌, ◌++◌, length, OnOk, OnErr, Result};
+ghost use Rattle.std.specs.Prelude.{◌≡◌, List, [], ◌∷◌, ◌++◌, OnOk, OnErr, Result};
 ghost use Rattle.isotp_receive.specs.declared.TheConstants.{MESSAGE_LIMIT};
 ghost use Rattle.isotp_receive.specs.Capacities.{KeepsWithin};
-ghost use Rattle.isotp_receive.specs.EventSeen.{seen_event};
 ghost use Rattle.isotp_receive.specs.StandingReception.{receptions_after};
 ghost use Rattle.isotp_receive.specs.Trace.{Entry};
-ghost use Rattle.isotp_receive.specs.Verdict.{verdict};
+ghost use Rattle.trace_run.specs.Seen.{IsSeen};
 ghost use Rattle.trace_run.specs.Told.{Script};
 ghost use Rattle.trace_run.specs.declared.machine.Stop.{Stop as StopValue};
 ghost use Rattle.trace_log.specs.declared.summary.Summary.{Summary as SummaryValue};
@@ -15,6 +14,7 @@ use isotp_receive::{Event, Pair};
 use std::alloc::AllocError;
 use trace_io::TextSink;
 use trace_log::{Fault, Summary};
+use uds_exchange::Judged;
 
 /// Why a machine has no answer at the end of a log.
 #[derive(Clone, Copy, Debug)]
@@ -23,7 +23,20 @@ pub enum Stop {
     OutputLimit,
 }
 
-/// A command's machine. It is handed what each frame did, in order, and the end or why the log is refused, and says its
+/// What a frame did.
+#[derive(Clone, Copy, Debug)]
+pub struct Seen<'a> {
+    /// Its line, from 1 on.
+    pub line: u64,
+    /// Its time in microseconds.
+    pub micros: u64,
+    pub dir: Dir,
+    pub event: Event<'a>,
+    /// The message that it completed, if it completed one, with what becomes of it.
+    pub message: Option<Judged<'a>>,
+}
+
+/// A command's machine. It is handed what each frame did ([`Seen`]), in order, and the end or why the log is refused, and says its
 /// text. It sees no source and no target.
 pub trait Machine {
     /// What it answers at the end.
@@ -45,22 +58,12 @@ pub trait Machine {
     fn is_strict(&self) -> bool
         ensures { (start : Self) (T : List Entry) → stands start T self.now → result ≡ (script start).strict };
 
-    /// Takes what the next frame of the trace did: its line, from 1 on, its time in microseconds, and its direction. Where
-    /// memory is refused, nothing is said.
-    fn event<S: TextSink>(
-        &mut self,
-        line: u64,
-        micros: u64,
-        dir: Dir,
-        event: Event<'_>,
-        out: &mut S,
-    ) -> Result<(), AllocError>
-        ensures ok { OnOk result ((start : Self) (T : List Entry) (e : Entry) → e.line ≡ line → e.micros ≡ micros → e.dir ≡ dir → length T < 2 ^ 62
-            → seen_event event.entry ≡ verdict MESSAGE_LIMIT T e → stands start T self.old
+    /// Takes what the next frame of the trace did. Where memory is refused, nothing is said.
+    fn event<S: TextSink>(&mut self, seen: Seen<'_>, out: &mut S) -> Result<(), AllocError>
+        ensures ok { OnOk result ((start : Self) (T : List Entry) (e : Entry) → IsSeen T e seen.entry → stands start T self.old
             → stands start (T ++ e ∷ []) self.new × S.says out.old ((script start).word T e) out.new) }
-        ensures err { OnErr result ((start : Self) (T : List Entry) → stands start T self.old → S.says out.old [] out.new) }
-        ensures needs { OnErr result ((start : Self) (T : List Entry) (e : Entry) → e.dir ≡ dir → seen_event event.entry ≡ verdict MESSAGE_LIMIT T e
-            → stands start T self.old → needs start T e) };
+        ensures err { OnErr result ((start : Self) (T : List Entry) (e : Entry) → IsSeen T e seen.entry → stands start T self.old
+            → needs start T e × S.says out.old [] out.new) };
 
     /// Takes the end of the log: the receptions that stand, in no more memory than they may keep, and the counts.
     fn end<S: TextSink>(

@@ -113,8 +113,8 @@ fn put_whole_anew<W: Target>(target: &mut W, page: &mut Page, text: &[u8])
     put_text(target, page, text);
 }
 
-/// Puts three texts on the page, one after another. Each is laid where it is to lie, so that no bytes are read soon after
-/// they were written in pieces of another length: such a read waits for the writes.
+/// Puts three texts on the page, one after another. Each is laid where it is to lie: put together first, they would be read
+/// by covering loads.
 #[inline(always)]
 fn put_three<W: Target>(target: &mut W, page: &mut Page, first: &[u8], second: &[u8], third: &[u8])
     ensures { Speaks W.Target page.old.failed page.old.block target.old (first.now ++ second.now ++ third.now)

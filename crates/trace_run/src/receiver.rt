@@ -8,12 +8,13 @@ ghost use Rattle.isotp_receive.specs.EventSeen.{seen_event};
 ghost use Rattle.isotp_receive.specs.StandingReception.{receptions_after};
 ghost use Rattle.isotp_receive.specs.Trace.{Entry};
 ghost use Rattle.isotp_receive.specs.Verdict.{verdict};
-ghost use Rattle.trace_run.specs.proving.Carrying.{Tells, StopsTelling, WroteTold};
+ghost use Rattle.trace_run.specs.Seen.{IsEventOf};
+ghost use Rattle.trace_run.specs.proving.Telling.{TellsFrame};
 ghost use Rattle.trace_log.specs.Summing.{counted_more};
 ghost use Rattle.trace_log.specs.Feeding.{IsOfTaker};
 
-use crate::driver::Telling;
 use crate::machine::Machine;
+use crate::telling::Telling;
 use can_log::{Frame, Stamped, Wanted};
 use direction::Dir;
 use isotp_receive::{Event, Pair, Verdict};
@@ -38,18 +39,8 @@ fn receive<M: Machine, W: Target>(
     ensures grew { OnOk result (CapacitiesGrow MESSAGE_LIMIT dir (layout_of frame.now) pair.old pair.new) }
     ensures counts { OnOk result ((T : List Entry) → pair.old.receptions ≡ receptions_after MESSAGE_LIMIT T
         → counts.new ≡ counted_more dir (verdict MESSAGE_LIMIT T (record { line = line; micros = micros; dir = dir; frame = frame.now })) counts.old) }
-    ensures ok { OnOk result ((start : W) (first : M) (T : List Entry) → pair.old.receptions ≡ receptions_after MESSAGE_LIMIT T → length T < 2 ^ 62
-        → Tells (M.stands first) W.Target (M.script first) start T taker.old.machine taker.old.pending taker.old.page.failed taker.old.page.block target.old
-        → Tells (M.stands first) W.Target (M.script first) start (T ++ record { line = line; micros = micros; dir = dir; frame = frame.now } ∷ [])
-        taker.new.machine taker.new.pending taker.new.page.failed taker.new.page.block target.new) }
-    ensures err { IfErr result (λ fault. (start : W) (first : M) (T : List Entry) → pair.old.receptions ≡ receptions_after MESSAGE_LIMIT T → length T < 2 ^ 62
-        → Tells (M.stands first) W.Target (M.script first) start T taker.old.machine taker.old.pending taker.old.page.failed taker.old.page.block target.old
-        → StopsTelling W.Target (M.script first) (M.needs first) start T (record { line = line; micros = micros; dir = dir; frame = frame.now }) fault
-        taker.new.page.failed taker.new.page.block target.new) }
-    ensures kept { (start : W) (first : M) (T earlier : List Entry) → pair.old.receptions ≡ receptions_after MESSAGE_LIMIT T → length T < 2 ^ 62
-        → Tells (M.stands first) W.Target (M.script first) start T taker.old.machine taker.old.pending taker.old.page.failed taker.old.page.block target.old
-        → WroteTold W.Target (M.script first) start earlier taker.old.page.failed taker.old.page.block target.old
-        → WroteTold W.Target (M.script first) start earlier taker.new.page.failed taker.new.page.block target.new }
+    ensures told { (T : List Entry) → pair.old.receptions ≡ receptions_after MESSAGE_LIMIT T → length T < 2 ^ 62
+        → TellsFrame M.stands M.script M.needs W.Target T (record { line = line; micros = micros; dir = dir; frame = frame.now }) taker.old target.old result taker.new target.new }
 {
     match pair.accept(line, micros, dir, frame) {
         Ok(event) => hand_on(counts, taker, target, line, micros, dir, event),
@@ -58,7 +49,7 @@ fn receive<M: Machine, W: Target>(
 }
 
 /// Counts what a frame did, and hands it on. Most frames complete a message or are stored for one. They go ways of their own: there
-/// the verdict is known when it is compiled, so that no reason is put in memory and read again.
+/// the verdict is known when it is compiled, so that no reason is stored and read by a covering load.
 #[inline(always)]
 fn hand_on<M: Machine, W: Target>(
     counts: &mut Summary,
@@ -71,19 +62,8 @@ fn hand_on<M: Machine, W: Target>(
 ) -> Result<(), Fault>
     ensures fault { IfErr result IsOfTaker }
     ensures counts { counts.new ≡ counted_more dir (seen_event event.entry) counts.old }
-    ensures ok { OnOk result ((start : W) (first : M) (T : List Entry) (e : Entry) → e.line ≡ line → e.micros ≡ micros → e.dir ≡ dir → length T < 2 ^ 62
-        → seen_event event.entry ≡ verdict MESSAGE_LIMIT T e
-        → Tells (M.stands first) W.Target (M.script first) start T taker.old.machine taker.old.pending taker.old.page.failed taker.old.page.block target.old
-        → Tells (M.stands first) W.Target (M.script first) start (T ++ e ∷ []) taker.new.machine taker.new.pending taker.new.page.failed taker.new.page.block target.new) }
-    ensures err { IfErr result (λ fault. (start : W) (first : M) (T : List Entry) (e : Entry) → e.line ≡ line → e.micros ≡ micros → e.dir ≡ dir → length T < 2 ^ 62
-        → seen_event event.entry ≡ verdict MESSAGE_LIMIT T e
-        → Tells (M.stands first) W.Target (M.script first) start T taker.old.machine taker.old.pending taker.old.page.failed taker.old.page.block target.old
-        → StopsTelling W.Target (M.script first) (M.needs first) start T e fault taker.new.page.failed taker.new.page.block target.new) }
-    ensures kept { (start : W) (first : M) (T earlier : List Entry) (e : Entry) → e.line ≡ line → e.micros ≡ micros → e.dir ≡ dir → length T < 2 ^ 62
-        → seen_event event.entry ≡ verdict MESSAGE_LIMIT T e
-        → Tells (M.stands first) W.Target (M.script first) start T taker.old.machine taker.old.pending taker.old.page.failed taker.old.page.block target.old
-        → WroteTold W.Target (M.script first) start earlier taker.old.page.failed taker.old.page.block target.old
-        → WroteTold W.Target (M.script first) start earlier taker.new.page.failed taker.new.page.block target.new }
+    ensures told { (T : List Entry) (e : Entry) → IsEventOf T e line micros dir event.entry
+        → TellsFrame M.stands M.script M.needs W.Target T e taker.old target.old result taker.new target.new }
 {
     let ended = event.ended;
     match event.verdict {
@@ -116,19 +96,8 @@ fn hand_on_seen<M: Machine, W: Target>(
 ) -> Result<(), Fault>
     ensures fault { IfErr result IsOfTaker }
     ensures counts { counts.new ≡ counted_more dir (seen_event event.entry) counts.old }
-    ensures ok { OnOk result ((start : W) (first : M) (T : List Entry) (e : Entry) → e.line ≡ line → e.micros ≡ micros → e.dir ≡ dir → length T < 2 ^ 62
-        → seen_event event.entry ≡ verdict MESSAGE_LIMIT T e
-        → Tells (M.stands first) W.Target (M.script first) start T taker.old.machine taker.old.pending taker.old.page.failed taker.old.page.block target.old
-        → Tells (M.stands first) W.Target (M.script first) start (T ++ e ∷ []) taker.new.machine taker.new.pending taker.new.page.failed taker.new.page.block target.new) }
-    ensures err { IfErr result (λ fault. (start : W) (first : M) (T : List Entry) (e : Entry) → e.line ≡ line → e.micros ≡ micros → e.dir ≡ dir → length T < 2 ^ 62
-        → seen_event event.entry ≡ verdict MESSAGE_LIMIT T e
-        → Tells (M.stands first) W.Target (M.script first) start T taker.old.machine taker.old.pending taker.old.page.failed taker.old.page.block target.old
-        → StopsTelling W.Target (M.script first) (M.needs first) start T e fault taker.new.page.failed taker.new.page.block target.new) }
-    ensures kept { (start : W) (first : M) (T earlier : List Entry) (e : Entry) → e.line ≡ line → e.micros ≡ micros → e.dir ≡ dir → length T < 2 ^ 62
-        → seen_event event.entry ≡ verdict MESSAGE_LIMIT T e
-        → Tells (M.stands first) W.Target (M.script first) start T taker.old.machine taker.old.pending taker.old.page.failed taker.old.page.block target.old
-        → WroteTold W.Target (M.script first) start earlier taker.old.page.failed taker.old.page.block target.old
-        → WroteTold W.Target (M.script first) start earlier taker.new.page.failed taker.new.page.block target.new }
+    ensures told { (T : List Entry) (e : Entry) → IsEventOf T e line micros dir event.entry
+        → TellsFrame M.stands M.script M.needs W.Target T e taker.old target.old result taker.new target.new }
 {
     counts.count(dir, event);
     taker.take(target, line, micros, dir, event)
@@ -179,25 +148,25 @@ impl<M: Machine, W: Target> LineTaker for Receiver<M, W> {
 
     ghost took = { λ s meanings t. (t.0.config ≡ s.0.config)
         × (IsStart s.0.pair s.0.lines s.0.counts
-        → Receives s.0.config meanings t.0.pair t.0.lines t.0.counts × (IsTellingStart (M.stands s.0.taker.machine [] s.0.taker.machine) s.0.taker.pending s.0.taker.page.failed s.0.taker.page.block → W.failures s.1 ≤ 2 ^ 62
-        → Tells (M.stands s.0.taker.machine) W.Target (M.script s.0.taker.machine) s.1 (trace s.0.config meanings) t.0.taker.machine t.0.taker.pending t.0.taker.page.failed t.0.taker.page.block t.1)) };
+        → Receives s.0.config meanings t.0.pair t.0.lines t.0.counts × (IsTellingStart (M.stands s.0.taker.machine [] s.0.taker.machine) s.0.taker.judge s.0.taker.page.failed s.0.taker.page.block → W.failures s.1 ≤ 2 ^ 62
+        → Tells (M.stands s.0.taker.machine) W.Target (M.script s.0.taker.machine) s.1 (trace s.0.config meanings) t.0.taker.machine t.0.taker.judge t.0.taker.page.failed t.0.taker.page.block t.1)) };
 
     ghost rested = { λ s meanings t. (t.0.config ≡ s.0.config)
         × (IsStart s.0.pair s.0.lines s.0.counts
-        → Receives s.0.config meanings t.0.pair t.0.lines t.0.counts × (IsTellingStart (M.stands s.0.taker.machine [] s.0.taker.machine) s.0.taker.pending s.0.taker.page.failed s.0.taker.page.block → W.failures s.1 ≤ 2 ^ 62
-        → Tells (M.stands s.0.taker.machine) W.Target (M.script s.0.taker.machine) s.1 (trace s.0.config meanings) t.0.taker.machine t.0.taker.pending false [] t.1)) };
+        → Receives s.0.config meanings t.0.pair t.0.lines t.0.counts × (IsTellingStart (M.stands s.0.taker.machine [] s.0.taker.machine) s.0.taker.judge s.0.taker.page.failed s.0.taker.page.block → W.failures s.1 ≤ 2 ^ 62
+        → Tells (M.stands s.0.taker.machine) W.Target (M.script s.0.taker.machine) s.1 (trace s.0.config meanings) t.0.taker.machine t.0.taker.judge false [] t.1)) };
 
     ghost broke = { λ s meanings t. (t.0.config ≡ s.0.config)
         × (IsStart s.0.pair s.0.lines s.0.counts
-        → Receives s.0.config meanings t.0.pair t.0.lines t.0.counts × (IsTellingStart (M.stands s.0.taker.machine [] s.0.taker.machine) s.0.taker.pending s.0.taker.page.failed s.0.taker.page.block → W.failures s.1 ≤ 2 ^ 62
-        → Tells (M.stands s.0.taker.machine) W.Target (M.script s.0.taker.machine) s.1 (trace s.0.config meanings) t.0.taker.machine t.0.taker.pending true [] t.1)) };
+        → Receives s.0.config meanings t.0.pair t.0.lines t.0.counts × (IsTellingStart (M.stands s.0.taker.machine [] s.0.taker.machine) s.0.taker.judge s.0.taker.page.failed s.0.taker.page.block → W.failures s.1 ≤ 2 ^ 62
+        → Tells (M.stands s.0.taker.machine) W.Target (M.script s.0.taker.machine) s.1 (trace s.0.config meanings) t.0.taker.machine t.0.taker.judge true [] t.1)) };
 
     ghost stopped = { λ s meanings what fault t. IsStart s.0.pair s.0.lines s.0.counts
         → (stamped : StampedValue) × (d : DirValue) × (what ≡ Some stamped) × (Some d ≡ direction_of s.0.config stamped.frame.id)
-        × (IsTellingStart (M.stands s.0.taker.machine [] s.0.taker.machine) s.0.taker.pending s.0.taker.page.failed s.0.taker.page.block → W.failures s.1 ≤ 2 ^ 62
+        × (IsTellingStart (M.stands s.0.taker.machine [] s.0.taker.machine) s.0.taker.judge s.0.taker.page.failed s.0.taker.page.block → W.failures s.1 ≤ 2 ^ 62
         → StopsTelling W.Target (M.script s.0.taker.machine) (M.needs s.0.taker.machine) s.1 (trace s.0.config meanings) (entry_in meanings stamped d) fault t.0.taker.page.failed t.0.taker.page.block t.1) };
 
-    ghost sure = { λ s first t. IsStart s.0.pair s.0.lines s.0.counts → IsTellingStart (M.stands s.0.taker.machine [] s.0.taker.machine) s.0.taker.pending s.0.taker.page.failed s.0.taker.page.block → W.failures s.1 ≤ 2 ^ 62
+    ghost sure = { λ s first t. IsStart s.0.pair s.0.lines s.0.counts → IsTellingStart (M.stands s.0.taker.machine [] s.0.taker.machine) s.0.taker.judge s.0.taker.page.failed s.0.taker.page.block → W.failures s.1 ≤ 2 ^ 62
         → WroteTold W.Target (M.script s.0.taker.machine) s.1 (trace s.0.config first) t.0.taker.page.failed t.0.taker.page.block t.1 };
 
     ghost wants = { λ s first second. (first ≡ s.config.tester) × (second ≡ s.config.unit) };

@@ -9,9 +9,9 @@ use Rattle.direction.specs.declared.Dir.{Dir}
 use Rattle.direction.specs.declared.Dir.TheVariants.{Tester, Unit}
 use Rattle.uds_exchange.specs.Meaning.{ItemValue, exchange, stray}
 use Rattle.uds_message.specs.Message.{sid, is_negative_response, response_code, is_suppressing}
-use Rattle.trace_text.specs.declared.item_lines.ItemStyle.{ItemStyle}
-use Rattle.trace_text.specs.declared.item_lines.Numbering.{Numbering}
-use Rattle.trace_text.specs.declared.item_lines.Numbering.TheVariants.{Shown, Hidden}
+use Rattle.trace_text.specs.declared.item_style.ItemStyle.{ItemStyle}
+use Rattle.trace_text.specs.declared.item_style.Numbering.{Numbering}
+use Rattle.trace_text.specs.declared.item_style.Numbering.TheVariants.{Shown, Hidden}
 use Rattle.trace_text.specs.declared.notation.Notation.{Notation}
 use Rattle.trace_text.specs.declared.notation.Notation.TheVariants.{Text, Json}
 use Rattle.trace_text.specs.Json.{Value, string, object, Members, nothing, member, value_text}

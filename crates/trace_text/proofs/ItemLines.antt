@@ -7,8 +7,8 @@ use Rattle.direction.specs.declared.Dir.{Dir}
 use Rattle.uds_exchange.specs.Meaning.{ItemValue, exchange, stray}
 use Rattle.uds_message.specs.Message.{sid, is_negative_response, response_code}
 use Rattle.trace_text.specs.Words.{bytes_text, code_text, direction_text, service_text}
-use Rattle.trace_text.specs.declared.item_lines.ItemStyle.{ItemStyle}
-use Rattle.trace_text.specs.declared.item_lines.Numbering.TheVariants.{Hidden}
+use Rattle.trace_text.specs.declared.item_style.ItemStyle.{ItemStyle}
+use Rattle.trace_text.specs.declared.item_style.Numbering.TheVariants.{Hidden}
 use Rattle.trace_text.specs.declared.notation.Notation.{Notation}
 use Rattle.trace_text.specs.declared.notation.Notation.TheVariants.{Text, Json}
 use Rattle.trace_text.specs.Laws.{UnnumberedListsJoin}

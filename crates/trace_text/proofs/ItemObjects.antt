@@ -5,8 +5,8 @@ use Rattle.std.specs.Fmt.{decimal}
 use Rattle.uds_exchange.specs.Meaning.{ItemValue, exchange, stray}
 use Rattle.uds_message.specs.Message.{sid, is_negative_response, response_code, is_suppressing}
 use Rattle.direction.specs.declared.Dir.{Dir}
-use Rattle.trace_text.specs.declared.item_lines.Numbering.{Numbering}
-use Rattle.trace_text.specs.declared.item_lines.Numbering.TheVariants.{Shown, Hidden}
+use Rattle.trace_text.specs.declared.item_style.Numbering.{Numbering}
+use Rattle.trace_text.specs.declared.item_style.Numbering.TheVariants.{Shown, Hidden}
 use Rattle.trace_text.specs.Json.{Members, nothing, member, object, object_line, value_text}
 use Rattle.trace_text.specs.Json as json
 use Rattle.trace_text.specs.Words.{bytes_text, direction_text, service_text, code_text}

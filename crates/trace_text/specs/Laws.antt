@@ -7,8 +7,8 @@ use Rattle.uds_message.specs.Message.{is_suppressing}
 use Rattle.uds_exchange.specs.Meaning.{ItemValue, messages_of}
 use Rattle.trace_text.specs.Json.{nothing, member}
 use Rattle.trace_text.specs.Json as json
-use Rattle.trace_text.specs.declared.item_lines.ItemStyle.{ItemStyle}
-use Rattle.trace_text.specs.declared.item_lines.Numbering.TheVariants.{Hidden}
+use Rattle.trace_text.specs.declared.item_style.ItemStyle.{ItemStyle}
+use Rattle.trace_text.specs.declared.item_style.Numbering.TheVariants.{Hidden}
 use Rattle.trace_text.specs.declared.notation.Notation.{Notation}
 use Rattle.trace_text.specs.ListText.{outcome_text, outcome_members, list_text}
 

@@ -4,27 +4,12 @@ ghost use Rattle.uds_exchange.specs.ItemSeen.{item_value};
 ghost use Rattle.trace_text.specs.ListText.{answer_text, item_line, worded_line, item_text, list_text, number_text, outcome_line};
 
 use crate::item_objects::say_object_line;
+use crate::item_style::{ItemStyle, Numbering};
 use crate::notation::Notation;
 use crate::say::{say_bytes, say_code, say_direction, say_number, say_service, say_text};
 use trace_io::TextSink;
 use uds_exchange::{Item, Meaning};
 use uds_message::{is_negative_response, is_suppressing, response_code, sid};
-
-/// Whether the lines of items have numbers.
-#[derive(Clone, Copy, Debug, PartialEq, Eq)]
-pub enum Numbering {
-    /// Each begins with the number of its item, counted from 1.
-    Shown,
-    /// None does, so that a line is the same wherever its item stands.
-    Hidden,
-}
-
-/// How the lines of items are written.
-#[derive(Clone, Copy, Debug, PartialEq, Eq)]
-pub struct ItemStyle {
-    pub numbering: Numbering,
-    pub notation: Notation,
-}
 
 /// Says the line of each item, in order.
 pub fn say_items<S: TextSink>(meaning: &Meaning, style: ItemStyle, out: &mut S)

@@ -5,7 +5,7 @@ ghost use Rattle.trace_text.specs.Json.{object, object_line, value_text};
 ghost use Rattle.trace_text.specs.ListText.{item_object};
 ghost use Rattle.trace_text.specs.proving.OpenItems.{front_of_item, open_answer, open_item, open_object, open_outcome};
 
-use crate::item_lines::Numbering;
+use crate::item_style::Numbering;
 use crate::say::{say_bytes, say_code, say_direction, say_number, say_service, say_text};
 use trace_io::TextSink;
 use uds_exchange::Item;

@@ -8,6 +8,7 @@
 
 mod item_lines;
 mod item_objects;
+mod item_style;
 pub mod laws;
 pub mod names;
 mod notation;
@@ -16,8 +17,9 @@ mod remark;
 mod remark_objects;
 pub mod say;
 
-pub use item_lines::{ItemStyle, Numbering, say_item, say_items, say_worded};
+pub use item_lines::{say_item, say_items, say_worded};
 pub use item_objects::say_item_object;
+pub use item_style::{ItemStyle, Numbering};
 pub use notation::Notation;
 pub use parts::Part;
 pub use remark::{Remark, say_remark};

@@ -1,5 +1,5 @@
 -- What is decided as a meaning grows, and that a decider does just that.
-use Rattle.std.proofs.Common.{◌≡◌, ℕ, false, List, [], ◌∷◌, ◌++◌, map, Option, Some, None, refl, sym, ◌∙◌, ap, inl, inr, append_assoc}
+use Rattle.std.proofs.Common.{◌≡◌, ℕ, true, false, option_map, List, [], ◌∷◌, ◌++◌, map, Option, Some, None, refl, sym, ◌∙◌, ap, inl, inr, append_assoc}
 use Rattle.std.specs.Prelude.{slice_set}
 use Rattle.std.proofs.lemmas.List.{append-nil}
 use Rattle.std.proofs.lemmas.Bool.{cases_Bool}
@@ -11,11 +11,13 @@ use Rattle.uds_exchange.specs.Decider.{DeciderValue, decides_after, AreDecidedBy
 use Rattle.uds_exchange.specs.Laws.{open_with, DecidedThenUndecided, DecidedGrows, UndecidedMustWait}
 use Rattle.uds_exchange.specs.Meaning.{ItemValue, exchange, stray, stray_of, is_tester_request, is_answer_to, is_pending_reply_to, meaning, flattened}
 use Rattle.uds_exchange.specs.Order.{has_exchange, open_request_in, open_request, held_in, held, rejection_of}
-use Rattle.uds_exchange.specs.Orderer.{OrdererValue, stands_after}
-use Rattle.uds_exchange.specs.proving.Deciding.{step_in, items_by, keep_for, keep, Refuses}
+use Rattle.uds_exchange.specs.proving.Deciding.{step_in, items_for, items_by, keep_for, keep, Refuses}
+use Rattle.uds_message.specs.Message.{sid}
+use Rattle.uds_exchange.specs.Numbering.{step_after}
+use Rattle.uds_exchange.proofs.Kept.{not-request}
 use Rattle.uds_exchange.specs.WaitingExchange.{one_later, waiting}
 use Rattle.uds_exchange.specs.proving.Pairing.{join_by, join}
-use Rattle.uds_exchange.specs.proving.Steps.{advance_for}
+use Rattle.uds_exchange.specs.proving.Steps.{Standing, standing_after, stand_for}
 use Rattle.uds_exchange.specs.declared.step.Step.{Step}
 use Rattle.uds_exchange.specs.declared.step.Step.TheVariants as step
 use Rattle.uds_exchange.proofs.MustWait.{open-request-waits, open-request-behind, rejects}
@@ -151,7 +153,7 @@ request-kept (Some r) holds x =
       ]
     ]
 
-holds-same : (s : Step) (d : DeciderValue) (o : OrdererValue) (x : Message) → d.holds ≡ o.holds → (keep_for s d x).holds ≡ (advance_for s o x).holds
+holds-same : (s : Step) (d : DeciderValue) (o : Standing) (x : Message) → d.holds ≡ o.holds → (keep_for s d x).holds ≡ (stand_for s o x).holds
 holds-same (step.Request service) d o x is = refl
 holds-same step.Answer d o x is = refl
 holds-same step.Removed d o x is = is
@@ -159,7 +161,7 @@ holds-same step.Hold d o x is = ap (λ l. l ++ x ∷ []) is
 holds-same step.Pass d o x is = is
 
 holds-kept : (M : List Message) (x : Message) → (keep (decides_after M) x).holds ≡ held (M ++ x ∷ [])
-holds-kept M x = holds-same (step_in (decides_after M) x) (decides_after M) (stands_after M) x refl ∙ ap (λ (o : OrdererValue). o.holds) (stands-next M x)
+holds-kept M x = holds-same (step_in (decides_after M) x) (decides_after M) (standing_after M) x refl ∙ ap (λ (o : Standing). o.holds) (stands-next M x)
 
 -- it is where it stands after the longer list
 pub keeps-next : (M : List Message) (x : Message) → keep (decides_after M) x ≡ decides_after (M ++ x ∷ [])
@@ -168,11 +170,26 @@ keeps-next M x =
     let holds = holds-kept M x in
     (λ i. record { request = request i; holds = holds i })
 
+-- by the step that was found
+pub keeps-found : (M : List Message) (x : Message) (s : Step) (d : DeciderValue) → d ≡ decides_after M → s ≡ step_after M x → keep_for s d x ≡ decides_after (M ++ x ∷ [])
+keeps-found M x s d is step_is = (λ i. keep_for (step_is i) (is i) x) ∙ keeps-next M x
+
+pub decided-found : (M : List Message) (x : Message) (s : Step) (d : DeciderValue) → d ≡ decides_after M → s ≡ step_after M x → AreDecidedBy M x (items_for s d x)
+decided-found M x s d is step_is = decided-by M x (decides_after M) refl ∙ (λ i. decided M ++ items_for (sym step_is i) (sym is i) x)
+
+-- a step that begins an exchange is one of a request
+asks : (M : List Message) (x : Message) (service : ℕ) → step_after M x ≡ step.Request service → is_tester_request x ≡ true
+asks M x service is =
+    elim (cases_Bool (is_tester_request x)) [
+      | inl e ↦ e
+      | inr e ↦ absurd (not-request service (option_map sid (open_request M)) x (sym is ∙ rw e refl))
+    ]
+
 -- where memory is refused, the message is one that is kept
-pub refuses-kept : (M : List Message) (x : Message) (d : DeciderValue) → d ≡ decides_after M → Refuses d x → IsKept M x
-refuses-kept M x d is (inl asks) = inl asks
-refuses-kept M x d is (inr holds) =
-    inr (sym (holds-kept M x) ∙ ap (λ (s : DeciderValue). (keep s x).holds) (sym is) ∙ holds ∙ ap (λ (s : DeciderValue). s.holds ++ x ∷ []) is)
+pub refuses-kept : (M : List Message) (x : Message) (s : Step) (d : DeciderValue) → d ≡ decides_after M → s ≡ step_after M x → Refuses s d x → IsKept M x
+refuses-kept M x s d is step_is (inl begins) = inl (asks M x begins.0 (sym step_is ∙ begins.1))
+refuses-kept M x s d is step_is (inr holds) =
+    inr (sym (ap (λ (d : DeciderValue). d.holds) (keeps-found M x s d is step_is)) ∙ holds ∙ ap (λ (d : DeciderValue). d.holds ++ x ∷ []) is)
 
 -- ---- the laws
 

@@ -1,23 +1,27 @@
--- How many items there are with one more message, and so the numbers of items.
-use Rattle.std.proofs.Common.{◌≡◌, ℕ, ◌+◌, ◌<◌, ◌≤◌, ◌^◌, false, List, [], ◌∷◌, ◌++◌, length, Option, Some, None, arith, refl, sym, ◌∙◌, ap, inl, inr, length-append, zero, suc}
+-- How many items there are with one more message, and so the judge of items.
+use Rattle.std.proofs.Common.{◌≡◌, ℕ, ◌-◌, not, ◌&&◌, ◌+◌, ◌<◌, ◌≤◌, ◌^◌, false, List, [], ◌∷◌, ◌++◌, length, Option, Some, None, arith, refl, sym, ◌∙◌, ap, inl, inr, length-append, zero, suc, option_map}
 use Rattle.std.specs.Prelude.{slice_set}
 use Rattle.std.proofs.lemmas.Bool.{cases_Bool}
 use Rattle.direction.specs.Dir.{Message}
-use Rattle.uds_exchange.specs.Meaning.{ItemValue, exchange, stray, stray_of, is_tester_request, is_answer_to, is_pending_reply_to, meaning, flattened}
+use Rattle.direction.specs.declared.Dir.TheVariants as dir
+use Rattle.uds_message.specs.Message.{sid, is_request, is_final_for, is_pending_for}
+use Rattle.uds_exchange.specs.Laws.{removed_with}
+use Rattle.uds_exchange.specs.Meaning.{ItemValue, exchange, stray, stray_of, is_from_tester, is_tester_request, is_answer_to, is_pending_reply_to, meaning, flattened, removed_messages}
 use Rattle.uds_exchange.specs.Order.{has_exchange, held, held_in, early, open_request, open_request_in}
-use Rattle.uds_exchange.specs.Orderer.{OrdererValue, stands_after}
 use Rattle.uds_exchange.specs.WaitingExchange.{waiting, waiting_sid}
-use Rattle.uds_exchange.specs.proving.Pairing.{join_by, join}
+use Rattle.uds_exchange.specs.proving.Pairing.{join_for, join_by, join}
 use Rattle.uds_exchange.specs.OneMessage.{step_of}
-use Rattle.uds_exchange.specs.proving.Steps.{advance_for}
-use Rattle.uds_exchange.specs.Numbering.{step_after, number_by, number_after, items_with, CountsItems, advanced, number_in}
-use Rattle.uds_exchange.specs.declared.numbers.Numbers.{Numbers}
+use Rattle.uds_exchange.specs.proving.Steps.{Standing, standing_after, stand_for}
+use Rattle.uds_exchange.specs.Numbering.{step_after, number_by, number_after, items_with, waiting_number, waits_with, IsOpenSid, HasJudged, advanced, number_in}
+use Rattle.uds_exchange.specs.declared.judge.Judge.{Judge}
 use Rattle.uds_exchange.specs.declared.step.Step.{Step}
 use Rattle.uds_exchange.specs.declared.step.Step.TheVariants as step
+use Rattle.uds_exchange.proofs.Kept.{join-step}
 use Rattle.uds_exchange.proofs.Counts.{none-lost}
 use Rattle.uds_exchange.proofs.MustWait.{none-lost-in-order}
 use Rattle.uds_exchange.proofs.NextStep.{stands-is, stands-next}
 use Rattle.uds_exchange.proofs.OneMore.{meaning-append}
+use Rattle.uds_exchange.proofs.OpenRequestOfMore.{removed_go_on}
 use Rattle.uds_exchange.proofs.Waiting.{sid_of}
 
 set-length : (its : List ItemValue) (i : ℕ) (item : ItemValue) → length (slice_set its i item) ≡ length its
@@ -48,7 +52,12 @@ join-length its x =
     ]
 
 pub step-is : (M : List Message) (x : Message) → step_of (waiting_sid (meaning M)) x ≡ step_after M x
-step-is M x = ap (λ (o : OrdererValue). step_of o.open_sid x) (sym (stands-is M))
+step-is M x = ap (λ (o : Standing). step_of o.open_sid x) (sym (stands-is M))
+
+-- the items with one more message, by the step that was found
+pub joined-found : (M : List Message) (x : Message) (s : Step) (its : List ItemValue) → its ≡ meaning M → s ≡ step_after M x → join_for s (waiting its) its x ≡ meaning (M ++ x ∷ [])
+joined-found M x s its is step_is =
+    (λ i. join_for ((step_is ∙ sym (step-is M x)) i) (waiting (is i)) (is i) x) ∙ sym (join-step (meaning M) x) ∙ sym (meaning-append M x)
 
 pub items-next : (M : List Message) (x : Message) → length (meaning (M ++ x ∷ [])) ≡ items_with (step_after M x) (length (meaning M))
 items-next M x =
@@ -87,61 +96,151 @@ held_are_fewer M request waits = held-fewer (meaning M) request waits
 few-held : (M : List Message) → length (held M) ≤ length M
 few-held M = let both = length-append (early M) (held M) in let all = none-lost-in-order M in omega arith
 
-next-by : (s : Step) (M : List Message) (x : Message) (numbers : Numbers) → length M < 2 ^ 62 → CountsItems M numbers
-    → stands_after (M ++ x ∷ []) ≡ advance_for s (stands_after M) x → length (meaning (M ++ x ∷ [])) ≡ items_with s (length (meaning M))
-    → CountsItems (M ++ x ∷ []) (advanced s numbers)
-next-by (step.Request service) M x numbers few counts stands grown =
+-- how many messages a step leaves out
+abbrev left-out-by : Step → ℕ
+left-out-by (step.Request service) = 0
+left-out-by step.Answer = 0
+left-out-by step.Removed = 1
+left-out-by step.Hold = 0
+left-out-by step.Pass = 0
+
+left-out : (o : Option (List ℕ)) (x : Message) → length (removed_with o x) ≡ left-out-by (step_of (option_map sid o) x)
+left-out None (dir.Tester, bytes) = elim (cases_Bool (is_request bytes)) [ inl e ↦ rw e refl | inr e ↦ rw e refl ]
+left-out (Some request) (dir.Tester, bytes) = elim (cases_Bool (is_request bytes)) [ inl e ↦ rw e refl | inr e ↦ rw e refl ]
+left-out None (dir.Unit, bytes) = refl
+left-out (Some request) (dir.Unit, bytes) =
+    elim (cases_Bool (is_final_for (sid request) bytes)) [
+      | inl e ↦ rw e refl
+      | inr e ↦ elim (cases_Bool (is_pending_for (sid request) bytes)) [ inl q ↦ rw (e, q) refl | inr q ↦ rw (e, q) refl ]
+    ]
+
+removed-next : (M : List Message) (x : Message) → length (removed_messages (M ++ x ∷ [])) ≡ length (removed_messages M) + left-out-by (step_after M x)
+removed-next M x =
+    ap length (removed_go_on M x) ∙ length-append (removed_messages M) (removed_with (open_request M) x)
+    ∙ ap (λ n. length (removed_messages M) + n) (left-out (open_request M) x)
+
+few-removed : (M : List Message) → length (removed_messages M) ≤ length M
+few-removed M = let all = none-lost M in omega arith
+
+next-by : (s : Step) (M : List Message) (x : Message) (judge : Judge) → length M < 2 ^ 62 → HasJudged M judge
+    → standing_after (M ++ x ∷ []) ≡ stand_for s (standing_after M) x → length (meaning (M ++ x ∷ [])) ≡ items_with s (length (meaning M))
+    → length (removed_messages (M ++ x ∷ [])) ≡ length (removed_messages M) + left-out-by s
+    → HasJudged (M ++ x ∷ []) (advanced s judge)
+next-by (step.Request service) M x judge few counts stands grown gone =
     let few_items = few-items M in let is = counts.items in record {
-      waits = ap (λ (o : OrdererValue). o.open_sid) (sym stands);
+      waits = ap (λ (o : Standing). o.open_sid) (sym stands);
       items = omega arith;
-      held = ap (λ (o : OrdererValue). length o.holds) (sym stands);
+      held = ap (λ (o : Standing). length o.holds) (sym stands);
+      removed = omega (arith, counts.removed, gone);
     }
-next-by step.Answer M x numbers few counts stands grown =
+next-by step.Answer M x judge few counts stands grown gone =
     record {
-      waits = ap (λ (o : OrdererValue). o.open_sid) (sym stands);
+      waits = ap (λ (o : Standing). o.open_sid) (sym stands);
       items = counts.items ∙ sym grown;
-      held = ap (λ (o : OrdererValue). length o.holds) (sym stands);
+      held = ap (λ (o : Standing). length o.holds) (sym stands);
+      removed = omega (arith, counts.removed, gone);
     }
-next-by step.Removed M x numbers few counts stands grown =
-    record {
-      waits = counts.waits ∙ ap (λ (o : OrdererValue). o.open_sid) (sym stands);
+next-by step.Removed M x judge few counts stands grown gone =
+    let few_removed = few-removed M in let removed_were = counts.removed in record {
+      waits = counts.waits ∙ ap (λ (o : Standing). o.open_sid) (sym stands);
       items = counts.items ∙ sym grown;
-      held = counts.held ∙ ap (λ (o : OrdererValue). length o.holds) (sym stands);
+      held = counts.held ∙ ap (λ (o : Standing). length o.holds) (sym stands);
+      removed = omega arith;
     }
-next-by step.Hold M x numbers few counts stands grown =
+next-by step.Hold M x judge few counts stands grown gone =
     let few_items = few-items M in let few_held = few-held M in let items_were = counts.items in let held_were = counts.held in
-    let more = length-append (held M) (x ∷ []) in let now = ap (λ (o : OrdererValue). length o.holds) stands in record {
-      waits = counts.waits ∙ ap (λ (o : OrdererValue). o.open_sid) (sym stands);
+    let more = length-append (held M) (x ∷ []) in let now = ap (λ (o : Standing). length o.holds) stands in record {
+      waits = counts.waits ∙ ap (λ (o : Standing). o.open_sid) (sym stands);
       items = omega arith;
       held = omega arith;
+      removed = omega (arith, counts.removed, gone);
     }
-next-by step.Pass M x numbers few counts stands grown =
+next-by step.Pass M x judge few counts stands grown gone =
     let few_items = few-items M in let is = counts.items in record {
-      waits = counts.waits ∙ ap (λ (o : OrdererValue). o.open_sid) (sym stands);
+      waits = counts.waits ∙ ap (λ (o : Standing). o.open_sid) (sym stands);
       items = omega arith;
-      held = counts.held ∙ ap (λ (o : OrdererValue). length o.holds) (sym stands);
+      held = counts.held ∙ ap (λ (o : Standing). length o.holds) (sym stands);
+      removed = omega (arith, counts.removed, gone);
     }
 
 -- what is kept is advanced by one more message
-pub counts-next : (M : List Message) (x : Message) (numbers now : Numbers) (s : Step) → length M < 2 ^ 62 → CountsItems M numbers
-    → s ≡ step_of numbers.open_sid x → now ≡ advanced s numbers → CountsItems (M ++ x ∷ []) now
-counts-next M x numbers now s few counts s_is now_is =
+pub counts-next : (M : List Message) (x : Message) (judge now : Judge) (s : Step) → length M < 2 ^ 62 → HasJudged M judge
+    → s ≡ step_of judge.open_sid x → now ≡ advanced s judge → HasJudged (M ++ x ∷ []) now
+counts-next M x judge now s few counts s_is now_is =
     let found : s ≡ step_after M x = s_is ∙ ap (λ o. step_of o x) counts.waits in
-    rw (now_is, found) (next-by (step_after M x) M x numbers few counts (sym (stands-next M x)) (items-next M x))
+    rw (now_is, found) (next-by (step_after M x) M x judge few counts (sym (stands-next M x)) (items-next M x) (removed-next M x))
 
-number-by : (s : Step) (M : List Message) (numbers : Numbers) → length M < 2 ^ 62 → CountsItems M numbers → number_in s numbers ≡ number_by s M
-number-by (step.Request service) M numbers few counts = let few_items = few-items M in let is = counts.items in omega arith
-number-by step.Answer M numbers few counts = let items_are = counts.items in let held_are = counts.held in omega arith
-number-by step.Removed M numbers few counts = let items_are = counts.items in let held_are = counts.held in omega arith
-number-by step.Hold M numbers few counts = let few_items = few-items M in let is = counts.items in omega arith
-number-by step.Pass M numbers few counts = let few_items = few-items M in let is = counts.items in omega arith
+number-by : (s : Step) (M : List Message) (judge : Judge) → length M < 2 ^ 62 → HasJudged M judge → number_in s judge ≡ number_by s M
+number-by (step.Request service) M judge few counts = let few_items = few-items M in let is = counts.items in omega arith
+number-by step.Answer M judge few counts = let items_are = counts.items in let held_are = counts.held in omega arith
+number-by step.Removed M judge few counts = let items_are = counts.items in let held_are = counts.held in omega arith
+number-by step.Hold M judge few counts = let few_items = few-items M in let is = counts.items in omega arith
+number-by step.Pass M judge few counts = let few_items = few-items M in let is = counts.items in omega arith
 
 -- what becomes of it
-pub step-found : (M : List Message) (x : Message) (numbers : Numbers) (s : Step) → CountsItems M numbers → s ≡ step_of numbers.open_sid x → s ≡ step_after M x
-step-found M x numbers s counts s_is = s_is ∙ ap (λ o. step_of o x) counts.waits
+pub step-found : (M : List Message) (x : Message) (judge : Judge) (s : Step) → IsOpenSid M judge.open_sid → s ≡ step_of judge.open_sid x → s ≡ step_after M x
+step-found M x judge s waits s_is = s_is ∙ ap (λ o. step_of o x) waits
+
+-- which request waits then
+waits-by : (s : Step) (judge : Judge) (standing : Standing) (x : Message) → judge.open_sid ≡ standing.open_sid
+    → (advanced s judge).open_sid ≡ (stand_for s standing x).open_sid
+waits-by (step.Request service) judge standing x waits = refl
+waits-by step.Answer judge standing x waits = refl
+waits-by step.Removed judge standing x waits = waits
+waits-by step.Hold judge standing x waits = waits
+waits-by step.Pass judge standing x waits = waits
+
+pub waits-found : (M : List Message) (x : Message) (judge now : Judge) (s : Step) → IsOpenSid M judge.open_sid → s ≡ step_of judge.open_sid x
+    → now ≡ advanced s judge → IsOpenSid (M ++ x ∷ []) now.open_sid
+waits-found M x judge now s waits s_is now_is =
+    ap (λ (j : Judge). j.open_sid) now_is
+    ∙ waits-by s judge (standing_after M) x waits
+    ∙ ap (λ r. (stand_for r (standing_after M) x).open_sid) (step-found M x judge s waits s_is)
+    ∙ ap (λ (o : Standing). o.open_sid) (stands-next M x)
 
 -- and the number of its item
-pub number-found : (M : List Message) (x : Message) (numbers : Numbers) (s : Step) (number : ℕ) → length M < 2 ^ 62 → CountsItems M numbers
-    → s ≡ step_of numbers.open_sid x → number ≡ number_in s numbers → number ≡ number_after M x
-number-found M x numbers s number few counts s_is is =
-    is ∙ number-by s M numbers few counts ∙ ap (λ t. number_by t M) (step-found M x numbers s counts s_is)
+pub number-found : (M : List Message) (x : Message) (judge : Judge) (s : Step) (number : ℕ) → length M < 2 ^ 62 → HasJudged M judge
+    → s ≡ step_of judge.open_sid x → number ≡ number_in s judge → number ≡ number_after M x
+number-found M x judge s number few counts s_is is =
+    is ∙ number-by s M judge few counts ∙ ap (λ t. number_by t M) (step-found M x judge s counts.waits s_is)
+
+-- ---- the number of the exchange that waits
+
+abbrev number-of : Standing → ℕ → Option ℕ
+number-of standing items = option_map (λ service. items - length standing.holds) standing.open_sid
+
+-- where one waits no message passes by
+never-passes : (service : ℕ) (x : Message) → step_of (Some service) x ≡ step.Pass → ⊥
+never-passes service x is =
+    elim (cases_Bool (is_tester_request x)) [
+      | inl e ↦ (let no : step.Request (sid x.1) ≡ step.Pass = rw e at is in cc)
+      | inr e ↦ elim (cases_Bool (not (is_from_tester x.0) && is_final_for service x.1)) [
+        | inl f ↦ (let no : step.Answer ≡ step.Pass = rw (e, f) at is in cc)
+        | inr f ↦ elim (cases_Bool (not (is_from_tester x.0) && is_pending_for service x.1)) [
+          | inl q ↦ (let no : step.Removed ≡ step.Pass = rw (e, f, q) at is in cc)
+          | inr q ↦ (let no : step.Hold ≡ step.Pass = rw (e, f, q) at is in cc)
+        ]
+      ]
+    ]
+
+held-on : (o : Option ℕ) (items : ℕ) (holds : List Message) (x : Message)
+    → option_map (λ service. items + 1 - length (holds ++ x ∷ [])) o ≡ option_map (λ service. items - length holds) o
+held-on None items holds x = refl
+held-on (Some service) items holds x = let more = length-append holds (x ∷ []) in ap (λ n. Some n) (omega arith)
+
+passed-by : (o : Option ℕ) (items held_ones : ℕ) (x : Message) → step_of o x ≡ step.Pass
+    → option_map (λ service. items + 1 - held_ones) o ≡ option_map (λ service. items - held_ones) o
+passed-by None items held_ones x is = refl
+passed-by (Some service) items held_ones x is = absurd (never-passes service x is)
+
+number-by-step : (s : Step) (M : List Message) (x : Message) → step_after M x ≡ s
+    → number-of (stand_for s (standing_after M) x) (items_with s (length (meaning M))) ≡ waits_with s (number_by s M) (waiting_number M)
+number-by-step (step.Request service) M x is = ap (λ n. Some n) (omega arith)
+number-by-step step.Answer M x is = refl
+number-by-step step.Removed M x is = refl
+number-by-step step.Hold M x is = held-on (option_map sid (open_request M)) (length (meaning M)) (held M) x
+number-by-step step.Pass M x is = passed-by (option_map sid (open_request M)) (length (meaning M)) (length (held M)) x is
+
+pub waits-next : (M : List Message) (x : Message) → waiting_number (M ++ x ∷ []) ≡ waits_with (step_after M x) (number_after M x) (waiting_number M)
+waits-next M x =
+    (λ i. number-of (sym (stands-next M x) i) (items-next M x i)) ∙ number-by-step (step_after M x) M x refl

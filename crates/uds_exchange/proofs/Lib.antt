@@ -21,6 +21,7 @@ pub mod Putting
 pub mod NextStep
 pub mod PutIn
 pub mod ItemNumbers
+pub mod Fronts
 pub mod OpenRequestOfMore
 pub mod Deciding
 pub mod PuttingItems

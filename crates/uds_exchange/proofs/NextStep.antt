@@ -5,30 +5,33 @@ use Rattle.direction.specs.Dir.{Message}
 use Rattle.uds_message.specs.Message.{sid}
 use Rattle.uds_exchange.specs.Meaning.{ItemValue, is_tester_request, is_answer_to, is_pending_reply_to, meaning, flattened}
 use Rattle.uds_exchange.specs.Order.{held_in, held, early}
-use Rattle.uds_exchange.specs.Orderer.{OrdererValue, stands_after, IsDue, PutsDue, IsHeld, StopsDue}
+use Rattle.uds_exchange.specs.Orderer.{JudgedOrdererValue, orders_after, IsDue, PutsDue, IsHeld, StopsDue}
 use Rattle.uds_exchange.specs.WaitingExchange.{waiting, waiting_sid}
 use Rattle.uds_exchange.specs.proving.Pairing.{join_by, join}
 use Rattle.uds_exchange.specs.OneMessage.{step_of}
-use Rattle.uds_exchange.specs.proving.Steps.{due_for, due, advance_for, advance, Stops}
+use Rattle.uds_exchange.specs.proving.Steps.{Standing, standing_after, due_for, due, stand_for, advance_for, advance, Stops}
+use Rattle.uds_exchange.specs.Numbering.{step_after}
+use Rattle.uds_exchange.specs.declared.step.Step.{Step}
+use Rattle.uds_exchange.specs.declared.step.Step.TheVariants as step
 use Rattle.uds_exchange.specs.Sink.{AfterOk, AfterErr, Puts}
-use Rattle.uds_exchange.specs.declared.orderer.OrderFault.{OrderFault}
-use Rattle.uds_exchange.specs.declared.orderer.OrderFault.TheVariants as fault
+use Rattle.uds_exchange.specs.declared.order_fault.OrderFault.{OrderFault}
+use Rattle.uds_exchange.specs.declared.order_fault.OrderFault.TheVariants as fault
 use Rattle.uds_exchange.proofs.Waiting.{sid_of, waiting-stray, waiting-request, waiting-answered}
 use Rattle.uds_exchange.proofs.OneMore.{meaning-append}
 use Rattle.uds_exchange.proofs.Early.{early-then-held, due_by, due_in, early-append, early-request, early-stray, early-kept, early-answered, none-held}
 use Rattle.uds_exchange.proofs.Putting.{puts-append}
 use Rattle.uds_exchange.proofs.MustWait.{open-request-waits}
 
-abbrev standing : List ItemValue → OrdererValue
-standing its = record { has_failed = false; open_sid = waiting_sid its; holds = held_in its }
+abbrev standing : List ItemValue → Standing
+standing its = record { open_sid = waiting_sid its; holds = held_in its }
 
 sid-of-request : (w : Option (ℕ × List ℕ)) → option_map sid (option_map (λ w. w.1) w) ≡ sid_of w
 sid-of-request None = refl
 sid-of-request (Some w) = refl
 
-pub stands-is : (M : List Message) → stands_after M ≡ standing (meaning M)
+pub stands-is : (M : List Message) → standing_after M ≡ standing (meaning M)
 stands-is M =
-    ap (λ (o : Option ℕ). let s : OrdererValue = record { has_failed = false; open_sid = o; holds = held M } in s)
+    ap (λ (o : Option ℕ). let s : Standing = record { open_sid = o; holds = held M } in s)
     (ap (option_map sid) (open-request-waits (meaning M)) ∙ sid-of-request (waiting (meaning M)))
 
 due-by-same : (w : Option (ℕ × List ℕ)) (xs : List Message) (x : Message) → is_tester_request x ≡ false
@@ -45,7 +48,7 @@ due-same its x =
     elim (cases_Bool (is_tester_request x)) [ inl e ↦ rw e refl | inr e ↦ (due-by-same (waiting its) (held_in its) x e ∙ rw e refl) ]
 
 next-by : (its : List ItemValue) (x : Message) (w : Option (ℕ × List ℕ)) → is_tester_request x ≡ false → waiting its ≡ w
-    → standing (join_by w its x) ≡ advance_for (step_of (sid_of w) x) (standing its) x
+    → standing (join_by w its x) ≡ stand_for (step_of (sid_of w) x) (standing its) x
 next-by its x None r h = rw (r, waiting-stray its x.0 x.1, h, (early-stray its x.0 x.1 h).1, none-held its h) refl
 next-by its x (Some w) r h =
     elim (cases_Bool (is_answer_to w.1 x)) [
@@ -64,28 +67,58 @@ next-same its x =
     ]
 
 -- what an orderer does leads to where it stands after the longer list
-pub stands-next : (M : List Message) (x : Message) → advance (stands_after M) x ≡ stands_after (M ++ x ∷ [])
+pub stands-next : (M : List Message) (x : Message) → advance (standing_after M) x ≡ standing_after (M ++ x ∷ [])
 stands-next M x =
     ap (λ o. advance o x) (stands-is M)
     ∙ sym (next-same (meaning M) x)
     ∙ ap standing (sym (meaning-append M x))
     ∙ sym (stands-is (M ++ x ∷ []))
 
--- so what it holds with one more message is what is held after the longer list
-pub held-with : (M : List Message) (x : Message) (o : OrdererValue) → o ≡ stands_after M → (advance o x).holds ≡ o.holds ++ x ∷ [] → IsHeld M x
-held-with M x o is holds =
-    ap (λ (q : OrdererValue). q.holds) (sym (stands-next M x) ∙ ap (λ (q : OrdererValue). advance q x) (sym is))
-    ∙ holds ∙ ap (λ (q : OrdererValue). q.holds ++ x ∷ []) is
+-- an orderer holds the same, by the step alone
+holds-same : (s : Step) (o : JudgedOrdererValue) (p : Standing) (x : Message) → o.holds ≡ p.holds → (advance_for s o x).holds ≡ (stand_for s p x).holds
+holds-same (step.Request service) o p x is = refl
+holds-same step.Answer o p x is = refl
+holds-same step.Removed o p x is = is
+holds-same step.Hold o p x is = ap (λ l. l ++ x ∷ []) is
+holds-same step.Pass o p x is = is
 
-pub early-due : (M : List Message) (x : Message) → early (M ++ x ∷ []) ≡ early M ++ due (stands_after M) x
+well-still : (s : Step) (o : JudgedOrdererValue) (x : Message) → (advance_for s o x).has_failed ≡ o.has_failed
+well-still (step.Request service) o x = refl
+well-still step.Answer o x = refl
+well-still step.Removed o x = refl
+well-still step.Hold o x = refl
+well-still step.Pass o x = refl
+
+holds-next : (M : List Message) (x : Message) (s : Step) (o : JudgedOrdererValue) → o ≡ orders_after M → s ≡ step_after M x → (advance_for s o x).holds ≡ held (M ++ x ∷ [])
+holds-next M x s o is step_is =
+    ap (λ r. (advance_for r o x).holds) step_is
+    ∙ holds-same (step_after M x) o (standing_after M) x (ap (λ (q : JudgedOrdererValue). q.holds) is)
+    ∙ ap (λ (p : Standing). p.holds) (stands-next M x)
+
+-- so it is where it stands after the longer list
+pub ordered-next : (M : List Message) (x : Message) (s : Step) (o : JudgedOrdererValue) → o ≡ orders_after M → s ≡ step_after M x → advance_for s o x ≡ orders_after (M ++ x ∷ [])
+ordered-next M x s o is step_is =
+    let well = well-still s o x ∙ ap (λ (q : JudgedOrdererValue). q.has_failed) is in
+    let holds = holds-next M x s o is step_is in
+    (λ i. record { has_failed = well i; holds = holds i })
+
+-- and what it holds with one more message is what is held after the longer list
+pub held-with : (M : List Message) (x : Message) (s : Step) (o : JudgedOrdererValue) → o ≡ orders_after M → s ≡ step_after M x → (advance_for s o x).holds ≡ o.holds ++ x ∷ []
+    → IsHeld M x
+held-with M x s o is step_is holds =
+    sym (holds-next M x s o is step_is) ∙ holds ∙ ap (λ (q : JudgedOrdererValue). q.holds ++ x ∷ []) is
+
+pub early-due : (M : List Message) (x : Message) → early (M ++ x ∷ []) ≡ early M ++ due (standing_after M) x
 early-due M x = early-append M x ∙ ap (λ l. early M ++ l) (sym (due-same (meaning M) x) ∙ ap (λ o. due o x) (sym (stands-is M)))
 
-due-from : (M : List Message) (x : Message) (o : OrdererValue) → o ≡ stands_after M → IsDue M x (due o x)
-due-from M x o is = early-due M x ∙ ap (λ p. early M ++ due p x) (sym is)
+due-from : (M : List Message) (x : Message) (s : Step) (o : JudgedOrdererValue) → o ≡ orders_after M → s ≡ step_after M x → IsDue M x (due_for s o.holds x)
+due-from M x s o is step_is =
+    early-due M x ∙ (λ i. early M ++ due_for (sym step_is i) (sym (ap (λ (q : JudgedOrdererValue). q.holds) is) i) x)
 
 module _ {S E : Type 0} (after_ok : AfterOk S) (after_err : AfterErr S E) where
-  pub puts-due : (M : List Message) (x : Message) (o : OrdererValue) (s t : S) → o ≡ stands_after M → Puts after_ok s (due o x) t → PutsDue after_ok M x s t
-  puts-due M x o s t is h = (due o x, due-from M x o is, h)
+  pub puts-due : (M : List Message) (x : Message) (by : Step) (o : JudgedOrdererValue) (s t : S) → o ≡ orders_after M → by ≡ step_after M x
+      → Puts after_ok s (due_for by o.holds x) t → PutsDue after_ok M x s t
+  puts-due M x by o s t is step_is h = (due_for by o.holds x, due-from M x by o is step_is, h)
 
   pub puts-go-on : (s t u : S) (M : List Message) (x : Message) → Puts after_ok s (early M) t → PutsDue after_ok M x t u
       → Puts after_ok s (early (M ++ x ∷ [])) u
@@ -97,8 +130,8 @@ module _ {S E : Type 0} (after_ok : AfterOk S) (after_err : AfterErr S E) where
   puts-end s t u M h d =
       subst (λ (l : List Message). Puts after_ok s l u) (early-then-held M) (puts-append after_ok after_err s t u (early M) (held M) h d)
 
-  pub stops-due : (M : List Message) (x : Message) (o p : OrdererValue) (s t : S) (f : OrderFault E) → o ≡ stands_after M
-      → Stops after_ok after_err x o s p t f → StopsDue after_ok after_err M x s t f
-  stops-due M x o p s t fault.Memory is h = h.2
-  stops-due M x o p s t (fault.Sink e) is h = (due o x, due-from M x o is, h.2)
-  stops-due M x o p s t fault.Failed is h = absurd (false≢true (ap (λ q. q.has_failed) (sym is) ∙ h.0))
+  pub stops-due : (M : List Message) (x : Message) (by : Step) (o p : JudgedOrdererValue) (s t : S) (f : OrderFault E) → o ≡ orders_after M → by ≡ step_after M x
+      → Stops after_ok after_err by x o s p t f → StopsDue after_ok after_err M x s t f
+  stops-due M x by o p s t fault.Memory is step_is h = h.2
+  stops-due M x by o p s t (fault.Sink e) is step_is h = (due_for by o.holds x, due-from M x by o is step_is, h.2)
+  stops-due M x by o p s t fault.Failed is step_is h = absurd (false≢true (ap (λ q. q.has_failed) (sym is) ∙ h.0))

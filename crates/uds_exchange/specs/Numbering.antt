@@ -1,12 +1,13 @@
--- The numbers of items: to which item of the meaning one more message belongs, by the messages before it alone.
-use Rattle.std.specs.Prelude.{◌≡◌, ℕ, ◌+◌, ◌-◌, List, length, Some, None, option_map, min}
+-- The judge of items: to which item of the meaning one more message belongs, by the messages before it alone.
+use Rattle.std.specs.Prelude.{◌≡◌, ℕ, ◌+◌, ◌-◌, List, [], ◌∷◌, length, Option, Some, None, option_map, min}
 use Rattle.direction.specs.Dir.{Message}
 use Rattle.uds_message.specs.Message.{sid}
-use Rattle.uds_exchange.specs.Meaning.{meaning}
+use Rattle.uds_exchange.specs.Meaning.{meaning, removed_messages}
 use Rattle.uds_exchange.specs.Order.{open_request, held}
 use Rattle.uds_exchange.specs.Order as order
 use Rattle.uds_exchange.specs.OneMessage.{step_of}
-use Rattle.uds_exchange.specs.declared.numbers.Numbers.{Numbers}
+use Rattle.uds_exchange.specs.declared.judge.Judge.{Judge}
+use Rattle.uds_exchange.specs.declared.judge.Judged.{Judged}
 use Rattle.uds_exchange.specs.declared.step.Step.{Step}
 use Rattle.uds_exchange.specs.declared.step.Step.TheVariants as step
 
@@ -21,6 +22,18 @@ next_number M = length (meaning M) + 1
 -- the number of the exchange whose request is open: only the strays that are held come after it
 abbrev pub open_number : List Message → ℕ
 open_number M = length (meaning M) - length (held M)
+
+-- the number of the exchange that waits for its answer, if one does
+abbrev pub waiting_number : List Message → Option ℕ
+waiting_number M = option_map (λ service. open_number M) (option_map sid (open_request M))
+
+-- the number of the exchange that waits after a message of which this becomes, where its item has this number and that one waited
+abbrev pub waits_with : Step → ℕ → Option ℕ → Option ℕ
+waits_with (step.Request service) number waits = Some number
+waits_with step.Answer number waits = None
+waits_with step.Removed number waits = waits
+waits_with step.Hold number waits = waits
+waits_with step.Pass number waits = waits
 
 -- the number of the item of a message of which this becomes: a request or a stray is the next item, and an answer or a pending
 -- reply belongs to the open exchange
@@ -43,11 +56,30 @@ items_with step.Removed count = count
 items_with step.Hold count = count + 1
 items_with step.Pass count = count + 1
 
--- This is what is kept of these messages: which request waits, how many items there are, and how many strays are held.
-pub record CountsItems (M : List Message) (numbers : Numbers) : Type 0 where
-  pub waits : numbers.open_sid ≡ option_map sid (open_request M)
-  pub items : numbers.items ≡ length (meaning M)
-  pub held : numbers.held ≡ length (order.held M)
+-- This is the first byte of the request that waits after the messages M, if one does.
+abbrev pub IsOpenSid : List Message → Option ℕ → Type 0
+IsOpenSid M open_sid = open_sid ≡ option_map sid (open_request M)
+
+-- This is what is kept of these messages: which request waits, how many items there are, how many strays are held, and how
+-- many messages are left out.
+pub record HasJudged (M : List Message) (judge : Judge) : Type 0 where
+  pub waits : IsOpenSid M judge.open_sid
+  pub items : judge.items ≡ length (meaning M)
+  pub held : judge.held ≡ length (order.held M)
+  pub removed : judge.removed ≡ length (removed_messages M)
+
+-- a message that was judged, without where it lies in memory
+abbrev pub sent : Judged → Message
+sent judged = (judged.dir, judged.bytes.now)
+
+-- what becomes of it is right behind the messages M
+abbrev pub IsJudgedAfter : List Message → Judged → Type 0
+IsJudgedAfter M judged = judged.step ≡ step_after M (sent judged)
+
+-- what was judged of these messages behind M, of which there is one at the most
+abbrev pub IsJudgedOf : List Message → List Message → Option Judged → Type 0
+IsJudgedOf M told None = told ≡ []
+IsJudgedOf M told (Some judged) = (told ≡ sent judged ∷ []) × IsJudgedAfter M judged × (judged.item ≡ number_after M (sent judged))
 
 -- Devices of proof: what the code makes of it with one more message.
 
@@ -56,17 +88,17 @@ abbrev pub one_more : ℕ → ℕ
 one_more n = min (n + 1) 18446744073709551615
 
 -- what is kept, after a message of which this becomes
-abbrev pub advanced : Step → Numbers → Numbers
-advanced (step.Request service) numbers = record { open_sid = Some service; items = one_more numbers.items; held = 0 }
-advanced step.Answer numbers = record numbers { open_sid = None; held = 0 }
-advanced step.Removed numbers = numbers
-advanced step.Hold numbers = record numbers { items = one_more numbers.items; held = one_more numbers.held }
-advanced step.Pass numbers = record numbers { items = one_more numbers.items }
+abbrev pub advanced : Step → Judge → Judge
+advanced (step.Request service) judge = record judge { open_sid = Some service; items = one_more judge.items; held = 0 }
+advanced step.Answer judge = record judge { open_sid = None; held = 0 }
+advanced step.Removed judge = record judge { removed = one_more judge.removed }
+advanced step.Hold judge = record judge { items = one_more judge.items; held = one_more judge.held }
+advanced step.Pass judge = record judge { items = one_more judge.items }
 
 -- the number of its item
-abbrev pub number_in : Step → Numbers → ℕ
-number_in (step.Request service) numbers = one_more numbers.items
-number_in step.Answer numbers = numbers.items - numbers.held
-number_in step.Removed numbers = numbers.items - numbers.held
-number_in step.Hold numbers = one_more numbers.items
-number_in step.Pass numbers = one_more numbers.items
+abbrev pub number_in : Step → Judge → ℕ
+number_in (step.Request service) judge = one_more judge.items
+number_in step.Answer judge = judge.items - judge.held
+number_in step.Removed judge = judge.items - judge.held
+number_in step.Hold judge = one_more judge.items
+number_in step.Pass judge = one_more judge.items

@@ -2,8 +2,8 @@
 use Rattle.std.specs.Prelude.{◌≡◌, ℕ, Bool, false, List, [], ◌∷◌, ◌++◌, Option, option_map}
 use Rattle.direction.specs.Dir.{Message}
 use Rattle.uds_message.specs.Message.{sid}
-use Rattle.uds_exchange.specs.declared.orderer.OrderFault.{OrderFault}
-use Rattle.uds_exchange.specs.declared.orderer.OrderFault.TheVariants as fault
+use Rattle.uds_exchange.specs.declared.order_fault.OrderFault.{OrderFault}
+use Rattle.uds_exchange.specs.declared.order_fault.OrderFault.TheVariants as fault
 use Rattle.uds_exchange.specs.Order.{open_request, held, early}
 use Rattle.uds_exchange.specs.Sink.{AfterOk, AfterErr, Puts, Fails}
 
@@ -17,6 +17,15 @@ pub record OrdererValue : Type 0 where
 -- an orderer that stands after the messages M
 abbrev pub stands_after : List Message → OrdererValue
 stands_after M = record { has_failed = false; open_sid = option_map sid (open_request M); holds = held M }
+
+-- the same of an orderer that is told what becomes of each message: it knows of no request
+pub record JudgedOrdererValue : Type 0 where
+  pub has_failed : Bool
+  pub holds : List Message
+
+-- such a one that stands after the messages M
+abbrev pub orders_after : List Message → JudgedOrdererValue
+orders_after M = record { has_failed = false; holds = held M }
 
 -- these are the messages that one more message brings to their place
 abbrev pub IsDue : List Message → Message → List Message → Type 0

@@ -1,11 +1,8 @@
--- The exchange of a list of items that waits for its answer, and what becomes of a message behind them.
+-- The exchange of a list of items that waits for its answer.
 use Rattle.std.specs.Prelude.{ℕ, suc, List, [], ◌∷◌, Option, Some, None, option_map, if◌then◌else◌}
-use Rattle.direction.specs.Dir.{Message}
 use Rattle.uds_message.specs.Message.{sid}
 use Rattle.uds_exchange.specs.Meaning.{ItemValue, exchange, stray}
-use Rattle.uds_exchange.specs.OneMessage.{step_of}
 use Rattle.uds_exchange.specs.Order.{has_exchange}
-use Rattle.uds_exchange.specs.declared.step.Step.{Step}
 
 -- a place and a request, with one more item before it
 abbrev pub one_later : Option (ℕ × List ℕ) → Option (ℕ × List ℕ)
@@ -22,7 +19,3 @@ waiting (exchange request None ∷ later) = if has_exchange later then one_later
 -- the first byte of its request
 abbrev pub waiting_sid : List ItemValue → Option ℕ
 waiting_sid items = option_map (λ place. sid place.1) (waiting items)
-
--- what becomes of one more message
-abbrev pub step_by_items : List ItemValue → Message → Step
-step_by_items items message = step_of (waiting_sid items) message

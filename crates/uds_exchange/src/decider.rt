@@ -2,22 +2,22 @@
 
 ghost use Rattle.std.specs.Prelude.{◌≡◌, ◌++◌, ◌∷◌, [], List, OnOk, OnErr, IfOk, map, option_map};
 ghost use Rattle.direction.specs.Dir.{Message};
-ghost use Rattle.uds_message.specs.Message.{sid as sid_of};
 ghost use Rattle.uds_exchange.specs.Meaning.{stray_of};
 ghost use Rattle.uds_exchange.specs.Decided.{undecided, unanswered_items};
 ghost use Rattle.uds_exchange.specs.Decider.{decides_after, PutsDecided, IsKept};
 ghost use Rattle.uds_exchange.specs.ItemSink.{PutsItems};
-ghost use Rattle.uds_exchange.specs.proving.Deciding.{answered_items, items_by, keep, Refuses};
+ghost use Rattle.uds_exchange.specs.Numbering.{IsJudgedAfter, sent};
+ghost use Rattle.uds_exchange.specs.proving.Deciding.{answered_items, items_for, keep_for, Refuses};
 
 use crate::held::Held;
 use crate::item::Item;
 use crate::item_sink::ItemSink;
-use crate::sink::MessageSink;
-use crate::step::{Step, step_of};
+use crate::judge::Judged;
+use crate::sink::{MessageSink, NoFault};
+use crate::step::Step;
 use direction::Dir;
 use std::alloc::{AllocError, Global};
 use std::marker::Model;
-use uds_message::sid;
 
 /// Puts the items of a meaning in order into a sink, each as soon as nothing that follows can change it: an exchange when
 /// its answer comes or the next request does, and the strays after it then too. It keeps the open request, and the
@@ -54,22 +54,17 @@ impl Decider {
 
     /// Takes one more message, and puts all items that are now decided. Memory is taken for a request, and for a message
     /// that is held. After an `Err` nothing was put, the decider is unchanged, and the call may be made again.
-    pub fn take<S: ItemSink>(
-        &mut self,
-        dir: Dir,
-        message: &[u8],
-        sink: &mut S,
-    ) -> Result<(), AllocError>
-        ensures stands { OnOk result ((M : List Message) → self.old ≡ decides_after M
-            → self.new ≡ decides_after (M ++ (dir, message.now) ∷ [])) }
-        ensures puts { OnOk result ((M : List Message) → self.old ≡ decides_after M
-            → PutsDecided S.takes M (dir, message.now) sink.old sink.new) }
+    pub fn take<S: ItemSink>(&mut self, message: Judged<'_>, sink: &mut S) -> Result<(), AllocError>
+        ensures stands { OnOk result ((M : List Message) → self.old ≡ decides_after M → IsJudgedAfter M message.entry
+            → self.new ≡ decides_after (M ++ sent message.entry ∷ [])) }
+        ensures puts { OnOk result ((M : List Message) → self.old ≡ decides_after M → IsJudgedAfter M message.entry
+            → PutsDecided S.takes M (sent message.entry) sink.old sink.new) }
 
         ensures err { OnErr result (self.new ≡ self.old) }
         ensures unput { OnErr result (sink.new ≡ sink.old) }
-        ensures kept_only { OnErr result ((M : List Message) → self.old ≡ decides_after M → IsKept M (dir, message.now)) }
+        ensures kept_only { OnErr result ((M : List Message) → self.old ≡ decides_after M → IsJudgedAfter M message.entry → IsKept M (sent message.entry)) }
     {
-        self.advance(dir, message, sink)
+        self.advance(message, sink)
     }
 
     /// Puts what is left: the exchange of the open request, and the strays behind it. It takes no memory.
@@ -84,53 +79,36 @@ impl Decider {
         put_unanswered(&request, &held, sink);
     }
 
-    /// Takes one more message, by the open request and what is held alone.
-    fn advance<S: ItemSink>(
-        &mut self,
-        dir: Dir,
-        message: &[u8],
-        sink: &mut S,
-    ) -> Result<(), AllocError>
-        ensures now { OnOk result (self.new ≡ keep self.old (dir, message.now)) }
-        ensures puts { OnOk result (PutsItems S.takes sink.old (items_by self.old (dir, message.now)) sink.new) }
+    /// Takes one more message, by what becomes of it and what is kept alone.
+    fn advance<S: ItemSink>(&mut self, message: Judged<'_>, sink: &mut S) -> Result<(), AllocError>
+        ensures now { OnOk result (self.new ≡ keep_for message.entry.step self.old (sent message.entry)) }
+        ensures puts { OnOk result (PutsItems S.takes sink.old (items_for message.entry.step self.old (sent message.entry)) sink.new) }
         ensures err { OnErr result (self.new ≡ self.old) }
         ensures unput { OnErr result (sink.new ≡ sink.old) }
-        ensures kept { OnErr result (Refuses self.old (dir, message.now)) }
+        ensures kept { OnErr result (Refuses message.entry.step self.old (sent message.entry)) }
     {
-        match step_of(open_sid(&self.request), dir, message) {
+        let Judged { dir, bytes, .. } = message;
+        match message.step {
             Step::Request(_) => {
-                let request = copy(self.alloc, message)?;
+                let request = copy(self.alloc, bytes)?;
                 put_unanswered(&self.request, &self.held, sink);
                 self.request = Some(request);
                 self.held.clear();
                 Ok(())
             }
             Step::Answer => {
-                put_answered(&self.request, message, &self.held, sink);
+                put_answered(&self.request, bytes, &self.held, sink);
                 self.request = None;
                 self.held.clear();
                 Ok(())
             }
             Step::Removed => Ok(()),
-            Step::Hold => self.held.push(dir, message),
+            Step::Hold => self.held.push(dir, bytes),
             Step::Pass => {
-                sink.put(Item::Stray {
-                    dir,
-                    bytes: message,
-                });
+                sink.put(Item::Stray { dir, bytes });
                 Ok(())
             }
         }
-    }
-}
-
-/// The first byte of a request that waits, if one does.
-fn open_sid(request: &Option<Vec<u8>>) -> Option<u8>
-    ensures { result ≡ option_map sid_of (option_map (λ bytes. bytes.items) request.now) }
-{
-    match request {
-        Some(request) => Some(sid(request)),
-        None => None,
     }
 }
 
@@ -170,10 +148,6 @@ fn put_strays<S: ItemSink>(held: &Held, sink: &mut S)
         return;
     }
 }
-
-/// No fault: a sink of items takes all that is put.
-#[derive(Clone, Copy, Debug)]
-pub(crate) struct NoFault;
 
 /// Puts each message as a stray.
 #[derive(Drop)]

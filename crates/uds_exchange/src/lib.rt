@@ -3,7 +3,7 @@
 //! Requests, answers and pending replies are those of ISO 14229-1 (`uds_message`). A request's part of the messages
 //! runs to the next request. Its answer is the first message of the unit in that part that is final for it; the
 //! replies before the answer that are pending for it are left out. All else is a stray, and stays in order.
-//! [`Pairing`] takes the messages one by one and gives the list of items.
+//! [`Judge`] says of each message what becomes of it, and [`Pairing`] takes them one by one and gives the list of items.
 //!
 //! ```text
 //! tester 22 F1 90                exchange 22 F1 90 -> 62 F1 90 41
@@ -17,10 +17,13 @@ mod decider;
 mod held;
 mod item;
 mod item_sink;
+mod judge;
+mod judged_orderer;
+mod judged_pairing;
 pub mod laws;
 mod meaning;
 mod messages;
-mod numbers;
+mod order_fault;
 mod orderer;
 mod pairing;
 mod sink;
@@ -29,9 +32,12 @@ mod step;
 pub use decider::Decider;
 pub use item::Item;
 pub use item_sink::ItemSink;
+pub use judge::{Judge, Judged};
+pub use judged_orderer::JudgedOrderer;
+pub use judged_pairing::JudgedPairing;
 pub use meaning::Meaning;
-pub use numbers::Numbers;
-pub use orderer::{OrderFault, Orderer};
+pub use order_fault::OrderFault;
+pub use orderer::Orderer;
 pub use pairing::Pairing;
-pub use sink::MessageSink;
-pub use step::{Step, step_of};
+pub use sink::{MessageSink, NoFault};
+pub use step::Step;

@@ -102,6 +102,17 @@ impl Meaning {
         self.items.allocator()
     }
 
+    /// The place of the last exchange, or 0 where there is none.
+    pub(crate) fn last_exchange(&self) -> usize {
+        let mut last = 0;
+        for (place, item) in self.items.iter().enumerate() {
+            if let KeptItem::Exchange { .. } = item {
+                last = place;
+            }
+        }
+        last
+    }
+
     /// Keeps the exchange of a request that has no answer yet.
     pub(crate) fn push_request(&mut self, request: &[u8]) -> Result<(), AllocError>
         ensures ok { OnOk result (self.new ≡ self.old ++ exchange request.now None ∷ []) }

@@ -1,41 +1,27 @@
 //! Messages put into their order as soon as it is known.
 
-ghost use Rattle.std.specs.Prelude.{◌≡◌, ◌≢◌, ◌++◌, ◌∷◌, [], List, Option, true, false, length, OnOk, IfErr, sum_by};
+ghost use Rattle.std.specs.Prelude.{◌≡◌, ◌≢◌, ◌++◌, ◌∷◌, [], List, true, false, length, OnOk, IfErr, sum_by};
 ghost use Rattle.direction.specs.Dir.{Message};
 ghost use Rattle.uds_exchange.specs.Order.{held as held_after};
-ghost use Rattle.uds_exchange.specs.Sink.{Puts, Fails};
+ghost use Rattle.uds_exchange.specs.Sink.{Puts};
 ghost use Rattle.uds_exchange.specs.Orderer.{stands_after, PutsDue, IsHeld, StopsDue, StopsHeld};
-ghost use Rattle.uds_exchange.specs.proving.Steps as Spec;
-ghost use Rattle.uds_exchange.specs.proving.Steps.{due, due_for, Stops};
-ghost use Rattle.uds_exchange.specs.declared.orderer.OrderFault.TheVariants.{Memory, Sink, Failed};
+ghost use Rattle.uds_exchange.specs.declared.order_fault.OrderFault.TheVariants.{Memory, Sink, Failed};
 
-use crate::held::Held;
+use crate::judge::Judge;
+use crate::judged_orderer::JudgedOrderer;
+use crate::order_fault::OrderFault;
 use crate::sink::MessageSink;
-use crate::step::{Step, step_of};
 use direction::Dir;
 use std::alloc::Global;
+use std::fmt::{self, Debug, Formatter, Write};
 use std::marker::Model;
-
-/// Why an orderer did not take a message.
-#[derive(Debug, Drop, PartialEq, Eq)]
-pub enum OrderFault<E> {
-    /// Memory was refused. Nothing was put, and the orderer is unchanged: the call may be made again.
-    Memory,
-    /// The sink refused a message, after those that were due before it. From now on the orderer has failed.
-    Sink(E),
-    /// The sink refused a message in an earlier call. Nothing was put.
-    Failed,
-}
 
 /// Puts the messages of a meaning in order into a sink, each as soon as its place is known. After a request without
 /// answer that is when the answer comes, the next request, or the end: until then other messages are held.
-#[derive(Debug, Drop)]
+#[derive(Drop)]
 pub struct Orderer {
-    has_failed: bool,
-    /// The first byte of the last request, where that waits for its answer.
-    open_sid: Option<u8>,
-    /// What follows that request.
-    held: Held,
+    judge: Judge,
+    orderer: JudgedOrderer,
 }
 
 impl Model for Orderer {
@@ -43,7 +29,7 @@ impl Model for Orderer {
 
     ghost Value = { OrdererValue };
 
-    ghost view = { λ o. record { has_failed = o.has_failed; open_sid = o.open_sid; holds = o.held } };
+    ghost view = { λ o. record { has_failed = o.orderer.has_failed; open_sid = o.judge.open_sid; holds = o.orderer.holds } };
 }
 
 impl Orderer {
@@ -52,9 +38,8 @@ impl Orderer {
         ensures { result ≡ stands_after [] }
     {
         Orderer {
-            has_failed: false,
-            open_sid: None,
-            held: Held::new(alloc),
+            judge: Judge::new(),
+            orderer: JudgedOrderer::new(alloc),
         }
     }
 
@@ -63,7 +48,7 @@ impl Orderer {
     pub fn held(&self) -> u64
         ensures { result ≡ sum_by (λ x. length x.1) self.now.holds }
     {
-        self.held.total_len() as u64
+        self.orderer.held()
     }
 
     /// Takes one more message, and puts all whose place is now known. No memory is taken for a message that is put
@@ -90,7 +75,12 @@ impl Orderer {
         ensures failed_only { result ≡ Err Failed
             → (self.old.has_failed ≡ true) × (self.new ≡ self.old) × (sink.new ≡ sink.old) }
     {
-        self.advance(dir, message, sink)
+        let mut judge = self.judge;
+        if let Err(fault) = self.orderer.take(judge.take(dir, message), sink) {
+            return Err(fault);
+        }
+        self.judge = judge;
+        Ok(())
     }
 
     /// Puts what is held. It takes no memory.
@@ -104,97 +94,18 @@ impl Orderer {
         ensures failed { self.has_failed ≡ true → result ≡ Err Failed }
         ensures failed_only { result ≡ Err Failed → (self.has_failed ≡ true) × (sink.new ≡ sink.old) }
     {
-        if self.has_failed {
-            Err(OrderFault::Failed)
-        } else {
-            self.held.put_all(sink).map_err(OrderFault::Sink)
-        }
-    }
-
-    /// Takes one more message, by the open request and what is held alone.
-    fn advance<S: MessageSink>(
-        &mut self,
-        dir: Dir,
-        message: &[u8],
-        sink: &mut S,
-    ) -> Result<(), OrderFault<S::Fault>>
-        ensures ok { OnOk result ((self.old.has_failed ≡ false) × (self.new ≡ Spec.advance self.old (dir, message.now))
-            × Puts S.after_ok sink.old (due self.old (dir, message.now)) sink.new) }
-        ensures err { IfErr result (λ fault. Stops S.after_ok S.after_err (dir, message.now)
-            self.old sink.old self.new sink.new fault) }
-    {
-        if self.has_failed {
-            return Err(OrderFault::Failed);
-        }
-        let step = step_of(self.open_sid, dir, message);
-        if let Step::Hold = step {
-            return self.held.push(dir, message).map_err(|_| OrderFault::Memory);
-        }
-        if let Err(fault) = put_due(step, &self.held, dir, message, sink) {
-            self.has_failed = true;
-            return Err(OrderFault::Sink(fault));
-        }
-        match step {
-            Step::Request(sid) => {
-                self.held.clear();
-                self.open_sid = Some(sid);
-            }
-            Step::Answer => {
-                self.held.clear();
-                self.open_sid = None;
-            }
-            Step::Removed | Step::Hold | Step::Pass => {}
-        }
-        Ok(())
+        let Orderer { orderer, .. } = self;
+        orderer.finish(sink)
     }
 }
 
-/// Puts what has its place by this step with a message.
-fn put_due<S: MessageSink>(
-    step: Step,
-    held: &Held,
-    dir: Dir,
-    message: &[u8],
-    sink: &mut S,
-) -> Result<(), S::Fault>
-    ensures ok { OnOk result (Puts S.after_ok sink.old (due_for step held.now (dir, message.now)) sink.new) }
-    ensures err { IfErr result (λ e. Fails S.after_ok S.after_err sink.old
-        (due_for step held.now (dir, message.now)) e sink.new) }
-{
-    match step {
-        Step::Request(_) => put_behind(held, dir, message, sink),
-        Step::Answer => put_before(dir, message, held, sink),
-        Step::Removed | Step::Hold => Ok(()),
-        Step::Pass => sink.put(dir, message),
+/// As if it kept what follows the request that waits itself.
+impl Debug for Orderer {
+    fn fmt<W: Write>(&self, f: &mut Formatter<W>) -> fmt::Result {
+        f.debug_struct("Orderer")
+            .field("has_failed", &self.orderer.has_failed)
+            .field("open_sid", &self.judge.open_sid)
+            .field("held", &self.orderer.held)
+            .finish()
     }
-}
-
-/// Puts what is held, and then the message.
-fn put_behind<S: MessageSink>(
-    held: &Held,
-    dir: Dir,
-    message: &[u8],
-    sink: &mut S,
-) -> Result<(), S::Fault>
-    ensures ok { OnOk result (Puts S.after_ok sink.old (held.now ++ (dir, message.now) ∷ []) sink.new) }
-    ensures err { IfErr result (λ e. Fails S.after_ok S.after_err sink.old
-        (held.now ++ (dir, message.now) ∷ []) e sink.new) }
-{
-    held.put_all(sink)?;
-    sink.put(dir, message)
-}
-
-/// Puts the message, and then what is held.
-fn put_before<S: MessageSink>(
-    dir: Dir,
-    message: &[u8],
-    held: &Held,
-    sink: &mut S,
-) -> Result<(), S::Fault>
-    ensures ok { OnOk result (Puts S.after_ok sink.old ((dir, message.now) ∷ held.now) sink.new) }
-    ensures err { IfErr result (λ e. Fails S.after_ok S.after_err sink.old
-        ((dir, message.now) ∷ held.now) e sink.new) }
-{
-    sink.put(dir, message)?;
-    held.put_all(sink)
 }

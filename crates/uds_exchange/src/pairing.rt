@@ -3,12 +3,10 @@
 ghost use Rattle.std.specs.Prelude.{◌≡◌, ◌≢◌, ◌++◌, ◌∷◌, [], List, OnOk, OnErr};
 ghost use Rattle.direction.specs.Dir.{Message};
 ghost use Rattle.uds_exchange.specs.Meaning.{meaning};
-ghost use Rattle.uds_exchange.specs.Numbering.{step_after};
-ghost use Rattle.uds_exchange.specs.WaitingExchange.{step_by_items};
-ghost use Rattle.uds_exchange.specs.proving.Pairing as Spec;
 
+use crate::judge::Judge;
+use crate::judged_pairing::JudgedPairing;
 use crate::meaning::{Items, Meaning};
-use crate::step::{Step, step_of};
 use direction::Dir;
 use std::alloc::{AllocError, Global};
 use std::fmt::{self, Debug, Formatter, Write};
@@ -17,23 +15,20 @@ use std::marker::Model;
 /// What the messages so far mean. It stands after a list of messages: contracts see it as the meaning of that list.
 #[derive(Drop)]
 pub struct Pairing {
-    meaning: Meaning,
-    /// The first byte of the last request, where that waits for its answer.
-    open_sid: Option<u8>,
-    /// Where a request waits, the place of its exchange.
-    last: usize,
+    judge: Judge,
+    pairing: JudgedPairing,
 }
 
 impl Model for Pairing {
     ghost use Rattle.std.specs.Prelude.{List};
     ghost use Rattle.uds_exchange.specs.Meaning.{ItemValue};
-    ghost use Rattle.uds_exchange.specs.proving.Pairing.{IsWaitingAt};
+    ghost use Rattle.uds_exchange.specs.proving.Pairing.{AreOpenBy};
 
     ghost Value = { List ItemValue };
 
-    ghost view = { λ p. p.meaning };
+    ghost view = { λ p. p.pairing };
 
-    ghost invariant = { λ p. IsWaitingAt p.meaning p.open_sid p.last };
+    ghost invariant = { λ p. AreOpenBy p.pairing p.judge.open_sid };
 }
 
 impl Pairing {
@@ -42,18 +37,9 @@ impl Pairing {
         ensures { result ≡ meaning [] }
     {
         Pairing {
-            meaning: Meaning::new(alloc),
-            open_sid: None,
-            last: 0,
+            judge: Judge::new(),
+            pairing: JudgedPairing::new(alloc),
         }
-    }
-
-    /// What becomes of one more message.
-    pub fn step(&self, dir: Dir, message: &[u8]) -> Step
-        ensures after { (M : List Message) → self.now ≡ meaning M → result ≡ step_after M (dir, message.now) }
-        ensures value { result ≡ step_by_items self.now (dir, message.now) }
-    {
-        step_of(self.open_sid, dir, message)
     }
 
     /// Takes one more message. A reply that is left out is not copied. After an `Err` nothing has changed, and the call may be
@@ -65,67 +51,30 @@ impl Pairing {
         ensures changes { OnErr result ((M : List Message) → self.old ≡ meaning M
             → meaning (M ++ (dir, message.now) ∷ []) ≢ meaning M) }
     {
-        self.take_step(step_of(self.open_sid, dir, message), dir, message)
-    }
-
-    /// The same of a message of which it is known what becomes of it.
-    pub fn take_step(&mut self, step: Step, dir: Dir, message: &[u8]) -> Result<(), AllocError>
-        requires { step ≡ step_by_items self.old (dir, message.now) }
-        ensures ok { OnOk result ((M : List Message) → self.old ≡ meaning M
-            → self.new ≡ meaning (M ++ (dir, message.now) ∷ [])) }
-        ensures err { OnErr result (self.new ≡ self.old) }
-        ensures changes { OnErr result ((M : List Message) → self.old ≡ meaning M
-            → meaning (M ++ (dir, message.now) ∷ []) ≢ meaning M) }
-    {
-        self.join(step, dir, message)
+        let mut judge = self.judge;
+        self.pairing.take(judge.take(dir, message))?;
+        self.judge = judge;
+        Ok(())
     }
 
     /// The meaning of the messages that were taken. It takes no memory.
     pub fn finish(self) -> Meaning
         ensures { result ≡ self }
     {
-        let Pairing { meaning, .. } = self;
-        meaning
-    }
-
-    /// Takes one more message, by the items and the open request alone.
-    #[inline(always)]
-    fn join(&mut self, step: Step, dir: Dir, message: &[u8]) -> Result<(), AllocError>
-        requires { step ≡ step_by_items self.old (dir, message.now) }
-        ensures ok { OnOk result (self.new ≡ Spec.join self.old (dir, message.now)) }
-        ensures err { OnErr result (self.new ≡ self.old) }
-        ensures changes { OnErr result (Spec.join self.old (dir, message.now) ≢ self.old) }
-    {
-        match step {
-            Step::Request(sid) => {
-                let last = self.meaning.len();
-                self.meaning.push_request(message)?;
-                self.open_sid = Some(sid);
-                self.last = last;
-                Ok(())
-            }
-            Step::Answer => {
-                self.meaning.answer(self.last, message)?;
-                self.open_sid = None;
-                Ok(())
-            }
-            Step::Removed => Ok(()),
-            Step::Hold | Step::Pass => {
-                self.meaning.push_stray(dir, message)?;
-                Ok(())
-            }
-        }
+        let Pairing { pairing, .. } = self;
+        pairing.finish()
     }
 }
 
 /// As if it kept the items itself.
 impl Debug for Pairing {
     fn fmt<W: Write>(&self, f: &mut Formatter<W>) -> fmt::Result {
+        let meaning = self.pairing.so_far();
         f.debug_struct("Pairing")
-            .field("alloc", self.meaning.allocator())
-            .field("items", &Items { of: &self.meaning })
-            .field("open_sid", &self.open_sid)
-            .field("last", &self.last)
+            .field("alloc", meaning.allocator())
+            .field("items", &Items { of: meaning })
+            .field("open_sid", &self.judge.open_sid)
+            .field("last", &meaning.last_exchange())
             .finish()
     }
 }

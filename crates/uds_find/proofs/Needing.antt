@@ -1,5 +1,5 @@
 -- For which frames a finder needs memory: for the first credit of a pair, and for lines only where there is a credit.
-use Rattle.std.proofs.Common.{◌≡◌, ℕ, ◌<◌, true, List, [], ◌∷◌, ◌++◌, Some, length, length-append, zero, suc, Result, Ok, Err, sym, ◌∙◌, ap, arith, rules}
+use Rattle.std.proofs.Common.{◌≡◌, ℕ, ◌<◌, List, [], ◌∷◌, ◌++◌, Some, length, length-append, zero, suc, Result, Ok, Err, sym, ◌∙◌, ap, arith}
 use Rattle.std.proofs.lemmas.List.Sums.{count_by-le-length}
 use Rattle.std.specs.List.{cons_option}
 use Rattle.std.specs.Map.{lookup}

@@ -1,12 +1,12 @@
 -- What a frame says of a service, whatever its identifier: that it asks for the service, or that it answers it.
-use Rattle.std.specs.Prelude.{ℕ, ◌-◌, ◌==◌, Bool, true, List, [], ◌∷◌, Option, Some, None, Result, Ok, Err, if◌then◌else◌}
+use Rattle.std.specs.Prelude.{ℕ, ◌==◌, Bool, true, List, [], ◌∷◌, Option, Some, None, Result, Ok, Err, if◌then◌else◌}
 use Rattle.can_log.specs.Frame.{FrameValue}
 use Rattle.can_log.specs.declared.frame.Id.{Id}
 use Rattle.can_log.specs.declared.frame.Id.TheVariants as id
 use Rattle.isotp_pdu.specs.Layout.{Layout, single, first, consecutive, flow_control}
 use Rattle.isotp_pdu.specs.Reading.{layout_of}
 use Rattle.isotp_pdu.specs.declared.PduFault.{PduFault}
-use Rattle.uds_message.specs.Message.{is_keep_alive, is_response_sid}
+use Rattle.uds_message.specs.Message.{is_keep_alive, is_response_pending, is_response_sid, negative_response, service_answered}
 use Rattle.uds_find.specs.declared.mention.Mention.{Mention}
 use Rattle.uds_find.specs.declared.mention.Mention.TheVariants.{Asks, Answers}
 use lib.Dec.{leb}
@@ -15,13 +15,13 @@ use lib.Dec.{leb}
 abbrev pub mention_in_refusal : List ℕ → Option Mention
 mention_in_refusal [] = None
 mention_in_refusal (service ∷ []) = None
-mention_in_refusal (service ∷ code ∷ more) = if code == 0x78 then None else Some (Answers service)
+mention_in_refusal (service ∷ code ∷ more) = if is_response_pending code then None else Some (Answers service)
 
 -- what the first byte of a message and the bytes after it say
 abbrev pub mention_by_sid : List ℕ → Option Mention
 mention_by_sid [] = None
 mention_by_sid (sid ∷ rest) =
-    if sid == 0x7F then mention_in_refusal rest else if is_response_sid sid then Some (Answers (sid - 0x40)) else Some (Asks sid)
+    if sid == negative_response then mention_in_refusal rest else if is_response_sid sid then Some (Answers (service_answered sid)) else Some (Asks sid)
 
 -- what the bytes of a message in its first frame say; the keep-alive says nothing
 abbrev pub mention_in : List ℕ → Option Mention

@@ -119,22 +119,11 @@ fn credited_to(waiting: Option<Id>, unit: Id) -> Option<Pair>
     ensures { result ≡ Spec.credited_to waiting unit }
 {
     match waiting {
-        Some(tester) => if is_same(tester, unit) {
+        Some(tester) => if tester == unit {
             None
         } else {
             Some(Pair { tester, unit })
         },
         None => None,
-    }
-}
-
-/// Whether the two are one identifier.
-fn is_same(one: Id, other: Id) -> bool
-    ensures { result ≡ Spec.is_same one other }
-{
-    match (one, other) {
-        (Id::Std(one), Id::Std(other)) => one == other,
-        (Id::Ext(one), Id::Ext(other)) => one == other,
-        (Id::Std(_), Id::Ext(_)) | (Id::Ext(_), Id::Std(_)) => false,
     }
 }

@@ -5,7 +5,10 @@ ghost use Rattle.uds_find.specs.Mention as Spec;
 
 use can_log::{Frame, Id};
 use isotp_pdu::{Pdu, layout_of};
-use uds_message::is_response_sid;
+use uds_message::{
+    TesterKind, is_negative_response, is_response_pending, is_response_sid, service_answered,
+    tester_kind,
+};
 
 /// What the beginning of a message says of a service.
 #[derive(Clone, Copy, Debug)]
@@ -45,13 +48,23 @@ fn is_can_identifier(id: Id) -> bool
 fn mention_in(bytes: &[u8]) -> Option<Mention>
     ensures { result ≡ Spec.mention_in bytes.now }
 {
+    match tester_kind(bytes) {
+        TesterKind::KeepAlive => None,
+        TesterKind::Request | TesterKind::Other => mention_by_sid(bytes),
+    }
+}
+
+/// The same of a message that is no keep-alive.
+fn mention_by_sid(bytes: &[u8]) -> Option<Mention>
+    ensures { result ≡ Spec.mention_by_sid bytes.now }
+{
     match bytes {
-        [0x3E, 0x80] => None,
         [] => None,
-        [0x7F, rest @ ..] => mention_in_refusal(rest),
-        [sid, ..] => {
-            if is_response_sid(*sid) {
-                Some(Mention::Answers(*sid - 0x40))
+        [sid, rest @ ..] => {
+            if is_negative_response(bytes) {
+                mention_in_refusal(rest)
+            } else if is_response_sid(*sid) {
+                Some(Mention::Answers(service_answered(*sid)))
             } else {
                 Some(Mention::Asks(*sid))
             }
@@ -65,7 +78,7 @@ fn mention_in_refusal(rest: &[u8]) -> Option<Mention>
 {
     match rest {
         [service, code, ..] => {
-            if *code == 0x78 {
+            if is_response_pending(*code) {
                 None
             } else {
                 Some(Mention::Answers(*service))

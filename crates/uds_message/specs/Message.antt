@@ -1,5 +1,5 @@
 -- The message formats of ISO 14229-1, told apart by the bytes of a message alone. The empty message is none of them.
-use Rattle.std.specs.Prelude.{ℕ, ◌+◌, Bool, false, not, ◌&&◌, ◌||◌, List, [], ◌∷◌, ◌==◌, if◌then◌else◌}
+use Rattle.std.specs.Prelude.{ℕ, ◌+◌, ◌-◌, Bool, false, not, ◌&&◌, ◌||◌, List, [], ◌∷◌, ◌==◌, if◌then◌else◌}
 use Rattle.std.specs.Int.{bit_at}
 use Rattle.uds_message.specs.declared.message.TesterKind.{TesterKind}
 use Rattle.uds_message.specs.declared.message.TesterKind.TheVariants.{Request, KeepAlive, Other}
@@ -43,6 +43,10 @@ is_request (first ∷ parameters) = not (is_response_sid first) && not (is_keep_
 abbrev pub is_positive : ℕ → List ℕ → Bool
 is_positive service [] = false
 is_positive service (first ∷ parameters) = first == service + 0x40 && not (first == negative_response)
+
+-- the service that a positive response with this identifier answers
+abbrev pub service_answered : ℕ → ℕ
+service_answered identifier = identifier - 0x40
 
 -- a negative response to the service, with a code that passes the test: 7F, the service, the code and no more
 abbrev pub is_negative : ℕ → (ℕ → Bool) → List ℕ → Bool

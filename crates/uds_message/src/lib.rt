@@ -17,7 +17,7 @@ mod message;
 mod names;
 
 pub use message::{
-    Answer, TesterKind, answer_to, is_negative_response, is_response_sid, is_suppressing,
-    response_code, sid, tester_kind,
+    Answer, TesterKind, answer_to, is_negative_response, is_response_pending, is_response_sid,
+    is_suppressing, response_code, service_answered, sid, tester_kind,
 };
 pub use names::{code_name, service_name};

@@ -123,6 +123,20 @@ pub fn is_suppressing(message: &[u8]) -> bool
     }
 }
 
+/// Whether a response code says that the answer is still to come.
+pub fn is_response_pending(code: u8) -> bool
+    ensures { result ≡ Spec.is_response_pending code }
+{
+    code == RESPONSE_PENDING
+}
+
+/// The service that a positive response with this identifier answers.
+pub fn service_answered(sid: u8) -> u8
+    ensures { result ≡ Spec.service_answered sid }
+{
+    sid.saturating_sub(POSITIVE_RESPONSE)
+}
+
 /// Whether bit 6 is set, which tells the identifiers of responses.
 pub fn is_response_sid(sid: u8) -> bool
     ensures { result ≡ Spec.is_response_sid sid }

@@ -6,9 +6,9 @@ use Rattle.clap.specs.ValueTests.{is_unsigned_in}
 use Rattle.clap.specs.Walk.{Row, Text, first_of, one_of}
 use Rattle.can_log.specs.declared.frame.Id.{Id}
 use Rattle.trace_canon.specs.declared.comparison_lines.ComparisonStyle.{ComparisonStyle}
-use Rattle.trace_text.specs.declared.item_lines.ItemStyle.{ItemStyle}
-use Rattle.trace_text.specs.declared.item_lines.Numbering.{Numbering}
-use Rattle.trace_text.specs.declared.item_lines.Numbering.TheVariants.{Shown, Hidden}
+use Rattle.trace_text.specs.declared.item_style.ItemStyle.{ItemStyle}
+use Rattle.trace_text.specs.declared.item_style.Numbering.{Numbering}
+use Rattle.trace_text.specs.declared.item_style.Numbering.TheVariants.{Shown, Hidden}
 use Rattle.trace_text.specs.declared.notation.Notation.{Notation}
 use Rattle.trace_text.specs.declared.notation.Notation.TheVariants as notation
 use Rattle.udsnorm.specs.Identifiers.{identifier_of}

@@ -5,9 +5,6 @@ use Rattle.direction.specs.declared.Dir.TheVariants.{Tester, Unit}
 use Rattle.isotp_receive.specs.declared.TheConstants.{MESSAGE_LIMIT}
 use Rattle.isotp_receive.specs.StandingReception.{StandingReception, stands}
 use Rattle.isotp_receive.specs.Trace.{Entry}
-use Rattle.isotp_receive.specs.Verdict.{messages}
-use Rattle.uds_exchange.specs.Numbering.{CountsItems}
-use Rattle.uds_exchange.specs.declared.numbers.Numbers.{Numbers}
 use Rattle.trace_canon.specs.declared.begun.Begun.{Begun}
 use Rattle.trace_canon.specs.declared.begun.FramePlace.{FramePlace}
 use Rattle.trace_text.specs.declared.notation.Notation.{Notation}
@@ -18,8 +15,7 @@ abbrev pub IsBegunAt : Dir → List Entry → Option FramePlace → Type 0
 IsBegunAt d T begun = (earlier : Entry) → begun ≡ option_map (λ (standing : StandingReception). place_of (last_start d earlier T)) (stands MESSAGE_LIMIT d T)
 
 -- This is what a machine that places messages in a notation keeps of the frames T.
-pub record PlacesMessages (notation : Notation) (T : List Entry) (kept : Notation) (numbers : Numbers) (begun : Begun) : Type 0 where
+pub record PlacesMessages (notation : Notation) (T : List Entry) (kept : Notation) (begun : Begun) : Type 0 where
   pub same : kept ≡ notation
-  pub counts : CountsItems (messages MESSAGE_LIMIT T) numbers
   pub tester : IsBegunAt Tester T begun.tester
   pub unit : IsBegunAt Unit T begun.unit

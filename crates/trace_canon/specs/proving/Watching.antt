@@ -8,7 +8,7 @@ use Rattle.uds_exchange.specs.Decider.{DeciderValue, decides_after, AreDecidedBy
 use Rattle.uds_exchange.specs.Meaning.{ItemValue}
 use Rattle.trace_text.specs.ListText.{list_text_from}
 use Rattle.trace_canon.specs.WatchScript.{decided_of}
-use Rattle.trace_text.specs.declared.item_lines.ItemStyle.{ItemStyle}
+use Rattle.trace_text.specs.declared.item_style.ItemStyle.{ItemStyle}
 
 -- the lines of these items were said, numbered from this number on, as far as numbers go
 abbrev pub SaysLines : {S : Type 0} → (S → List ℕ → S → Type 0) → ItemStyle → List ItemValue → ℕ → S → ℕ → S → Type 0

@@ -6,14 +6,14 @@ use Rattle.direction.specs.declared.Dir.TheVariants.{Tester, Unit}
 use Rattle.isotp_receive.specs.declared.TheConstants.{MESSAGE_LIMIT}
 use Rattle.isotp_receive.specs.StandingReception.{StandingReception, stands}
 use Rattle.isotp_receive.specs.Trace.{Entry, same_direction}
-use Rattle.isotp_receive.specs.Verdict.{VerdictValue, message, began, stored, flowed, dropped, messages}
-use Rattle.uds_exchange.specs.Numbering.{CountsItems, one_more, step_after}
+use Rattle.isotp_receive.specs.Verdict.{EventValue, VerdictValue, message, began, stored, flowed, dropped, messages}
+use Rattle.uds_exchange.specs.Numbering.{one_more, step_after, waiting_number}
 use Rattle.uds_exchange.specs.Order.{open_request}
 use Rattle.uds_message.specs.Message.{is_suppressing}
 use Rattle.trace_canon.specs.declared.begun.FramePlace.{FramePlace}
 use Rattle.trace_canon.specs.proving.Begun.{IsBegunAt}
 use Rattle.trace_report.specs.Blocks.{blocks_of}
-use Rattle.trace_report.specs.Events.{asked_in, is_request_step, rows_of}
+use Rattle.trace_report.specs.Events.{asked_in, is_request_step, is_there, rows_of}
 use Rattle.trace_report.specs.Front.{PageTitle}
 use Rattle.trace_report.specs.Page.{last_time}
 use Rattle.trace_report.specs.Rows.{RowValue}
@@ -67,9 +67,13 @@ pub record KnowsPlaces (T : List Entry) (places : Places) : Type 0 where
 abbrev pub IsSilent : List Message → Bool → Type 0
 IsSilent M silent = IfSome (open_request M) (λ (request : List ℕ). silent ≡ is_suppressing request)
 
--- This is known after these messages: the numbers of their items, when the last request was complete, and how it asked.
+-- the number of the exchange that waits after these messages, if one does
+abbrev pub IsWaiting : List Message → Option ℕ → Type 0
+IsWaiting M waits = waits ≡ waiting_number M
+
+-- This is known after these messages: which exchange waits, when the last request was complete, and how it asked.
 pub record KnowsMessages (M : List Message) (asked : ℕ) (follower : Follower) : Type 0 where
-  pub counts : CountsItems M follower.numbers
+  pub waits : IsWaiting M follower.waits
   pub silent : IsSilent M follower.silent
   pub asked_then : follower.asked ≡ asked
 
@@ -91,6 +95,18 @@ row_if (Some row) = row_of row ∷ []
 -- the rows of a frame, or of the end
 abbrev pub rows_in : NewRows → List RowValue
 rows_in rows = row_if rows.first ++ row_if rows.second ++ row_if rows.third
+
+-- the row of a frame here of which this became
+abbrev pub dropped_by : FramePlace → Dir → Bool → VerdictValue → List RowValue
+dropped_by here d named (message bytes) = []
+dropped_by here d named began = []
+dropped_by here d named stored = []
+dropped_by here d named flowed = []
+dropped_by here d named (dropped reason) = row.dropped here d named reason ∷ []
+
+-- the row of a frame here, if it was dropped
+abbrev pub dropped_rows : FramePlace → Dir → EventValue → List RowValue
+dropped_rows here d event = dropped_by here d (is_there event.ended) event.verdict
 
 -- the row of a reception that stands at the end, if one does
 abbrev pub unfinished_if : Dir → Option (ℕ × ℕ) → List RowValue

@@ -12,12 +12,12 @@ use Rattle.trace_io.specs.Written.{HasFront, IsWritten}
 use Rattle.trace_io.specs.declared.device.Target.{Ghosts}
 use Rattle.trace_log.specs.declared.fault.Fault.{Fault}
 use Rattle.trace_log.specs.declared.fault.Fault.TheVariants as fault
-use Rattle.trace_run.specs.declared.pending.Pending.{Pending}
 use Rattle.trace_run.specs.declared.receiver.Receiver.{Receiver}
 use Rattle.trace_run.specs.declared.machine.Stop.{Stop}
 use Rattle.trace_run.specs.declared.machine.Stop.TheVariants as stop
 use Rattle.trace_log.specs.Trace.{trace}
-use Rattle.trace_run.specs.proving.LeftOut.{CountsRemoved}
+use Rattle.uds_exchange.specs.Numbering.{HasJudged}
+use Rattle.uds_exchange.specs.declared.judge.Judge.{Judge}
 use Rattle.trace_log.specs.proving.Announcing.{AnnouncesWithin}
 use Rattle.trace_log.specs.proving.Receiving.{Receives}
 use Rattle.trace_log.specs.Needing.{IsKeptForMessage}
@@ -76,10 +76,10 @@ abbrev pub SaysNoMore : {W : Type 0} → Ghosts W → Bool → List ℕ → W �
 SaysNoMore {W = W} target failed held old failed_now held_now new =
     (start : W) (said : List ℕ) → Carries target start said failed held old → Carries target start said failed_now held_now new
 
--- A machine stands at its start, nothing was counted, and nothing is on the page.
-pub record IsTellingStart (Stands : Type 0) (pending : Pending) (failed : Bool) (held : List ℕ) : Type 0 where
+-- A machine stands at its start, no message was judged, and nothing is on the page.
+pub record IsTellingStart (Stands : Type 0) (judge : Judge) (failed : Bool) (held : List ℕ) : Type 0 where
   pub stands : Stands
-  pub removed : CountsRemoved [] pending
+  pub judged : HasJudged [] judge
   pub well : failed ≡ false
   pub blank : held ≡ []
 
@@ -90,8 +90,8 @@ stops_for false did = None
 
 -- The frames of the trace were told; of a strict script none announces a message above the limit.
 pub record Tells {M W : Type 0} (stands : List Entry → M → Type 0) (target : Ghosts W) (script : Script) (start : W) (T : List Entry)
-    (machine : M) (pending : Pending) (failed : Bool) (held : List ℕ) (now : W) : Type 0 where
-  pub removed : CountsRemoved (messages MESSAGE_LIMIT T) pending
+    (machine : M) (judge : Judge) (failed : Bool) (held : List ℕ) (now : W) : Type 0 where
+  pub judged : HasJudged (messages MESSAGE_LIMIT T) judge
   pub machine_stands : stands T machine
   pub within : script.strict ≡ true → AllByRecursion AnnouncesWithin T
   pub carried : Carries target start (told script.word T) failed held now
@@ -131,7 +131,7 @@ SettlesWith {W = W} text name target failed held old result new =
 abbrev pub RefusesTelling : {M W : Type 0} → (M → List Entry → M → Type 0) → (M → Script) → Ghosts W → Fault → Receiver M W → W → Fault → W → Type 0
 RefusesTelling {M = M} stands scripts target why receiver old result new =
     (first : M) (settings : Settings) (meanings : List (Option Stamped)) → Receives settings meanings receiver.pair receiver.lines receiver.counts
-    → CountsRemoved (messages MESSAGE_LIMIT (trace settings meanings)) receiver.taker.pending → stands first (trace settings meanings) receiver.taker.machine
+    → HasJudged (messages MESSAGE_LIMIT (trace settings meanings)) receiver.taker.judge → stands first (trace settings meanings) receiver.taker.machine
     → SettlesWith (refusal_of_lines (scripts first) MESSAGE_LIMIT settings why meanings) why target receiver.taker.page.failed receiver.taker.page.block old result new
 
 -- how a run ends on a fault, with what it has taken: that of a device stands as it is, and before others all that is

@@ -1,10 +1,10 @@
 -- Devices of proof: what a decider does with one more message.
-use Rattle.std.specs.Prelude.{◌≡◌, ◌⊎◌, ℕ, true, List, [], ◌∷◌, ◌++◌, map, Option, Some, None, option_map}
+use Rattle.std.specs.Prelude.{◌≡◌, ◌⊎◌, ℕ, List, [], ◌∷◌, ◌++◌, map, Option, Some, None, option_map}
 use Rattle.direction.specs.Dir.{Message}
 use Rattle.uds_message.specs.Message.{sid}
 use Rattle.uds_exchange.specs.Decided.{unanswered_items}
 use Rattle.uds_exchange.specs.Decider.{DeciderValue}
-use Rattle.uds_exchange.specs.Meaning.{ItemValue, exchange, stray_of, is_tester_request}
+use Rattle.uds_exchange.specs.Meaning.{ItemValue, exchange, stray_of}
 use Rattle.uds_exchange.specs.OneMessage.{step_of}
 use Rattle.uds_exchange.specs.declared.step.Step.{Step}
 use Rattle.uds_exchange.specs.declared.step.Step.TheVariants as step
@@ -42,6 +42,10 @@ keep_for step.Pass standing message = standing
 abbrev pub keep : DeciderValue → Message → DeciderValue
 keep standing message = keep_for (step_in standing message) standing message
 
+-- a message begins an exchange by this step
+abbrev pub Begins : Step → Type 0
+Begins became = (service : ℕ) × (became ≡ step.Request service)
+
 -- memory can be refused here: the message is a request, or would be held
-abbrev pub Refuses : DeciderValue → Message → Type 0
-Refuses standing message = (is_tester_request message ≡ true) ⊎ ((keep standing message).holds ≡ standing.holds ++ message ∷ [])
+abbrev pub Refuses : Step → DeciderValue → Message → Type 0
+Refuses became standing message = Begins became ⊎ ((keep_for became standing message).holds ≡ standing.holds ++ message ∷ [])

@@ -1,13 +1,30 @@
 -- Devices of proof: a meaning that grows by one message, and what the code keeps of it.
-use Rattle.std.specs.Prelude.{◌≡◌, ℕ, List, [], ◌∷◌, ◌++◌, Option, Some, None, if◌then◌else◌, slice_set}
+use Rattle.std.specs.Prelude.{◌≡◌, ℕ, List, [], ◌∷◌, ◌++◌, Option, Some, None, option_map, if◌then◌else◌, slice_set}
 use Rattle.direction.specs.Dir.{Message}
-use Rattle.uds_exchange.specs.Meaning.{ItemValue, exchange, stray_of, is_tester_request, is_answer_to, is_pending_reply_to}
-pub use Rattle.uds_exchange.specs.WaitingExchange.{one_later, waiting, waiting_sid}
+use Rattle.uds_exchange.specs.declared.step.Step.{Step}
+use Rattle.uds_exchange.specs.declared.step.Step.TheVariants as step
+use Rattle.uds_exchange.specs.Meaning.{ItemValue, exchange, stray_of, is_tester_request, is_answer_to, is_pending_reply_to, meaning}
+use Rattle.uds_exchange.specs.Numbering.{IsOpenSid}
+use Rattle.uds_exchange.specs.WaitingExchange.{waiting}
 
--- what the code keeps beside the items: the first byte of the open request, and the place of its exchange
-pub record IsWaitingAt (items : List ItemValue) (open_sid : Option ℕ) (last : ℕ) : Type 0 where
-  pub first_byte : waiting_sid items ≡ open_sid
-  pub place : (found : ℕ × List ℕ) → waiting items ≡ Some found → found.0 ≡ last
+-- what the code keeps beside the items: the place of the exchange that waits
+abbrev pub IsWaitingAt : List ItemValue → Option ℕ → Type 0
+IsWaitingAt items open_place = option_map (λ place. place.0) (waiting items) ≡ open_place
+
+-- these are the items of some messages, and this is the first byte of the request that waits after them
+pub record AreOpenBy (items : List ItemValue) (open_sid : Option ℕ) : Type 0 where
+  pub before : List Message
+  pub meant : items ≡ meaning before
+  pub waits : IsOpenSid before open_sid
+
+-- the items after this step with a message, where this exchange waits
+abbrev pub join_for : Step → Option (ℕ × List ℕ) → List ItemValue → Message → List ItemValue
+join_for (step.Request service) place items message = items ++ exchange message.1 None ∷ []
+join_for step.Answer None items message = items
+join_for step.Answer (Some place) items message = slice_set items place.0 (exchange place.1 (Some message.1))
+join_for step.Removed place items message = items
+join_for step.Hold place items message = items ++ stray_of message ∷ []
+join_for step.Pass place items message = items ++ stray_of message ∷ []
 
 -- the items after one more message that is no request, where this exchange waits
 abbrev pub join_by : Option (ℕ × List ℕ) → List ItemValue → Message → List ItemValue

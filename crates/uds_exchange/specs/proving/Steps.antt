@@ -1,13 +1,15 @@
 -- Devices of proof: what an orderer does with one more message.
-use Rattle.std.specs.Prelude.{List, [], ◌∷◌, ◌++◌, Some, None, ◌≡◌, true, false}
+use Rattle.std.specs.Prelude.{ℕ, List, [], ◌∷◌, ◌++◌, Option, Some, None, option_map, ◌≡◌, true, false}
 use Rattle.direction.specs.Dir.{Message}
 use Rattle.uds_exchange.specs.declared.step.Step.{Step}
 use Rattle.uds_exchange.specs.declared.step.Step.TheVariants as step
-use Rattle.uds_exchange.specs.declared.orderer.OrderFault.{OrderFault}
-use Rattle.uds_exchange.specs.declared.orderer.OrderFault.TheVariants as fault
+use Rattle.uds_exchange.specs.declared.order_fault.OrderFault.{OrderFault}
+use Rattle.uds_exchange.specs.declared.order_fault.OrderFault.TheVariants as fault
+use Rattle.uds_message.specs.Message.{sid}
+use Rattle.uds_exchange.specs.Order.{open_request, held}
 use Rattle.uds_exchange.specs.OneMessage.{step_of}
 use Rattle.uds_exchange.specs.Sink.{AfterOk, AfterErr, Fails}
-use Rattle.uds_exchange.specs.Orderer.{OrdererValue}
+use Rattle.uds_exchange.specs.Orderer.{JudgedOrdererValue}
 
 -- the messages that have their place by this step with a message, where these are held
 abbrev pub due_for : Step → List Message → Message → List Message
@@ -17,26 +19,43 @@ due_for step.Removed holds message = []
 due_for step.Hold holds message = []
 due_for step.Pass holds message = message ∷ []
 
--- what is due with one more message
-abbrev pub due : OrdererValue → Message → List Message
-due standing message = due_for (step_of standing.open_sid message) standing.holds message
-
 -- what the orderer is after this step
-abbrev pub advance_for : Step → OrdererValue → Message → OrdererValue
-advance_for (step.Request service) standing message = record standing { open_sid = Some service; holds = [] }
-advance_for step.Answer standing message = record standing { open_sid = None; holds = [] }
+abbrev pub advance_for : Step → JudgedOrdererValue → Message → JudgedOrdererValue
+advance_for (step.Request service) standing message = record standing { holds = [] }
+advance_for step.Answer standing message = record standing { holds = [] }
 advance_for step.Removed standing message = standing
 advance_for step.Hold standing message = record standing { holds = standing.holds ++ message ∷ [] }
 advance_for step.Pass standing message = standing
 
--- what the orderer is after one more message
-abbrev pub advance : OrdererValue → Message → OrdererValue
-advance standing message = advance_for (step_of standing.open_sid message) standing message
+-- what a fault leaves, at this step with a message; memory is refused only where the message would be held
+abbrev pub Stops : {Sink Fault : Type 0} → AfterOk Sink → AfterErr Sink Fault → Step → Message → JudgedOrdererValue → Sink → JudgedOrdererValue → Sink → OrderFault Fault → Type 0
+Stops after_ok after_err step message old before new after fault.Memory =
+    (old.has_failed ≡ false) × (new ≡ old) × (after ≡ before) × ((advance_for step old message).holds ≡ old.holds ++ message ∷ [])
+Stops after_ok after_err step message old before new after (fault.Sink why) =
+    (old.has_failed ≡ false) × (new.has_failed ≡ true) × Fails after_ok after_err before (due_for step old.holds message) why after
+Stops after_ok after_err step message old before new after fault.Failed = (old.has_failed ≡ true) × (new ≡ old) × (after ≡ before)
 
--- what a fault leaves, at this message; memory is refused only where the message would be held
-abbrev pub Stops : {Sink Fault : Type 0} → AfterOk Sink → AfterErr Sink Fault → Message → OrdererValue → Sink → OrdererValue → Sink → OrderFault Fault → Type 0
-Stops after_ok after_err message old before new after fault.Memory =
-    (old.has_failed ≡ false) × (new ≡ old) × (after ≡ before) × ((advance old message).holds ≡ old.holds ++ message ∷ [])
-Stops after_ok after_err message old before new after (fault.Sink why) =
-    (old.has_failed ≡ false) × (new.has_failed ≡ true) × Fails after_ok after_err before (due old message) why after
-Stops after_ok after_err message old before new after fault.Failed = (old.has_failed ≡ true) × (new ≡ old) × (after ≡ before)
+-- which request waits, by its first byte, and what is held behind it
+pub record Standing : Type 0 where
+  pub open_sid : Option ℕ
+  pub holds : List Message
+
+-- so it is after the messages M
+abbrev pub standing_after : List Message → Standing
+standing_after M = record { open_sid = option_map sid (open_request M); holds = held M }
+
+-- what is due with one more message
+abbrev pub due : Standing → Message → List Message
+due standing message = due_for (step_of standing.open_sid message) standing.holds message
+
+-- so it is after this step
+abbrev pub stand_for : Step → Standing → Message → Standing
+stand_for (step.Request service) standing message = record { open_sid = Some service; holds = [] }
+stand_for step.Answer standing message = record { open_sid = None; holds = [] }
+stand_for step.Removed standing message = standing
+stand_for step.Hold standing message = record standing { holds = standing.holds ++ message ∷ [] }
+stand_for step.Pass standing message = standing
+
+-- and after one more message
+abbrev pub advance : Standing → Message → Standing
+advance standing message = stand_for (step_of standing.open_sid message) standing message

@@ -1,5 +1,6 @@
 use Rattle.std.proofs.Common.{refl, subst}
 use Rattle.trace_text.specs.Words.{role_text}
+use Rattle.uds_exchange.specs.Numbering.{sent}
 use Rattle.trace_canon.proofs.PlacingScripts.{object_parts}
 use Rattle.trace_canon.proofs.message_objects.say_message_object.Goals as goal
 
@@ -7,7 +8,7 @@ pub returns : goal.returns
 returns g c =
     let role = subst (λ text. g.S.TextSink.says c.say_text-2.new.out text c.say_text-3.new.out) c.role_name.ensures c.say_text-3.ensures in
     subst (λ text. g.S.TextSink.says c.args.out.now text c.say_text-10.new.out)
-    (object_parts c.args.number c.args.step (c.args.dir, c.args.message.now) c.args.first c.args.last (role_text c.args.step) refl)
+    (object_parts c.args.message.item c.args.message.step (sent c.args.message) c.args.first c.args.last (role_text c.args.message.step) refl)
     (g.met.S.TextSink.onward _ _ _ _ _ c.say_text.ensures
     (g.met.S.TextSink.onward _ _ _ _ _ c.say_number.ensures
     (g.met.S.TextSink.onward _ _ _ _ _ c.say_text-2.ensures

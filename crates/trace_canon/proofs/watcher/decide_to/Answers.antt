@@ -4,8 +4,8 @@ use Rattle.trace_canon.proofs.WatchScripts.{said_items}
 use Rattle.trace_canon.proofs.watcher.decide_to.Goals as goal
 
 pub returns-in-Ok-clause-says : goal.returns-in-Ok-clause-says
-returns-in-Ok-clause-says g c = λ M decides.
-    let put = c.in-Ok.ensures.puts M decides in
+returns-in-Ok-clause-says g c = λ M decides judged.
+    let put = c.in-Ok.ensures.puts M decides judged in
     let all = said_items g.S.TextSink.says g.met.S.TextSink.nothing g.met.S.TextSink.onward put.0 _ c.take.new.sink put.2 in
     let out_is = c.out-1.given.1 (sym all.same_out) in
     let number_is = c.number-1.given.1 (sym all.same_number) in

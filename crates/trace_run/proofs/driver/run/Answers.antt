@@ -6,7 +6,7 @@ use Rattle.trace_log.specs.Summing.{ends_in_line_feed}
 use Rattle.trace_log.specs.Trace.{trace}
 use Rattle.trace_log.specs.Needing.{HasFrame, IsKeptForMessage}
 use Rattle.isotp_receive.specs.declared.TheConstants.{MESSAGE_LIMIT}
-use Rattle.trace_run.specs.declared.driver.Telling.{Telling}
+use Rattle.trace_run.specs.declared.telling.Telling.{Telling}
 use Rattle.trace_run.specs.declared.receiver.Receiver.{Receiver}
 use Rattle.trace_run.specs.proving.Carrying.{EndsTelling}
 use Rattle.trace_run.specs.Told.{Script, StopsNothingWithin, AnswersTold, TellsEagerly}
@@ -26,7 +26,7 @@ start g c = (c.start-receiver.result, c.args.writer.now)
 begun : (g : Over) (c : After-start-receiver g) → IsRunStart (HasToldNothing g.M.Machine.stands g.M.Machine.script g.M.Machine.needs g.W.Target) c.args.config.now (start g c)
 begun g c =
     starts_run (HasToldNothing g.M.Machine.stands g.M.Machine.script g.M.Machine.needs g.W.Target) c.args.config.now c.start.result c.start-receiver.result c.args.writer.now c.start-receiver.ensures
-    (told_none g.M.Machine.stands g.M.Machine.script g.M.Machine.needs g.W.Target c.args.machine c.start.result c.start.ensures.machine c.requires.machine c.start.ensures.removed c.start.ensures.well
+    (told_none g.M.Machine.stands g.M.Machine.script g.M.Machine.needs g.W.Target c.args.machine c.start.result c.start.ensures.machine c.requires.machine c.start.ensures.judged c.start.ensures.well
     c.start.ensures.blank)
 
 same_machine : (g : Over) (c : After-start-receiver g) → c.start-receiver.result.taker.machine ≡ c.args.machine

@@ -1,39 +1,36 @@
 use Rattle.std.proofs.Common.{◌≡◌, arith, ap, sym, subst, ◌+◌, ◌++◌, ◌∷◌, []}
-use Rattle.direction.specs.Dir.{Message}
+use Rattle.uds_exchange.specs.Numbering.{sent}
 use Rattle.uds_exchange.specs.Meaning.{meaning, flattened}
 use Rattle.trace_log.specs.Settings.{Settings}
 use Rattle.trace_canon.specs.proving.Measuring.{HaveLengths}
-use Rattle.trace_canon.proofs.Collecting.{collects_more, collects_no_more, collects_still, keeps_all}
-use Rattle.trace_canon.proofs.Lengths.{each_is_byte}
+use Rattle.trace_canon.proofs.Collecting.{collects_more, collects_no_more, keeps_all}
 use Rattle.trace_canon.proofs.collector.Collector.take.Goals as goal
 
 pub returns-then-self-limit : goal.returns-then-self-limit
-returns-then-self-limit c = λ settings M stood.
-    let message : Message = (c.args.dir, c.args.message.now) in
+returns-then-self-limit c = λ settings M judged stood.
     let most = ap (λ (s : Settings). s.max_bytes) stood.same in
-    collects_still settings M _ _ _ stood message (each_is_byte c.args.message.now (λ i. omega (arith, c.type_inv.message i)))
-    (omega (arith, most, c.max_bytes-limit.ensures.value, c.if-self-limit.true))
+    c.stay_over.ensures settings M (omega (arith, most, c.max_bytes-limit.ensures.value, c.if-self-limit.true)) stood
 
 pub returns-then-length-limit : goal.returns-then-length-limit
-returns-then-length-limit c = λ settings M stood.
-    let message : Message = (c.args.dir, c.args.message.now) in
+returns-then-length-limit c = λ settings M judged stood.
+    let message = sent c.args.message in
     let most = ap (λ (s : Settings). s.max_bytes) stood.same in
     let all = keeps_all settings M _ _ _ stood (omega (arith, most, c.max_bytes-limit.ensures.value, c.if-self-limit.false)) in
     let size = stood.size + c.added.result in
     let have = subst (λ (s : Settings). HaveLengths s (flattened (meaning (M ++ message ∷ []))) size) stood.same
-    (c.added.ensures M stood.size all.0 (c.step-step.ensures.after M all.0) (subst (λ (s : Settings). HaveLengths s (flattened (meaning M)) stood.size) (sym stood.same) stood.measured)) in
+    (c.added.ensures M stood.size all.0 judged (subst (λ (s : Settings). HaveLengths s (flattened (meaning M)) stood.size) (sym stood.same) stood.measured)) in
     collects_no_more settings M message c.new.result c.saturating_add-length.result size have c.new.ensures
     (omega (arith, most, c.max_bytes-limit.ensures.value, c.if-length-limit.true))
     (omega (arith, most, c.max_bytes-limit.ensures.value, c.if-length-limit.true, all.1, c.saturating_add-length.ensures)) c.args.self.now.config stood.same
 
 pub returns-in-Ok : goal.returns-in-Ok
-returns-in-Ok c = λ settings M stood.
-    let message : Message = (c.args.dir, c.args.message.now) in
+returns-in-Ok c = λ settings M judged stood.
+    let message = sent c.args.message in
     let most = ap (λ (s : Settings). s.max_bytes) stood.same in
     let all = keeps_all settings M _ _ _ stood (omega (arith, most, c.max_bytes-limit.ensures.value, c.if-self-limit.false)) in
     let size = stood.size + c.added.result in
     let have = subst (λ (s : Settings). HaveLengths s (flattened (meaning (M ++ message ∷ []))) size) stood.same
-    (c.added.ensures M stood.size all.0 (c.step-step.ensures.after M all.0) (subst (λ (s : Settings). HaveLengths s (flattened (meaning M)) stood.size) (sym stood.same) stood.measured)) in
+    (c.added.ensures M stood.size all.0 judged (subst (λ (s : Settings). HaveLengths s (flattened (meaning M)) stood.size) (sym stood.same) stood.measured)) in
     let known : c.saturating_add-length.result ≡ size = omega (arith, most, c.max_bytes-limit.ensures.value, c.max_bytes-limit.ensures.settings.most, c.if-length-limit.false, all.1, c.saturating_add-length.ensures) in
-    collects_more settings M message c.take_step.new.self c.saturating_add-length.result size have (c.in-Ok.ensures.ok M all.0) known
+    collects_more settings M message c.take.new.self c.saturating_add-length.result size have (c.in-Ok.ensures.ok M all.0 judged) known
     (omega (arith, known, most, c.max_bytes-limit.ensures.value, c.if-length-limit.false)) c.args.self.now.config stood.same

@@ -1,32 +1,22 @@
-use Rattle.std.proofs.Common.{◌≡◌, rules, ap, sym, subst, ◌∙◌, [], ◌++◌, append-nil}
+use Rattle.std.proofs.Common.{sym, subst}
 use Rattle.isotp_receive.specs.declared.TheConstants.{MESSAGE_LIMIT}
-use Rattle.isotp_receive.specs.EventSeen.{seen_event, seen_verdict}
-use Rattle.isotp_receive.specs.Verdict.{messages, told_message}
+use Rattle.isotp_receive.specs.Verdict.{messages}
+use Rattle.trace_run.proofs.Promises.{completes_judged, completes_none}
 use Rattle.trace_canon.specs.SessionScript.{Collects}
-use Rattle.trace_canon.proofs.CanonicalMachines.{completes_message, messages_next}
+use Rattle.trace_canon.proofs.CanonicalMachines.{completes_message}
 use Rattle.trace_canon.proofs.collector.CollectorMachine.event.Goals as goal
 
 pub returns-in-Ok-clause-ok : goal.returns-in-Ok-clause-ok
-returns-in-Ok-clause-ok g c = λ start T e line micros dir few seen stood.
-    let M = messages MESSAGE_LIMIT T in
+returns-in-Ok-clause-ok g c = λ start T e seen stood.
     let now = c.take.new.self in
-    let next = messages_next T e c.args.dir (seen_event c.args.event) dir seen ∙ ap (λ v. M ++ told_message c.args.dir (seen_verdict v)) c.in-Message.is in
-    (subst (λ N. Collects start.config N now.pairing now.length now.config) (sym next) (c.in-Ok.ensures start.config M stood), g.met.S.TextSink.nothing c.args._out.now)
+    let completes = completes_judged T e c.args.seen c.in-Some.message seen c.in-Some.is in
+    (subst (λ N. Collects start.config N now.pairing now.length now.config) (sym completes.next) (c.in-Ok.ensures start.config (messages MESSAGE_LIMIT T) completes.step stood), g.met.S.TextSink.nothing c.args._out.now)
 
-pub returns-in-Err-clause-needs : goal.returns-in-Err-clause-needs
-returns-in-Err-clause-needs g c = λ start T e dir seen stood.
-    completes_message T e (seen_event c.args.event) c.in-Message.message.now seen (ap seen_verdict c.in-Message.is)
+pub returns-in-Err-clause-err : goal.returns-in-Err-clause-err
+returns-in-Err-clause-err g c = λ start T e seen stood.
+    (completes_message T e c.in-Some.message (completes_judged T e c.args.seen c.in-Some.message seen c.in-Some.is), g.met.S.TextSink.nothing c.args._out.now)
 
-pub returns-in-Began : goal.returns-in-Began
-returns-in-Began g c =
-    let which = c.in-Began.is in
-    let quiet : told_message c.args.dir (seen_verdict c.args.event.verdict) ≡ [] = search rules in
-    record {
-      ok = λ start T e line micros dir few seen stood.
-          let M = messages MESSAGE_LIMIT T in
-          let now = c.args.self.now in
-          let next = messages_next T e c.args.dir (seen_event c.args.event) dir seen ∙ ap (λ x. M ++ x) quiet ∙ append-nil M in
-          (subst (λ N. Collects start.config N now.pairing now.length now.config) (sym next) stood, g.met.S.TextSink.nothing c.args._out.now);
-      err = tt;
-      needs = tt;
-    }
+pub returns-in_default-clause-ok : goal.returns-in_default-clause-ok
+returns-in_default-clause-ok g c = λ start T e seen stood.
+    let now = c.args.self.now in
+    (subst (λ N. Collects start.config N now.pairing now.length now.config) (sym (completes_none T e c.args.seen seen c.in_default.is)) stood, g.met.S.TextSink.nothing c.args._out.now)

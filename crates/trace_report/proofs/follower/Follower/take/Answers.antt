@@ -1,72 +1,78 @@
-use Rattle.std.proofs.Common.{length, ◌<◌, ◌^◌, ◌≡◌, false, arith, ap, sym, subst, ◌∙◌, [], ◌∷◌, ◌++◌, rules, append-nil}
+use Rattle.std.proofs.Common.{◌≡◌, refl, List, ap, sym, subst, ◌∙◌, [], ◌∷◌, ◌++◌}
 use Rattle.isotp_receive.specs.declared.TheConstants.{MESSAGE_LIMIT}
-use Rattle.isotp_receive.specs.EventSeen.{seen_event, seen_verdict}
-use Rattle.isotp_receive.specs.Verdict.{messages, told_message}
-use Rattle.isotp_receive.proofs.Promises.{messages_are_few}
-use Rattle.trace_report.specs.Events.{completes_request_by, ended_rows, event_rows, is_there, verdict_rows}
+use Rattle.isotp_receive.specs.EventSeen.{seen_event}
+use Rattle.isotp_receive.specs.Trace.{Entry}
+use Rattle.isotp_receive.specs.Verdict.{EventValue, messages, verdict}
+use Rattle.trace_canon.specs.MessageLines.{place_of}
+use Rattle.trace_canon.specs.declared.begun.FramePlace.{FramePlace}
+use Rattle.trace_run.specs.Seen.{IsSeen}
+use Rattle.trace_run.specs.declared.machine.Seen.{Seen}
+use Rattle.trace_run.proofs.Promises.{completes_judged}
 use Rattle.trace_report.specs.proving.Following.{KnowsPlaces, row_if}
 use Rattle.trace_report.specs.proving.Pages.{row_of}
-use Rattle.isotp_receive.specs.Verdict.{message as completes}
-use Rattle.trace_canon.specs.declared.begun.FramePlace.{FramePlace}
-use Rattle.trace_report.proofs.Meeting.{message_event, met_next, met_still, rows_of_message}
+use Rattle.trace_report.proofs.Meeting.{message_event, met_next, met_none, rows_none, rows_of_message}
 use Rattle.trace_report.proofs.follower.Follower.take.Goals as goal
 
-pub returns-in-Message-clause-next : goal.returns-in-Message-clause-next
-returns-in-Message-clause-next c = λ T e here dir few seen known.
-    let M = messages MESSAGE_LIMIT T in
-    let line : e.line ≡ c.args.here.line = sym (ap (λ (p : FramePlace). p.line) here) in
-    let micros : e.micros ≡ c.args.here.micros = sym (ap (λ (p : FramePlace). p.micros) here) in
+-- where the frame stands
+line_at : (T : List Entry) (e : Entry) (seen : Seen) (here : FramePlace) → IsSeen T e seen → here ≡ record { line = seen.line; micros = seen.micros } → e.line ≡ here.line
+line_at T e seen here is here_is = is.event.line ∙ ap (λ (p : FramePlace). p.line) (sym here_is)
+
+micros_at : (T : List Entry) (e : Entry) (seen : Seen) (here : FramePlace) → IsSeen T e seen → here ≡ record { line = seen.line; micros = seen.micros } → e.micros ≡ here.micros
+micros_at T e seen here is here_is = is.event.micros ∙ ap (λ (p : FramePlace). p.micros) (sym here_is)
+
+place_at : (T : List Entry) (e : Entry) (seen : Seen) (here : FramePlace) → IsSeen T e seen → here ≡ record { line = seen.line; micros = seen.micros } → here ≡ place_of e
+place_at T e seen here is here_is =
+    here_is ∙ (λ i. let p : FramePlace = record { line = sym is.event.line i; micros = sym is.event.micros i } in p)
+
+pub returns-in-Some-clause-next : goal.returns-in-Some-clause-next
+returns-in-Some-clause-next c = λ T e seen known.
+    let what = c.args.seen in
+    let at = seen.event in
+    let here = c.here_of-here.result in
+    let message = c.in-Some.message in
+    let completes = completes_judged T e what message seen c.in-Some.is in
+    let micros = micros_at T e what here seen c.here_of-here.ensures in
     record {
-      met = met_next T e c.args.dir (seen_event c.args.event) dir seen c.in-Message.message.now c.args.here.micros c.args.self.now.asked c.take_message.new.self
-          (ap seen_verdict c.in-Message.is) (sym micros) known.met.asked_then
-          (c.take_message.ensures.next M (omega (arith, few, messages_are_few MESSAGE_LIMIT T)) known.met.counts known.met.silent);
-      places = subst (λ p. KnowsPlaces (T ++ e ∷ []) p) (sym c.take_message.ensures.places) (c.take-extent.ensures.next T e line micros dir few seen known.places);
+      met = met_next T e message.dir (verdict MESSAGE_LIMIT T e) completes.dir refl message.bytes.now here.micros c.args.self.now.asked c.take_message.new.self
+          completes.did (sym micros) known.met.asked_then
+          (c.take_message.ensures.next (messages MESSAGE_LIMIT T) completes.step completes.item known.met.waits known.met.silent);
+      places = subst (λ p. KnowsPlaces (T ++ e ∷ []) p) (sym c.take_message.ensures.places)
+          (c.take-extent.ensures.next T e (line_at T e what here seen c.here_of-here.ensures) micros at.dir at.few at.did known.places);
     }
 
-pub returns-in-Message-clause-rows : goal.returns-in-Message-clause-rows
-returns-in-Message-clause-rows c = λ T e here dir few seen known.
+pub returns-in-Some-clause-rows : goal.returns-in-Some-clause-rows
+returns-in-Some-clause-rows c = λ T e seen known.
     let M = messages MESSAGE_LIMIT T in
-    let bytes = c.in-Message.message.now in
-    let line : e.line ≡ c.args.here.line = sym (ap (λ (p : FramePlace). p.line) here) in
-    let micros : e.micros ≡ c.args.here.micros = sym (ap (λ (p : FramePlace). p.micros) here) in
-    let told : (seen_event c.args.event).verdict ≡ completes bytes = ap seen_verdict c.in-Message.is in
-    let low : length M < 2 ^ 62 = omega (arith, few, messages_are_few MESSAGE_LIMIT T) in
-    let ended = c.ended_row-first.ensures e here in
-    let closing = c.take_message.ensures.closing M known.met.counts known.met.silent in
-    let row = c.take_message.ensures.row M low known.met.counts in
-    let first = c.take-extent.ensures.first T e bytes line micros dir seen told known.places in
-    let frames = c.take-extent.ensures.frames T e bytes dir few seen told known.places in
+    let what = c.args.seen in
+    let at = seen.event in
+    let here = c.here_of-here.result in
+    let message = c.in-Some.message in
+    let bytes = message.bytes.now in
+    let completes = completes_judged T e what message seen c.in-Some.is in
+    let stands = place_at T e what here seen c.here_of-here.ensures in
+    let told = ap (λ (x : EventValue). x.verdict) at.did ∙ completes.did in
+    let ended = c.ended_row-first.ensures e stands in
+    let closing = c.take_message.ensures.closing M completes.step known.met.waits known.met.silent in
+    let row = c.take_message.ensures.row M completes.step completes.item in
+    let first = c.take-extent.ensures.first T e bytes (line_at T e what here seen c.here_of-here.ensures) (micros_at T e what here seen c.here_of-here.ensures) at.dir at.did told known.places in
+    let frames = c.take-extent.ensures.frames T e bytes at.dir at.few at.did told known.places in
     rows_of_message (row_if c.ended_row-first.result) (row_if c.take_message.result.0) (row_of c.take_message.result.1)
     ∙ (λ i. ended i ++ (closing i ++ row i ∷ []))
-    ∙ message_event T e c.args.dir (seen_event c.args.event) bytes c.args.self.now.asked c.args.here c.take-extent.result dir seen told known.met.asked_then here first frames
+    ∙ message_event T e message.dir (seen_event what.event) bytes c.args.self.now.asked here c.take-extent.result completes.dir at.did told known.met.asked_then stands first frames
 
-pub returns-in-Dropped-clause-next : goal.returns-in-Dropped-clause-next
-returns-in-Dropped-clause-next c = λ T e here dir few seen known.
-    let line : e.line ≡ c.args.here.line = sym (ap (λ (p : FramePlace). p.line) here) in
-    let micros : e.micros ≡ c.args.here.micros = sym (ap (λ (p : FramePlace). p.micros) here) in
+pub returns-in-None-clause-next : goal.returns-in-None-clause-next
+returns-in-None-clause-next c = λ T e seen known.
+    let what = c.args.seen in
+    let at = seen.event in
+    let here = c.here_of-here.result in
     record {
-      met = met_still T e c.args.dir (seen_event c.args.event) dir seen _ (ap (λ v. told_message c.args.dir (seen_verdict v)) c.in-Dropped.is)
-          (ap (λ v. completes_request_by MESSAGE_LIMIT T e (seen_verdict v)) c.in-Dropped.is)
-          (record { counts = known.met.counts; silent = known.met.silent; asked_then = known.met.asked_then });
-      places = c.take-extent.ensures.next T e line micros dir few seen known.places;
+      met = met_none T e what _ seen c.in-None.is (record { waits = known.met.waits; silent = known.met.silent; asked_then = known.met.asked_then });
+      places = c.take-extent.ensures.next T e (line_at T e what here seen c.here_of-here.ensures) (micros_at T e what here seen c.here_of-here.ensures) at.dir at.few at.did known.places;
     }
 
-pub returns-in-Began : goal.returns-in-Began
-returns-in-Began c =
-    let which = c.in-Began.is in
-    let quiet : told_message c.args.dir (seen_verdict c.args.event.verdict) ≡ [] = search rules in
-    record {
-      next = λ T e here dir few seen known.
-          let line : e.line ≡ c.args.here.line = sym (ap (λ (p : FramePlace). p.line) here) in
-          let micros : e.micros ≡ c.args.here.micros = sym (ap (λ (p : FramePlace). p.micros) here) in
-          let no_request : completes_request_by MESSAGE_LIMIT T e (seen_verdict c.args.event.verdict) ≡ false = search rules in
-          record {
-            met = met_still T e c.args.dir (seen_event c.args.event) dir seen _ quiet no_request
-                (record { counts = known.met.counts; silent = known.met.silent; asked_then = known.met.asked_then });
-            places = c.take-extent.ensures.next T e line micros dir few seen known.places;
-          };
-      rows = λ T e here dir few seen known.
-          let none : verdict_rows MESSAGE_LIMIT T e (is_there c.args.event.ended) (seen_verdict c.args.event.verdict) ≡ [] = search rules in
-          ap (λ l. l ++ []) (append-nil (row_if c.ended_row-first.result)) ∙ ap (λ l. l ++ []) (c.ended_row-first.ensures e here)
-          ∙ ap (λ l. ended_rows e c.args.event.ended ++ l) (sym none) ∙ ap (λ x. event_rows MESSAGE_LIMIT T e x) seen;
-    }
+pub returns-in-None-clause-rows : goal.returns-in-None-clause-rows
+returns-in-None-clause-rows c = λ T e seen known.
+    let what = c.args.seen in
+    let here = c.here_of-here.result in
+    let stands = place_at T e what here seen c.here_of-here.ensures in
+    rows_none T e what here (row_if c.ended_row-first.result) (row_if c.dropped_row.result) seen c.in-None.is stands (c.ended_row-first.ensures e stands) c.dropped_row.ensures

@@ -1,29 +1,49 @@
-use Rattle.std.proofs.Common.{◌≡◌, Bool, ap, sym, ◌∙◌, true, false, rules}
+use Rattle.std.proofs.Common.{◌≡◌, ◌⊎◌, inl, inr, Bool, Option, Some, ℕ, ap, sym, ◌∙◌, true, false}
 use Rattle.std.specs.Prelude.{if◌then◌else◌}
-use Rattle.direction.specs.Dir.{Message}
-use Rattle.uds_exchange.specs.Numbering.{step_after}
+use Rattle.uds_exchange.specs.Numbering.{number_after, sent, step_after, waiting_number, waits_with}
+use Rattle.uds_exchange.specs.declared.step.Step.{Step}
+use Rattle.uds_exchange.specs.declared.step.Step.TheVariants as step
+use Rattle.uds_exchange.proofs.Promises.{waiting_number_goes_on}
 use Rattle.trace_report.specs.Events.{is_request_step}
 use Rattle.trace_report.proofs.Meeting.{silent_asked, silent_still}
 use Rattle.trace_report.proofs.follower.Follower.take_message.Goals as goal
 
-pub returns-then-is_request_step-clause-next : goal.returns-then-is_request_step-clause-next
-returns-then-is_request_step-clause-next c = λ M few counts silent.
-    let sent : Message = (c.args.dir, c.args.message.now) in
-    let step_is = c.take-item.ensures.step M counts in
-    let asks : is_request_step (step_after M sent) ≡ true = ap is_request_step (sym step_is) ∙ search rules in
+pub returns-in-Request-clause-next : goal.returns-in-Request-clause-next
+returns-in-Request-clause-next c = λ M judged item waits silent.
+    let x = sent c.args.message in
+    let found = sym judged ∙ c.in-Request.is in
+    let asks : is_request_step (step_after M x) ≡ true = ap is_request_step found in
     record {
-      counts = c.take-item.ensures.counts M few counts;
-      silent = silent_asked M sent c.is_suppressing-self.result asks c.is_suppressing-self.ensures;
+      waits = ap (λ n. Some n) item ∙ sym (waiting_number_goes_on M x ∙ ap (λ (s : Step). waits_with s (number_after M x) (waiting_number M)) found);
+      silent = silent_asked M x c.is_suppressing-self.result asks c.is_suppressing-self.ensures;
       asked_then = ap (λ (b : Bool). if b then c.args.here.micros else c.args.self.now.asked) (sym asks);
     }
 
-pub returns-else-is_request_step-clause-next : goal.returns-else-is_request_step-clause-next
-returns-else-is_request_step-clause-next c = λ M few counts silent.
-    let sent : Message = (c.args.dir, c.args.message.now) in
-    let step_is = c.take-item.ensures.step M counts in
-    let asks : is_request_step (step_after M sent) ≡ false = ap is_request_step (sym step_is) ∙ search rules in
+pub returns-in-Answer-clause-next : goal.returns-in-Answer-clause-next
+returns-in-Answer-clause-next c = λ M judged item waits silent.
+    let x = sent c.args.message in
+    let found = sym judged ∙ c.in-Answer.is in
+    let asks : is_request_step (step_after M x) ≡ false = ap is_request_step found in
     record {
-      counts = c.take-item.ensures.counts M few counts;
-      silent = silent_still M sent c.args.self.now.silent asks silent;
+      waits = sym (waiting_number_goes_on M x ∙ ap (λ (s : Step). waits_with s (number_after M x) (waiting_number M)) found);
+      silent = silent_still M x c.args.self.now.silent asks silent;
+      asked_then = ap (λ (b : Bool). if b then c.args.here.micros else c.args.self.now.asked) (sym asks);
+    }
+
+-- a message that neither begins an exchange nor answers one
+still : (number : ℕ) (waits : Option ℕ) (s : Step) → (s ≡ step.Removed) ⊎ ((s ≡ step.Hold) ⊎ (s ≡ step.Pass))
+    → (waits_with s number waits ≡ waits) × (is_request_step s ≡ false)
+still number waits s (inl removed) = (ap (λ t. waits_with t number waits) removed, ap is_request_step removed)
+still number waits s (inr (inl held)) = (ap (λ t. waits_with t number waits) held, ap is_request_step held)
+still number waits s (inr (inr passed)) = (ap (λ t. waits_with t number waits) passed, ap is_request_step passed)
+
+pub returns-in-Removed-clause-next : goal.returns-in-Removed-clause-next
+returns-in-Removed-clause-next c = λ M judged item waits silent.
+    let x = sent c.args.message in
+    let quiet = still (number_after M x) (waiting_number M) c.args.message.step c.in-Removed.is in
+    let asks : is_request_step (step_after M x) ≡ false = ap is_request_step (sym judged) ∙ quiet.1 in
+    record {
+      waits = waits ∙ sym (waiting_number_goes_on M x ∙ ap (λ (s : Step). waits_with s (number_after M x) (waiting_number M)) (sym judged) ∙ quiet.0);
+      silent = silent_still M x c.args.self.now.silent asks silent;
       asked_then = ap (λ (b : Bool). if b then c.args.here.micros else c.args.self.now.asked) (sym asks);
     }

@@ -1,21 +1,20 @@
-use Rattle.std.proofs.Common.{◌∙◌, ap}
-use Rattle.direction.specs.Dir.{Message}
-use Rattle.uds_exchange.specs.Decider.{DeciderValue}
-use Rattle.uds_exchange.specs.proving.Deciding.{items_by, keep}
-use Rattle.uds_exchange.proofs.Deciding.{decided-by, keeps-next, refuses-kept}
+use Rattle.std.proofs.Common.{◌∙◌}
+use Rattle.uds_exchange.specs.Numbering.{sent}
+use Rattle.uds_exchange.specs.proving.Deciding.{items_for}
+use Rattle.uds_exchange.proofs.Deciding.{decided-found, keeps-found, refuses-kept}
 use Rattle.uds_exchange.proofs.Variants.{on_ok_along, on_err_along}
 use Rattle.uds_exchange.proofs.decider.Decider.take.Goals as goal
 
 pub returns-clause-stands : goal.returns-clause-stands
 returns-clause-stands g c =
-    let x : Message = (c.args.dir, c.args.message.now) in
-    on_ok_along c.advance.result _ _ (λ h M is. h ∙ ap (λ (d : DeciderValue). keep d x) is ∙ keeps-next M x) c.advance.ensures.now
+    on_ok_along c.advance.result _ _ (λ h M is judged. h ∙ keeps-found M (sent c.args.message) c.args.message.step c.args.self.now is judged) c.advance.ensures.now
 
 pub returns-clause-puts : goal.returns-clause-puts
 returns-clause-puts g c =
-    let x : Message = (c.args.dir, c.args.message.now) in
-    on_ok_along c.advance.result _ _ (λ h M is. (items_by c.args.self.now x, decided-by M x c.args.self.now is, h)) c.advance.ensures.puts
+    let x = sent c.args.message in
+    let by = c.args.message.step in
+    on_ok_along c.advance.result _ _ (λ h M is judged. (items_for by c.args.self.now x, decided-found M x by c.args.self.now is judged, h)) c.advance.ensures.puts
 
 pub returns-clause-kept_only : goal.returns-clause-kept_only
 returns-clause-kept_only g c =
-    on_err_along c.advance.result _ _ (λ h M is. refuses-kept M (c.args.dir, c.args.message.now) c.args.self.now is h) c.advance.ensures.kept
+    on_err_along c.advance.result _ _ (λ h M is judged. refuses-kept M (sent c.args.message) c.args.message.step c.args.self.now is judged h) c.advance.ensures.kept

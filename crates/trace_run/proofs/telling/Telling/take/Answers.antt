@@ -1,0 +1,62 @@
+use Rattle.std.proofs.Common.{◌<◌, ◌^◌, length, ◌++◌, [], ◌≡◌, arith, sym, subst, ◌∙◌, None, Some}
+use Rattle.isotp_receive.specs.declared.TheConstants.{MESSAGE_LIMIT}
+use Rattle.isotp_receive.specs.EventSeen.{seen_event}
+use Rattle.isotp_receive.specs.Verdict.{messages}
+use Rattle.isotp_receive.proofs.Promises.{messages_are_few}
+use Rattle.trace_log.specs.declared.fault.Fault.TheVariants.{Oversize}
+use Rattle.trace_run.specs.proving.Carrying.{stops_for}
+use Rattle.trace_run.proofs.Tellings.{tells_next, stops_at, stops_before, stopped_for, not_stopped_for}
+use Rattle.trace_run.proofs.telling.Telling.take.Goals as goal
+
+pub returns-in-Some-clause-told : goal.returns-in-Some-clause-told
+returns-in-Some-clause-told g c = λ T e seen.
+    let M = g.M.Machine in
+    record {
+      ok = tt;
+      err = λ start first tells.
+          let script = M.script first in
+          let strict = c.is_strict.ensures first T tells.machine_stands in
+          let why = stopped_for script.strict T e (seen_event c.args.event) c.in-Some.announced seen.did
+          (subst (λ b. stops_for b (seen_event c.args.event).verdict ≡ Some c.in-Some.announced) strict (sym c.refusal.ensures ∙ c.in-Some.is)) in
+          stops_before (M.stands first) g.W.Target script (M.needs first) start T e c.args.self.now.machine c.args.self.now.judge
+          c.args.self.now.page.failed c.args.self.now.page.block c.args.target.now (Oversize c.args.line c.in-Some.announced) tells (why.0, sym seen.line, why.1);
+      kept = λ start first earlier tells sure. sure;
+    }
+
+pub returns-in-Ok-clause-told : goal.returns-in-Ok-clause-told
+returns-in-Ok-clause-told g c = λ T e seen.
+    let M = g.M.Machine in
+    let few : length (messages MESSAGE_LIMIT T) < 2 ^ 62 = omega (arith, messages_are_few MESSAGE_LIMIT T, seen.few) in
+    record {
+      ok = λ start first tells.
+          let script = M.script first in
+          let strict = c.is_strict.ensures first T tells.machine_stands in
+          let said = c.in-Ok.ensures.ok first T e (record { event = seen; message = c.judged-message.ensures.judged (messages MESSAGE_LIMIT T) few tells.judged }) tells.machine_stands in
+          tells_next (M.stands first) g.W.Target script (M.needs first) start T e c.args.line c.args.dir (seen_event c.args.event) seen.dir seen.did
+          _ _ _ _ _ _ _ _ _ _ tells (c.judged-message.ensures.next (messages MESSAGE_LIMIT T) few tells.judged) said.0
+          (not_stopped_for script.strict T e (seen_event c.args.event) seen.did
+          (subst (λ b. stops_for b (seen_event c.args.event).verdict ≡ None) strict (sym c.refusal.ensures ∙ c.in-None.is))) said.1;
+      err = tt;
+      kept = λ start first earlier tells sure.
+          let said = c.in-Ok.ensures.ok first T e (record { event = seen; message = c.judged-message.ensures.judged (messages MESSAGE_LIMIT T) few tells.judged }) tells.machine_stands in
+          record { within = sure.within; mid = sure.mid; said = sure.said ++ (M.script first).word T e; wrote = sure.wrote; carried = said.1 sure.mid sure.said sure.carried };
+    }
+
+pub returns-in-Err-clause-told : goal.returns-in-Err-clause-told
+returns-in-Err-clause-told g c = λ T e seen.
+    let M = g.M.Machine in
+    let few : length (messages MESSAGE_LIMIT T) < 2 ^ 62 = omega (arith, messages_are_few MESSAGE_LIMIT T, seen.few) in
+    record {
+      ok = tt;
+      err = λ start first tells.
+          let script = M.script first in
+          let strict = c.is_strict.ensures first T tells.machine_stands in
+          let stopped = c.in-Err.ensures.err first T e (record { event = seen; message = c.judged-message.ensures.judged (messages MESSAGE_LIMIT T) few tells.judged }) tells.machine_stands in
+          stops_at (M.stands first) g.W.Target script (M.needs first) start T e _ _ _ _ _ _ _ _ tells
+          (not_stopped_for script.strict T e (seen_event c.args.event) seen.did
+          (subst (λ b. stops_for b (seen_event c.args.event).verdict ≡ None) strict (sym c.refusal.ensures ∙ c.in-None.is)))
+          stopped.0 stopped.1;
+      kept = λ start first earlier tells sure.
+          let stopped = c.in-Err.ensures.err first T e (record { event = seen; message = c.judged-message.ensures.judged (messages MESSAGE_LIMIT T) few tells.judged }) tells.machine_stands in
+          record { within = sure.within; mid = sure.mid; said = sure.said ++ []; wrote = sure.wrote; carried = stopped.1 sure.mid sure.said sure.carried };
+    }

@@ -1,0 +1,174 @@
+//! A machine beside the page that it says its text onto: it is told what each frame did.
+ghost use Rattle.std.specs.Prelude.{◌≡◌, ◌^◌, ◌<◌, List, [], ◌∷◌, ◌++◌, length, OnOk, OnErr, None};
+ghost use Rattle.direction.specs.Dir.{Message};
+ghost use Rattle.isotp_receive.specs.declared.TheConstants.{MESSAGE_LIMIT};
+ghost use Rattle.isotp_receive.specs.EventSeen.{seen_verdict};
+ghost use Rattle.isotp_receive.specs.Events.{announced_by};
+ghost use Rattle.isotp_receive.specs.Trace.{Entry};
+ghost use Rattle.isotp_receive.specs.Verdict.{told_message};
+ghost use Rattle.uds_exchange.specs.Numbering.{HasJudged, IsJudgedOf};
+ghost use Rattle.trace_run.specs.Seen.{IsSeen};
+ghost use Rattle.trace_run.specs.proving.Carrying.{Speaks, stops_for};
+
+use crate::machine::{Machine, Seen};
+use crate::page::{Drain, Page, settle};
+use direction::Dir;
+use isotp_receive::{Event, Reason, Verdict};
+use std::alloc::AllocError;
+use std::marker::PhantomData;
+use trace_io::Target;
+use trace_log::Fault;
+use uds_exchange::{Judge, Judged};
+
+/// A machine, the page that it writes on, and the judge of the messages.
+#[derive(Drop)]
+pub(crate) struct Telling<M, W> {
+    pub machine: M,
+    pub judge: Judge,
+    pub page: Page,
+    pub target: PhantomData<W>,
+}
+
+impl<M, W> Telling<M, W> {
+    ghost use Rattle.std.specs.Prelude.{◌≡◌, [], false};
+    ghost use Rattle.uds_exchange.specs.Numbering.{HasJudged};
+
+    /// Before the first event.
+    pub(crate) fn start(machine: M) -> Telling<M, W>
+        ensures machine { result.machine ≡ machine }
+        ensures judged { HasJudged [] result.judge }
+        ensures well { result.page.failed ≡ false }
+        ensures blank { result.page.block ≡ [] }
+    {
+        Telling {
+            machine,
+            judge: Judge::new(),
+            page: Page::new(),
+            target: PhantomData,
+        }
+    }
+}
+
+impl<M: Machine, W: Target> Telling<M, W> {
+    ghost use Rattle.std.specs.Prelude.{◌≡◌, ◌^◌, ◌<◌, List, [], ◌∷◌, ◌++◌, length, OnOk, IfErr, true, false};
+    ghost use Rattle.isotp_receive.specs.Trace.{Entry};
+    ghost use Rattle.trace_run.specs.Seen.{IsEventOf};
+    ghost use Rattle.trace_run.specs.proving.Carrying.{Tells, WroteTold};
+    ghost use Rattle.trace_run.specs.proving.Telling.{TellsFrame};
+    ghost use Rattle.trace_log.specs.Feeding.{IsOfTaker};
+
+    /// Writes what is due, before more is read. Answers whether it could.
+    pub(crate) fn rest(&mut self, target: &mut W) -> bool
+        ensures well { result ≡ true → (start : W) (first : M) (T : List Entry)
+            → Tells (M.stands first) W.Target (M.script first) start T self.old.machine self.old.judge self.old.page.failed self.old.page.block target.old
+            → Tells (M.stands first) W.Target (M.script first) start T self.new.machine self.new.judge false [] target.new
+            × Tells (M.stands first) W.Target (M.script first) start T self.new.machine self.new.judge self.new.page.failed self.new.page.block target.new }
+        ensures wrong { result ≡ false → (start : W) (first : M) (T : List Entry)
+            → Tells (M.stands first) W.Target (M.script first) start T self.old.machine self.old.judge self.old.page.failed self.old.page.block target.old
+            → Tells (M.stands first) W.Target (M.script first) start T self.new.machine self.new.judge true [] target.new }
+        ensures sure { result ≡ true → (start : W) (first : M) (T : List Entry)
+            → Tells (M.stands first) W.Target (M.script first) start T self.old.machine self.old.judge self.old.page.failed self.old.page.block target.old
+            → WroteTold W.Target (M.script first) start T self.new.page.failed self.new.page.block target.new }
+        ensures kept { (start : W) (first : M) (earlier : List Entry) → WroteTold W.Target (M.script first) start earlier self.old.page.failed self.old.page.block target.old
+            → WroteTold W.Target (M.script first) start earlier self.new.page.failed self.new.page.block target.new }
+    {
+        settle(target, &mut self.page)
+    }
+
+    /// Takes what the next frame of the trace did: one of this line, time and direction.
+    #[inline(always)]
+    pub(crate) fn take(
+        &mut self,
+        target: &mut W,
+        line: u64,
+        micros: u64,
+        dir: Dir,
+        event: Event<'_>,
+    ) -> Result<(), Fault>
+        ensures fault { IfErr result IsOfTaker }
+        ensures told { (T : List Entry) (e : Entry) → IsEventOf T e line micros dir event.entry
+            → TellsFrame M.stands M.script M.needs W.Target T e self.old target.old result self.new target.new }
+    {
+        let message = judged(&mut self.judge, dir, event.verdict);
+        match refusal(self.machine.is_strict(), event.verdict) {
+            Some(announced) => Err(Fault::Oversize { line, announced }),
+            None => {
+                let seen = Seen {
+                    line,
+                    micros,
+                    dir,
+                    event,
+                    message,
+                };
+                match tell(&mut self.machine, target, &mut self.page, seen) {
+                    Ok(()) => Ok(()),
+                    Err(_refused) => Err(Fault::Memory),
+                }
+            }
+        }
+    }
+}
+
+/// The message that a frame of this direction completed, judged. Most frames complete none, and are seen here alone.
+#[inline(always)]
+fn judged<'a>(judge: &mut Judge, dir: Dir, verdict: Verdict<'a>) -> Option<Judged<'a>>
+    ensures next { (M : List Message) → length M < 2 ^ 62 → HasJudged M judge.old
+        → HasJudged (M ++ told_message dir (seen_verdict verdict.entry)) judge.new }
+    ensures judged { (M : List Message) → length M < 2 ^ 62 → HasJudged M judge.old
+        → IsJudgedOf M (told_message dir (seen_verdict verdict.entry)) result }
+{
+    match verdict {
+        Verdict::Message(message) => Some(judge.take(dir, message)),
+        Verdict::Began | Verdict::Stored | Verdict::Flow | Verdict::Dropped(_) => None,
+    }
+}
+
+/// The length that a frame announced, where a run stops for that.
+#[inline(always)]
+fn refusal(strict: bool, verdict: Verdict<'_>) -> Option<u32>
+    ensures { result ≡ stops_for strict (seen_verdict verdict.entry) }
+{
+    if !strict {
+        return None;
+    }
+    match verdict {
+        Verdict::Dropped(reason) => announced(reason),
+        Verdict::Message(_) | Verdict::Began | Verdict::Stored | Verdict::Flow => None,
+    }
+}
+
+/// The length that a dropped frame announced, where it was dropped for that.
+fn announced(reason: Reason) -> Option<u32>
+    ensures { result ≡ announced_by reason }
+{
+    match reason {
+        Reason::TooLong { announced } => Some(announced),
+        Reason::Pdu(_)
+        | Reason::FlowUnexpected
+        | Reason::NextUnexpected
+        | Reason::NextLate
+        | Reason::NextSequence { .. }
+        | Reason::NextLength => None,
+    }
+}
+
+/// Has the machine say what it says of a frame.
+#[inline(always)]
+fn tell<M: Machine, W: Target>(
+    machine: &mut M,
+    target: &mut W,
+    page: &mut Page,
+    seen: Seen<'_>,
+) -> Result<(), AllocError>
+    ensures ok { OnOk result ((start : M) (T : List Entry) (e : Entry) → IsSeen T e seen.entry → M.stands start T machine.old
+        → M.stands start (T ++ e ∷ []) machine.new
+        × Speaks W.Target page.old.failed page.old.block target.old ((M.script start).word T e) page.new.failed page.new.block target.new) }
+    ensures err { OnErr result ((start : M) (T : List Entry) (e : Entry) → IsSeen T e seen.entry → M.stands start T machine.old
+        → M.needs start T e × Speaks W.Target page.old.failed page.old.block target.old [] page.new.failed page.new.block target.new) }
+{
+    let mut out = Drain { target, page };
+    match machine.event(seen, &mut out) {
+        Ok(()) => Ok(()),
+        Err(refused) => Err(refused),
+    }
+}

@@ -1,0 +1,13 @@
+use Rattle.std.proofs.Common.{refl}
+use Rattle.uds_exchange.proofs.Putting.{fails-front, puts-append}
+use Rattle.uds_exchange.proofs.Variants.{on_ok_along, handed_on}
+use Rattle.uds_exchange.proofs.judged_orderer.put_behind.Goals as goal
+
+pub returns-in_err-put_all-clause-err : goal.returns-in_err-put_all-clause-err
+returns-in_err-put_all-clause-err g c =
+    handed_on c.from_residual.result _ _ c.from_residual.ensures.1
+    (fails-front g.S.MessageSink.after_ok g.S.MessageSink.after_err _ _ _ _ _ c.in_err-put_all.ensures.err)
+
+pub returns-clause-ok : goal.returns-clause-ok
+returns-clause-ok g c =
+    on_ok_along c.put.result _ _ (λ h. puts-append g.S.MessageSink.after_ok g.S.MessageSink.after_err _ _ _ _ _ c.in_ok-put_all.ensures.ok (_, h, refl)) c.put.ensures.ok

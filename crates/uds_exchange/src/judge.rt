@@ -1,0 +1,102 @@
+//! What becomes of the messages, as they come.
+
+ghost use Rattle.std.specs.Prelude.{◌≡◌, ◌^◌, ◌<◌, ◌++◌, ◌∷◌, [], List, length};
+ghost use Rattle.direction.specs.Dir.{Message};
+ghost use Rattle.uds_exchange.specs.Numbering.{HasJudged, IsOpenSid, advanced, number_after, number_in, one_more, sent, step_after};
+
+use crate::step::{Step, step_of};
+use direction::Dir;
+
+/// A message of which it is known what becomes of it.
+#[derive(Clone, Copy, Debug)]
+pub struct Judged<'a> {
+    pub dir: Dir,
+    pub bytes: &'a [u8],
+    pub step: Step,
+    /// The number of its item, from 1. A reply that is left out has that of the exchange that it puts off.
+    pub item: u64,
+}
+
+/// Says of each message what becomes of it. It holds no message, so that it takes no memory.
+#[derive(Clone, Copy, Debug)]
+pub struct Judge {
+    /// The first byte of the last request, where that waits for its answer.
+    pub open_sid: Option<u8>,
+    /// How many items there are.
+    pub items: u64,
+    /// How many of them are strays behind a request that waits.
+    pub held: u64,
+    /// How many replies were left out.
+    pub removed: u64,
+}
+
+impl Judge {
+    /// Before the first message.
+    pub fn new() -> Judge
+        ensures { HasJudged [] result }
+    {
+        Judge {
+            open_sid: None,
+            items: 0,
+            held: 0,
+            removed: 0,
+        }
+    }
+
+    /// Judges one more message. Laid in line: what a call answers in memory is read by covering loads.
+    #[inline(always)]
+    pub fn take<'a>(&mut self, dir: Dir, message: &'a [u8]) -> Judged<'a>
+        ensures next { (M : List Message) → length M < 2 ^ 62 → HasJudged M self.old → HasJudged (M ++ (dir, message.now) ∷ []) self.new }
+        ensures sent { sent result ≡ (dir, message.now) }
+        ensures waits { (M : List Message) → IsOpenSid M self.old.open_sid → IsOpenSid (M ++ (dir, message.now) ∷ []) self.new.open_sid }
+        ensures step { (M : List Message) → IsOpenSid M self.old.open_sid → result.step ≡ step_after M (dir, message.now) }
+        ensures item { (M : List Message) → length M < 2 ^ 62 → HasJudged M self.old → result.item ≡ number_after M (dir, message.now) }
+    {
+        let step = step_of(self.open_sid, dir, message);
+        let item = self.advance(step);
+        Judged {
+            dir,
+            bytes: message,
+            step,
+            item,
+        }
+    }
+
+    /// Counts one more message by what becomes of it, and answers the number of its item.
+    fn advance(&mut self, step: Step) -> u64
+        ensures now { self.new ≡ advanced step self.old }
+        ensures number { result ≡ number_in step self.old }
+    {
+        match step {
+            Step::Request(sid) => {
+                self.open_sid = Some(sid);
+                self.held = 0;
+                self.open_item()
+            }
+            Step::Answer => {
+                let number = self.items.saturating_sub(self.held);
+                self.open_sid = None;
+                self.held = 0;
+                number
+            }
+            Step::Removed => {
+                self.removed = self.removed.saturating_add(1);
+                self.items.saturating_sub(self.held)
+            }
+            Step::Hold => {
+                self.held = self.held.saturating_add(1);
+                self.open_item()
+            }
+            Step::Pass => self.open_item(),
+        }
+    }
+
+    /// Counts one more item, and answers its number.
+    fn open_item(&mut self) -> u64
+        ensures now { self.new ≡ record self.old { items = one_more self.old.items } }
+        ensures number { result ≡ one_more self.old.items }
+    {
+        self.items = self.items.saturating_add(1);
+        self.items
+    }
+}

@@ -1,0 +1,177 @@
+//! Messages put into their order as soon as it is known, by what becomes of each.
+
+ghost use Rattle.std.specs.Prelude.{◌≡◌, ◌≢◌, ◌++◌, ◌∷◌, [], List, true, false, length, OnOk, IfErr, sum_by};
+ghost use Rattle.direction.specs.Dir.{Message};
+ghost use Rattle.uds_exchange.specs.Numbering.{IsJudgedAfter, sent};
+ghost use Rattle.uds_exchange.specs.Order.{held as held_after};
+ghost use Rattle.uds_exchange.specs.Sink.{Puts, Fails};
+ghost use Rattle.uds_exchange.specs.Orderer.{orders_after, PutsDue, IsHeld, StopsDue, StopsHeld};
+ghost use Rattle.uds_exchange.specs.proving.Steps as Spec;
+ghost use Rattle.uds_exchange.specs.proving.Steps.{due_for, Stops};
+ghost use Rattle.uds_exchange.specs.declared.order_fault.OrderFault.TheVariants.{Memory, Sink, Failed};
+
+use crate::held::Held;
+use crate::judge::Judged;
+use crate::order_fault::OrderFault;
+use crate::sink::MessageSink;
+use crate::step::Step;
+use direction::Dir;
+use std::alloc::Global;
+use std::marker::Model;
+
+/// An [`Orderer`](crate::Orderer) that is told what becomes of each message. Contracts see whether it has failed, and what it
+/// holds.
+#[derive(Debug, Drop)]
+pub struct JudgedOrderer {
+    pub(crate) has_failed: bool,
+    /// What follows the request that waits for its answer.
+    pub(crate) held: Held,
+}
+
+impl Model for JudgedOrderer {
+    ghost use Rattle.uds_exchange.specs.Orderer.{JudgedOrdererValue};
+
+    ghost Value = { JudgedOrdererValue };
+
+    ghost view = { λ o. record { has_failed = o.has_failed; holds = o.held } };
+}
+
+impl JudgedOrderer {
+    /// An orderer that has taken no message. It takes no memory.
+    pub fn new(alloc: Global) -> JudgedOrderer
+        ensures { result ≡ orders_after [] }
+    {
+        JudgedOrderer {
+            has_failed: false,
+            held: Held::new(alloc),
+        }
+    }
+
+    /// The sum of the lengths of the messages that are held; 0 where no request is open. After a fault of the sink it
+    /// says nothing.
+    pub fn held(&self) -> u64
+        ensures { result ≡ sum_by (λ x. length x.1) self.now.holds }
+    {
+        self.held.total_len() as u64
+    }
+
+    /// Takes one more message, and puts all whose place is now known. No memory is taken for a message that is put
+    /// or left out. Whatever is said to become of the message, the call is safe.
+    pub fn take<S: MessageSink>(
+        &mut self,
+        message: Judged<'_>,
+        sink: &mut S,
+    ) -> Result<(), OrderFault<S::Fault>>
+        ensures stands { OnOk result ((M : List Message) → self.old ≡ orders_after M → IsJudgedAfter M message.entry
+            → self.new ≡ orders_after (M ++ sent message.entry ∷ [])) }
+        ensures puts { OnOk result ((M : List Message) → self.old ≡ orders_after M → IsJudgedAfter M message.entry
+            → PutsDue S.after_ok M (sent message.entry) sink.old sink.new) }
+
+        ensures memory { result ≡ Err Memory → (self.new ≡ self.old) × (sink.new ≡ sink.old) }
+        ensures held_only { result ≡ Err Memory → (M : List Message) → self.old ≡ orders_after M → IsJudgedAfter M message.entry
+            → IsHeld M (sent message.entry) }
+        ensures stops { IfErr result (λ fault. (M : List Message) → self.old ≡ orders_after M → IsJudgedAfter M message.entry
+            → StopsDue S.after_ok S.after_err M (sent message.entry) sink.old sink.new fault) }
+
+        ensures fails { (why : S.Fault) → result ≡ Err (Sink why) → self.new.has_failed ≡ true }
+        ensures failed { self.old.has_failed ≡ true → result ≡ Err Failed }
+        ensures failed_only { result ≡ Err Failed
+            → (self.old.has_failed ≡ true) × (self.new ≡ self.old) × (sink.new ≡ sink.old) }
+    {
+        self.advance(message, sink)
+    }
+
+    /// Puts what is held. It takes no memory.
+    pub fn finish<S: MessageSink>(self, sink: &mut S) -> Result<(), OrderFault<S::Fault>>
+        ensures puts { OnOk result ((M : List Message) → self ≡ orders_after M
+            → Puts S.after_ok sink.old (held_after M) sink.new) }
+        ensures stops { IfErr result (λ fault. (M : List Message) → self ≡ orders_after M
+            → StopsHeld S.after_ok S.after_err (held_after M) sink.old sink.new fault) }
+        ensures never_memory { result ≢ Err Memory }
+
+        ensures failed { self.has_failed ≡ true → result ≡ Err Failed }
+        ensures failed_only { result ≡ Err Failed → (self.has_failed ≡ true) × (sink.new ≡ sink.old) }
+    {
+        if self.has_failed {
+            Err(OrderFault::Failed)
+        } else {
+            self.held.put_all(sink).map_err(OrderFault::Sink)
+        }
+    }
+
+    /// Takes one more message, by what becomes of it and what is held alone.
+    fn advance<S: MessageSink>(
+        &mut self,
+        message: Judged<'_>,
+        sink: &mut S,
+    ) -> Result<(), OrderFault<S::Fault>>
+        ensures ok { OnOk result ((self.old.has_failed ≡ false) × (self.new ≡ Spec.advance_for message.entry.step self.old (sent message.entry))
+            × Puts S.after_ok sink.old (due_for message.entry.step self.old.holds (sent message.entry)) sink.new) }
+        ensures err { IfErr result (λ fault. Stops S.after_ok S.after_err message.entry.step (sent message.entry)
+            self.old sink.old self.new sink.new fault) }
+    {
+        if self.has_failed {
+            return Err(OrderFault::Failed);
+        }
+        if let Step::Hold = message.step {
+            return self
+                .held
+                .push(message.dir, message.bytes)
+                .map_err(|_| OrderFault::Memory);
+        }
+        if let Err(fault) = put_due(message, &self.held, sink) {
+            self.has_failed = true;
+            return Err(OrderFault::Sink(fault));
+        }
+        match message.step {
+            Step::Request(_) | Step::Answer => self.held.clear(),
+            Step::Removed | Step::Hold | Step::Pass => {}
+        }
+        Ok(())
+    }
+}
+
+/// Puts what has its place by what becomes of a message.
+fn put_due<S: MessageSink>(message: Judged<'_>, held: &Held, sink: &mut S) -> Result<(), S::Fault>
+    ensures ok { OnOk result (Puts S.after_ok sink.old (due_for message.entry.step held.now (sent message.entry)) sink.new) }
+    ensures err { IfErr result (λ e. Fails S.after_ok S.after_err sink.old
+        (due_for message.entry.step held.now (sent message.entry)) e sink.new) }
+{
+    let Judged { dir, bytes, .. } = message;
+    match message.step {
+        Step::Request(_) => put_behind(held, dir, bytes, sink),
+        Step::Answer => put_before(dir, bytes, held, sink),
+        Step::Removed | Step::Hold => Ok(()),
+        Step::Pass => sink.put(dir, bytes),
+    }
+}
+
+/// Puts what is held, and then the message.
+fn put_behind<S: MessageSink>(
+    held: &Held,
+    dir: Dir,
+    message: &[u8],
+    sink: &mut S,
+) -> Result<(), S::Fault>
+    ensures ok { OnOk result (Puts S.after_ok sink.old (held.now ++ (dir, message.now) ∷ []) sink.new) }
+    ensures err { IfErr result (λ e. Fails S.after_ok S.after_err sink.old
+        (held.now ++ (dir, message.now) ∷ []) e sink.new) }
+{
+    held.put_all(sink)?;
+    sink.put(dir, message)
+}
+
+/// Puts the message, and then what is held.
+fn put_before<S: MessageSink>(
+    dir: Dir,
+    message: &[u8],
+    held: &Held,
+    sink: &mut S,
+) -> Result<(), S::Fault>
+    ensures ok { OnOk result (Puts S.after_ok sink.old ((dir, message.now) ∷ held.now) sink.new) }
+    ensures err { IfErr result (λ e. Fails S.after_ok S.after_err sink.old
+        ((dir, message.now) ∷ held.now) e sink.new) }
+{
+    sink.put(dir, message)?;
+    held.put_all(sink)
+}

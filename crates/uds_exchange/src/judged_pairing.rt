@@ -1,0 +1,101 @@
+//! Requests with their answers, by messages that are judged already.
+
+ghost use Rattle.std.specs.Prelude.{◌≡◌, ◌≢◌, ◌++◌, ◌∷◌, [], List, OnOk, OnErr};
+ghost use Rattle.direction.specs.Dir.{Message};
+ghost use Rattle.uds_exchange.specs.Meaning.{meaning};
+ghost use Rattle.uds_exchange.specs.Numbering.{IsJudgedAfter, sent};
+ghost use Rattle.uds_exchange.specs.WaitingExchange.{waiting};
+ghost use Rattle.uds_exchange.specs.proving.Pairing as Spec;
+
+use crate::judge::Judged;
+use crate::meaning::Meaning;
+use crate::step::Step;
+use std::alloc::{AllocError, Global};
+use std::marker::Model;
+
+/// A [`Pairing`](crate::Pairing) that is told what becomes of each message. Contracts see it as a list of items: the meaning of
+/// the messages, where each was judged behind those before it.
+#[derive(Debug, Drop)]
+pub struct JudgedPairing {
+    meaning: Meaning,
+    /// The place of the exchange that waits for its answer, if one does.
+    waits_at: Option<usize>,
+}
+
+impl Model for JudgedPairing {
+    ghost use Rattle.std.specs.Prelude.{List};
+    ghost use Rattle.uds_exchange.specs.Meaning.{ItemValue};
+    ghost use Rattle.uds_exchange.specs.proving.Pairing.{IsWaitingAt};
+
+    ghost Value = { List ItemValue };
+
+    ghost view = { λ p. p.meaning };
+
+    ghost invariant = { λ p. IsWaitingAt p.meaning p.waits_at };
+}
+
+impl JudgedPairing {
+    /// A pairing that has taken no message. It takes no memory.
+    pub fn new(alloc: Global) -> JudgedPairing
+        ensures { result ≡ meaning [] }
+    {
+        JudgedPairing {
+            meaning: Meaning::new(alloc),
+            waits_at: None,
+        }
+    }
+
+    /// What the messages so far mean.
+    pub(crate) fn so_far(&self) -> &Meaning {
+        &self.meaning
+    }
+
+    /// Takes one more message. A reply that is left out is not copied. After an `Err` nothing has changed, and the call may be
+    /// made again. Whatever is said to become of the message, the call is safe: an answer where none is awaited is not taken.
+    pub fn take(&mut self, message: Judged<'_>) -> Result<(), AllocError>
+        ensures ok { OnOk result ((M : List Message) → self.old ≡ meaning M → IsJudgedAfter M message.entry
+            → self.new ≡ meaning (M ++ sent message.entry ∷ [])) }
+        ensures err { OnErr result (self.new ≡ self.old) }
+        ensures changes { OnErr result ((M : List Message) → self.old ≡ meaning M → IsJudgedAfter M message.entry
+            → meaning (M ++ sent message.entry ∷ []) ≢ meaning M) }
+    {
+        self.join(message)
+    }
+
+    /// The meaning of the messages that were taken. It takes no memory.
+    pub fn finish(self) -> Meaning
+        ensures { result ≡ self }
+    {
+        let JudgedPairing { meaning, .. } = self;
+        meaning
+    }
+
+    /// Takes one more message, by what becomes of it and the items alone. Where none waits, no answer is taken.
+    #[inline(always)]
+    fn join(&mut self, message: Judged<'_>) -> Result<(), AllocError>
+        ensures ok { OnOk result (self.new ≡ Spec.join_for message.entry.step (waiting self.old) self.old (sent message.entry)) }
+        ensures err { OnErr result (self.new ≡ self.old) }
+        ensures changes { OnErr result (Spec.join_for message.entry.step (waiting self.old) self.old (sent message.entry) ≢ self.old) }
+    {
+        match message.step {
+            Step::Request(_) => {
+                let place = self.meaning.len();
+                self.meaning.push_request(message.bytes)?;
+                self.waits_at = Some(place);
+                Ok(())
+            }
+            Step::Answer => {
+                if let Some(place) = self.waits_at {
+                    self.meaning.answer(place, message.bytes)?;
+                    self.waits_at = None;
+                }
+                Ok(())
+            }
+            Step::Removed => Ok(()),
+            Step::Hold | Step::Pass => {
+                self.meaning.push_stray(message.dir, message.bytes)?;
+                Ok(())
+            }
+        }
+    }
+}
