@@ -285,6 +285,7 @@ def looks(cases, folder):
         ("session.blf", b"LOGG" + bytes.fromhex("90000000020F0100"), f"looks like a Vector BLF file; {reads_it}"),
         ("session.mf4", b"MDF     4.10    ", measured),
         ("broken.mf4", b"UnFinMF 4.10    ", measured),
+        ("older.mdf", b"MDF     3.30    ", None),
         ("session.trc", b";$FILEVERSION=2.1\r\n", trace),
         ("first.trc", b";##########\n;   Start time: 14.11.2023\n", trace),
         ("micros.pcap", bytes.fromhex("D4C3B2A1020004000000000000000000"), pcap),

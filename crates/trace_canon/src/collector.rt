@@ -140,7 +140,7 @@ impl Collector {
             → Collects settings (M ++ (dir, bytes.now) ∷ []) self.now.pairing self.now.length self.now.config }
     {}
 
-    /// By how many bytes one more message, makes the canonical log longer.
+    /// By how many bytes one more message makes the canonical log longer.
     fn added(&self, message: Judged<'_>) -> u64
         ensures { (M : List Message) (size : ℕ) → self.now.pairing ≡ meaning M → IsJudgedAfter M message.entry → HaveLengths self.now.config (flattened (meaning M)) size
             → HaveLengths self.now.config (flattened (meaning (M ++ sent message.entry ∷ []))) (size + result) }

@@ -7,6 +7,7 @@ use Rattle.clap.specs.Walk.{Text}
 use Rattle.trace_io.specs.declared.device.Target.{Ghosts as TargetGhosts}
 use Rattle.udsnorm.specs.Advice.{IsAdviceFor}
 use Rattle.udsnorm.specs.Commands.{words_or_normalise}
+use Rattle.udsnorm.specs.Looks.{row_of}
 use Rattle.udsnorm.specs.Names.{behind_command, named}
 use Rattle.udsnorm.specs.Telling.{TookText}
 use Rattle.udsnorm.specs.Words.{IsPlanned}
@@ -19,29 +20,12 @@ use Rattle.udsnorm.specs.declared.job.Plan.{Plan}
 use Rattle.udsnorm.specs.declared.job.Plan.TheVariants.{One, Two}
 use Rattle.udsnorm.specs.declared.job.WordsFault.{WordsFault}
 use Rattle.udsnorm.specs.declared.looks.Look.{Look}
-use Rattle.udsnorm.specs.declared.looks.Look.TheVariants as look
 
 -- ---- the line
 
--- what is said behind its name of a log that looks so, with what mends it
-abbrev pub look_words : Look → List ℕ
-look_words look.Gzip = codes " looks compressed with gzip; zcat unpacks it\n"
-look_words look.Zstandard = codes " looks compressed with zstd; zstdcat unpacks it\n"
-look_words look.Xz = codes " looks compressed with xz; xzcat unpacks it\n"
-look_words look.Bzip2 = codes " looks compressed with bzip2; bzcat unpacks it\n"
-look_words look.Zip = codes " looks like a zip archive; unzip -p unpacks it\n"
-look_words look.ByteOrderMark = codes " begins with a byte order mark, which an editor has put in front; save it without\n"
-look_words look.Utf16 = codes " looks like a text in UTF-16; iconv -f UTF-16 -t ASCII makes a log of one\n"
-look_words look.Screen = codes " looks like candump's form for the screen; python3 -m udsnorm reads it, and candump -l records a log\n"
-look_words look.Asc = codes " looks like a Vector ASC file; python3 -m udsnorm reads it\n"
-look_words look.Blf = codes " looks like a Vector BLF file; python3 -m udsnorm reads it\n"
-look_words look.Mf4 = codes " looks like an MF4 file; python3 -m udsnorm reads it\n"
-look_words look.Trc = codes " looks like a PCAN TRC file; python3 -m udsnorm reads it\n"
-look_words look.Pcap = codes " looks like a pcap capture; python3 -m udsnorm reads it\n"
-look_words look.Pcapng = codes " looks like a pcapng capture; python3 -m udsnorm reads it\n"
-look_words look.Date = codes " looks like a log whose stamps have a date; python3 -m udsnorm reads it\n"
-look_words look.Csv = codes " looks like a CSV file; python3 -m udsnorm reads those of SavvyCAN and python-can\n"
-look_words look.Nanoseconds = codes " looks like a log whose stamps have more than six decimals; python3 -m udsnorm rounds them\n"
+-- what is said of a log that looks so, with what mends it
+abbrev pub look_line : Look → Option (List ℕ) → List ℕ
+look_line look log = codes "hint: " ++ named log ++ codes " " ++ (row_of look).words ++ codes "; " ++ (row_of look).command ++ codes "\n"
 
 -- what is said of a file that is not there, behind its name: a dash is meant for standard input
 abbrev pub missing_words : Option (List ℕ) → List ℕ
@@ -62,7 +46,7 @@ hint_line (matter.Foreign tester unit) log =
     codes "hint: " ++ named log ++ codes " has no frame of " ++ identifier_text tester ++ codes " or " ++ identifier_text unit ++ codes "; udsnorm find" ++ behind_command log
     ++ codes " names its identifiers\n"
 hint_line matter.Empty log = codes "hint: " ++ named log ++ codes " is empty\n"
-hint_line (matter.Looks look) log = codes "hint: " ++ named log ++ look_words look
+hint_line (matter.Looks look) log = look_line look log
 hint_line matter.Cut log = codes "hint: the last line of " ++ named log ++ codes " looks cut; sed '$d' leaves it out, and a frame is missing\n"
 hint_line (matter.NoStamp line) log =
     codes "hint: line " ++ decimal line ++ codes " of " ++ named log ++ codes " begins with no stamp; if it is a notice of candump -d, grep -v ^DROPCOUNT leaves it out\n"

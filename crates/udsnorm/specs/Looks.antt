@@ -1,9 +1,10 @@
 -- What a file looks like that is no log, by its first bytes.
 use Prim.Native.Char.{code}
-use Rattle.std.specs.Prelude.{ℕ, ◌-◌, ◌==◌, ◌&&◌, ◌||◌, not, nat_le, nat_lt, Bool, List, [], ◌∷◌, ◌++◌, codes, length, slice_index, Option, Some, None, if◌then◌else◌}
-use Rattle.std.specs.List.{list_any, starts_with}
+use Rattle.std.specs.Prelude.{ℕ, ◌-◌, ◌==◌, ◌&&◌, ◌||◌, not, nat_le, nat_lt, Bool, List, [], ◌∷◌, ◌++◌, codes, length, slice_index, Option, Some, None, map, if◌then◌else◌}
+use Rattle.std.specs.List.{find, flat_map, list_any, starts_with}
 use Rattle.udsnorm.specs.declared.looks.Look.{Look}
 use Rattle.udsnorm.specs.declared.looks.Look.TheVariants as look
+use Rattle.udsnorm.specs.declared.looks.TheConstants.{TOLD}
 
 -- the bytes begin with these
 abbrev pub begins : List ℕ → List ℕ → Bool
@@ -13,70 +14,76 @@ begins bytes front = starts_with (λ one other. one == other) bytes front
 abbrev pub has_at : List ℕ → ℕ → ℕ → Bool
 has_at bytes place byte = nat_lt place (length bytes) && (slice_index bytes place == byte)
 
--- The first bytes of a file of one kind, and what it looks like by them.
+-- What is known of the files that look so: the first bytes that tell one, each of these alone, what is said of it behind its name,
+-- and what unpacks or reads it, or what else makes a log of it.
+pub record TableRow : Type 0 where
+  pub first : List (List ℕ)
+  pub words : List ℕ
+  pub command : List ℕ
+
+-- a row of these
+abbrev pub row : List (List ℕ) → List ℕ → List ℕ → TableRow
+row first words command = record { first = first; words = words; command = command }
+
+-- what reads the files of other tools
+abbrev pub reads : List ℕ
+reads = codes "python3 -m udsnorm reads it"
+
+-- The table of looks. Compressed files are told by RFC 1952, RFC 8878, the page of the format xz, bzip2's manual and the note on
+-- zip; texts by a byte order mark, in UTF-8 or in UTF-16 of either order; candump's form for the screen by two spaces before the
+-- interface, or one before a stamp; Vector ASC by its date or by what its numbers are; ASAM MDF 4, ended or not; PCAN TRC by a
+-- remark; captures of libpcap in micro- or nanoseconds, of either order, and those of the form pcapng, which begins with a line
+-- feed. The last three looks it takes more to tell.
+abbrev pub row_of : Look → TableRow
+row_of look.Gzip = row ((31 ∷ 139 ∷ []) ∷ []) (codes "looks compressed with gzip") (codes "zcat unpacks it")
+row_of look.Zstandard = row ((40 ∷ 181 ∷ 47 ∷ 253 ∷ []) ∷ []) (codes "looks compressed with zstd") (codes "zstdcat unpacks it")
+row_of look.Xz = row ((253 ∷ 55 ∷ 122 ∷ 88 ∷ 90 ∷ 0 ∷ []) ∷ []) (codes "looks compressed with xz") (codes "xzcat unpacks it")
+row_of look.Bzip2 = row (codes "BZh" ∷ []) (codes "looks compressed with bzip2") (codes "bzcat unpacks it")
+row_of look.Zip = row ((80 ∷ 75 ∷ 3 ∷ 4 ∷ []) ∷ []) (codes "looks like a zip archive") (codes "unzip -p unpacks it")
+row_of look.ByteOrderMark =
+    row ((239 ∷ 187 ∷ 191 ∷ []) ∷ []) (codes "begins with a byte order mark, which an editor has put in front") (codes "save it without")
+row_of look.Utf16 =
+    row ((255 ∷ 254 ∷ []) ∷ (254 ∷ 255 ∷ []) ∷ []) (codes "looks like a text in UTF-16") (codes "iconv -f UTF-16 -t ASCII makes a log of one")
+row_of look.Screen =
+    row (codes "  " ∷ codes " (" ∷ []) (codes "looks like candump's form for the screen")
+    (codes "python3 -m udsnorm reads it, and candump -l records a log")
+row_of look.Asc = row (codes "date " ∷ codes "base " ∷ []) (codes "looks like a Vector ASC file") reads
+row_of look.Blf = row (codes "LOGG" ∷ []) (codes "looks like a Vector BLF file") reads
+row_of look.Mf4 = row (codes "MDF     4" ∷ codes "UnFinMF 4" ∷ []) (codes "looks like an MF4 file") reads
+row_of look.Trc = row (codes ";" ∷ []) (codes "looks like a PCAN TRC file") reads
+row_of look.Pcap =
+    row ((161 ∷ 178 ∷ 195 ∷ 212 ∷ []) ∷ (212 ∷ 195 ∷ 178 ∷ 161 ∷ []) ∷ (161 ∷ 178 ∷ 60 ∷ 77 ∷ []) ∷ (77 ∷ 60 ∷ 178 ∷ 161 ∷ []) ∷ [])
+    (codes "looks like a pcap capture") reads
+row_of look.Pcapng = row ((10 ∷ 13 ∷ 13 ∷ 10 ∷ []) ∷ []) (codes "looks like a pcapng capture") reads
+row_of look.Date = row [] (codes "looks like a log whose stamps have a date") reads
+row_of look.Csv = row [] (codes "looks like a CSV file") (codes "python3 -m udsnorm reads those of SavvyCAN and python-can")
+row_of look.Nanoseconds =
+    row [] (codes "looks like a log whose stamps have more than six decimals") (codes "python3 -m udsnorm rounds them")
+
+-- first bytes, and the look that they tell
 abbrev pub Sign : Type 0
 Sign = List ℕ × Look
 
--- compressed files, by RFC 1952, RFC 8878, the page of the format xz, bzip2's manual and the note on zip
-abbrev pub compressed_signs : List Sign
-compressed_signs =
-    (31 ∷ 139 ∷ [], look.Gzip)
-    ∷ (40 ∷ 181 ∷ 47 ∷ 253 ∷ [], look.Zstandard)
-    ∷ (253 ∷ 55 ∷ 122 ∷ 88 ∷ 90 ∷ 0 ∷ [], look.Xz)
-    ∷ (codes "BZh", look.Bzip2)
-    ∷ (80 ∷ 75 ∷ 3 ∷ 4 ∷ [], look.Zip)
-    ∷ []
+-- the first bytes of a look's row, with it
+abbrev pub signs_of : Look → List Sign
+signs_of look = map (λ first. (first, look)) (row_of look).first
 
--- captures of libpcap, by micro- or nanoseconds, of either order, and of the form pcapng, which begins with a line feed
-abbrev pub capture_signs : List Sign
-capture_signs =
-    (161 ∷ 178 ∷ 195 ∷ 212 ∷ [], look.Pcap)
-    ∷ (212 ∷ 195 ∷ 178 ∷ 161 ∷ [], look.Pcap)
-    ∷ (161 ∷ 178 ∷ 60 ∷ 77 ∷ [], look.Pcap)
-    ∷ (77 ∷ 60 ∷ 178 ∷ 161 ∷ [], look.Pcap)
-    ∷ (10 ∷ 13 ∷ 13 ∷ 10 ∷ [], look.Pcapng)
-    ∷ []
-
--- recordings of other tools: Vector BLF; ASAM MDF, ended or not; Vector ASC, by its date or by what its numbers are; PCAN TRC,
--- which begins with a remark
-abbrev pub recording_signs : List Sign
-recording_signs =
-    (codes "LOGG", look.Blf)
-    ∷ (codes "MDF     ", look.Mf4)
-    ∷ (codes "UnFinMF ", look.Mf4)
-    ∷ (codes "date ", look.Asc)
-    ∷ (codes "base ", look.Asc)
-    ∷ (codes ";", look.Trc)
-    ∷ []
-
--- texts: behind a byte order mark in UTF-8, or in UTF-16 of either order; candump's form for the screen, two spaces before the
--- interface, or one before a stamp
-abbrev pub marked_signs : List Sign
-marked_signs =
-    (239 ∷ 187 ∷ 191 ∷ [], look.ByteOrderMark)
-    ∷ (255 ∷ 254 ∷ [], look.Utf16)
-    ∷ (254 ∷ 255 ∷ [], look.Utf16)
-    ∷ (codes "  ", look.Screen)
-    ∷ (codes " (", look.Screen)
-    ∷ []
-
--- all signs
+-- those of all rows
 abbrev pub signs : List Sign
-signs = compressed_signs ++ capture_signs ++ recording_signs ++ marked_signs
+signs = flat_map signs_of TOLD
 
--- the look of the first of these signs that the bytes begin with
-abbrev pub look_by_sign : List Sign → List ℕ → Option Look
-look_by_sign [] first = None
-look_by_sign (sign ∷ later) first = if begins first sign.0 then Some sign.1 else look_by_sign later first
+-- first bytes tell this look
+abbrev pub is_told : List ℕ → Look → Bool
+is_told bytes look = list_any (begins bytes) (row_of look).first
 
 -- the one look, or else the other
 abbrev pub or_else : Option Look → Option Look → Option Look
 or_else (Some look) other = Some look
 or_else None other = other
 
--- what first bytes tell by a sign
+-- what first bytes tell
 abbrev pub look_told : List ℕ → Option Look
-look_told first = look_by_sign signs first
+look_told first = find (is_told first) TOLD
 
 -- a stamp with a date: a year of four digits, and a hyphen
 abbrev pub is_dated : List ℕ → Bool

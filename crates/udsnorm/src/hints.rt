@@ -4,14 +4,14 @@ ghost use Rattle.std.specs.Prelude.{◌≡◌, ◌<◌, ◌++◌, IfOk, OnOk, If
 ghost use Rattle.std.specs.List.{flat_map, list_all};
 ghost use Rattle.can_log.specs.Digits.{digit};
 ghost use Rattle.trace_io.specs.Counted.{IsLowCount};
-ghost use Rattle.udsnorm.specs.Hints.{GaveHint, IsHint, ToldAwaited, asks_for_hints, awaited_line, hint_line, hint_of_plan, look_words, missing_words};
+ghost use Rattle.udsnorm.specs.Hints.{GaveHint, IsHint, ToldAwaited, asks_for_hints, awaited_line, hint_line, hint_of_plan, look_line, missing_words};
 ghost use Rattle.udsnorm.specs.Names.{before_name, behind_command, is_plain, is_plain_name, is_printable, quoted, quoted_byte};
 ghost use Rattle.udsnorm.specs.proving.Pieces.{piece_text, pieces_text};
 
 use crate::advice::advice_for;
 use crate::ended::{Known, Matter, Run, name_of};
 use crate::job::{Plan, WordsFault};
-use crate::looks::Look;
+use crate::looks::{Look, row_of};
 use crate::tell::tell_text;
 use crate::words::plan;
 use can_log::{Id, identifier_text};
@@ -198,10 +198,7 @@ fn hint_line(alloc: Global, matter: Matter, log: Option<&str>) -> Result<Vec<u8>
             alloc,
             &[Piece::Words("hint: "), log, Piece::Words(" is empty\n")],
         ),
-        Matter::Looks(look) => line_of(
-            alloc,
-            &[Piece::Words("hint: "), log, Piece::Words(look_words(look))],
-        ),
+        Matter::Looks(look) => look_line(alloc, look, name),
         Matter::Cut => line_of(
             alloc,
             &[
@@ -233,6 +230,25 @@ fn hint_line(alloc: Global, matter: Matter, log: Option<&str>) -> Result<Vec<u8>
     }
 }
 
+/// The line about a log that looks so.
+fn look_line(alloc: Global, look: Look, log: Option<&str>) -> Result<Vec<u8>, AllocError>
+    ensures { IfOk result (λ line. line.items ≡ look_line look (option_map (λ t. t.now) log.entry)) }
+{
+    let row = row_of(look);
+    line_of(
+        alloc,
+        &[
+            Piece::Words("hint: "),
+            Piece::Log(log),
+            Piece::Words(" "),
+            Piece::Words(row.words),
+            Piece::Words("; "),
+            Piece::Words(row.command),
+            Piece::Words("\n"),
+        ],
+    )
+}
+
 /// What is said of a file that is not there, behind its name. A dash is meant for standard input.
 fn missing_words(name: Option<&str>) -> &'static str
     ensures { result.now ≡ missing_words (option_map (λ t. t.now) name.entry) }
@@ -241,41 +257,6 @@ fn missing_words(name: Option<&str>) -> &'static str
         "; standard input is read where no file is named, or as /dev/stdin\n"
     } else {
         "\n"
-    }
-}
-
-/// What is said behind its name of a log that looks so, with what mends it.
-fn look_words(look: Look) -> &'static str
-    ensures { result.now ≡ look_words look }
-{
-    match look {
-        Look::Gzip => " looks compressed with gzip; zcat unpacks it\n",
-        Look::Zstandard => " looks compressed with zstd; zstdcat unpacks it\n",
-        Look::Xz => " looks compressed with xz; xzcat unpacks it\n",
-        Look::Bzip2 => " looks compressed with bzip2; bzcat unpacks it\n",
-        Look::Zip => " looks like a zip archive; unzip -p unpacks it\n",
-        Look::ByteOrderMark => {
-            " begins with a byte order mark, which an editor has put in front; save it without\n"
-        }
-        Look::Utf16 => {
-            " looks like a text in UTF-16; iconv -f UTF-16 -t ASCII makes a log of one\n"
-        }
-        Look::Screen => {
-            " looks like candump's form for the screen; python3 -m udsnorm reads it, and candump -l records a log\n"
-        }
-        Look::Asc => " looks like a Vector ASC file; python3 -m udsnorm reads it\n",
-        Look::Blf => " looks like a Vector BLF file; python3 -m udsnorm reads it\n",
-        Look::Mf4 => " looks like an MF4 file; python3 -m udsnorm reads it\n",
-        Look::Trc => " looks like a PCAN TRC file; python3 -m udsnorm reads it\n",
-        Look::Pcap => " looks like a pcap capture; python3 -m udsnorm reads it\n",
-        Look::Pcapng => " looks like a pcapng capture; python3 -m udsnorm reads it\n",
-        Look::Date => " looks like a log whose stamps have a date; python3 -m udsnorm reads it\n",
-        Look::Csv => {
-            " looks like a CSV file; python3 -m udsnorm reads those of SavvyCAN and python-can\n"
-        }
-        Look::Nanoseconds => {
-            " looks like a log whose stamps have more than six decimals; python3 -m udsnorm rounds them\n"
-        }
     }
 }
 

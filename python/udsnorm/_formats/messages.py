@@ -8,7 +8,7 @@ from typing import Any, Iterable, Iterator, Optional
 from .frames import BIT_RATE_SWITCH, ERROR_STATE, Fault, Frame, Tally, interface_of, nearest
 
 #: What the first bytes of these files are, and the readers of python-can.
-READERS = {b"SQLite format 3\0": "SqliteReader", b"MDF     ": "MF4Reader", b"UnFinMF ": "MF4Reader"}
+READERS = {b"SQLite format 3\0": "SqliteReader", b"MDF     4": "MF4Reader", b"UnFinMF 4": "MF4Reader"}
 _SUFFIXES = {".db": "SqliteReader", ".mf4": "MF4Reader"}
 # What the modules are called by pip, and by Debian, if it has them.
 _PIP = {"can": "python-can", "asammdf": "asammdf"}
