@@ -167,10 +167,10 @@ fn what_was_lost_is_said(rt: HostRuntime) -> Result<(), Fail> {
     let mut said = empty_sink(rt.alloc());
     say_cause(&mut said, Cause::Overflow);
     say_counts(
+        &mut said,
         ", ",
         " ",
         &[Count("frames", 12), Count("messages", 0)],
-        &mut said,
     );
     say_text(&mut said, ", ");
     say_layout_fault(&mut said, PduFault::Empty);

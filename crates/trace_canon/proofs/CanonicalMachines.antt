@@ -8,7 +8,7 @@ use Rattle.isotp_receive.specs.Trace.{Entry}
 use Rattle.isotp_receive.specs.Verdict.{EventValue, messages, told_message, verdict}
 use Rattle.isotp_segment.specs.Timed.{all_frames}
 use Rattle.uds_exchange.specs.Order.{early}
-use Rattle.uds_exchange.specs.Numbering.{sent}
+use Rattle.uds_exchange.specs.Judging.{sent}
 use Rattle.uds_exchange.specs.declared.judge.Judged.{Judged}
 use Rattle.trace_run.proofs.Promises.{CompletesJudged}
 use Rattle.uds_exchange.specs.Orderer.{IsHeld, JudgedOrdererValue, orders_after}

@@ -13,7 +13,7 @@ use Rattle.uds_exchange.specs.declared.judge.Judged.{Judged}
 use Rattle.trace_run.specs.Seen.{IsSeen}
 use Rattle.trace_run.specs.declared.machine.Seen.{Seen}
 use Rattle.trace_run.proofs.Promises.{CompletesJudged, tells_no_message}
-use Rattle.uds_exchange.specs.Numbering.{step_after, number_after}
+use Rattle.uds_exchange.specs.Judging.{step_after, number_after}
 use Rattle.uds_exchange.specs.declared.step.Step.{Step}
 use Rattle.trace_canon.specs.proving.Begun.{IsBegunAt}
 use Rattle.trace_canon.specs.Begun.{begun_after, began_at}

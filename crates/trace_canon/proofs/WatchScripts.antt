@@ -11,7 +11,7 @@ use Rattle.uds_exchange.specs.Decided.{decided, undecided}
 use Rattle.uds_exchange.specs.Decider.{DeciderValue, decides_after, IsKept}
 use Rattle.uds_exchange.specs.ItemSink.{PutsItems}
 use Rattle.uds_exchange.specs.Meaning.{ItemValue, meaning}
-use Rattle.uds_exchange.specs.Numbering.{one_more, sent}
+use Rattle.uds_exchange.specs.Judging.{one_more, sent}
 use Rattle.uds_exchange.specs.declared.judge.Judged.{Judged}
 use Rattle.trace_run.proofs.Promises.{CompletesJudged}
 use Rattle.uds_exchange.proofs.Promises.{decided_grows, decided_then_undecided, items_are_few, none_is_lost}

@@ -7,7 +7,7 @@ use Rattle.direction.specs.Dir.{Message}
 use Rattle.direction.specs.declared.Dir.{Dir}
 use Rattle.isotp_receive.specs.Trace.{Entry, FrameRole, single, first, consecutive, continue_or_wait, overflow, no_part, role}
 use Rattle.isotp_receive.specs.Verdict.{VerdictValue, message, began, stored, flowed, dropped, messages, verdict}
-use Rattle.uds_exchange.specs.Numbering.{sent, step_after, number_after}
+use Rattle.uds_exchange.specs.Judging.{sent, step_after, number_after}
 use Rattle.uds_exchange.specs.declared.judge.Judged.{Judged}
 use Rattle.uds_exchange.specs.declared.step.Step.{Step}
 use Rattle.trace_text.specs.Json.{Members, nothing, member, object_line}

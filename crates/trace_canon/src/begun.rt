@@ -44,7 +44,8 @@ impl Begun {
         }
     }
 
-    /// Takes what a frame did that stands here. Answers where the message began, if it completed one.
+    /// Takes what a frame in this place did, and answers where the message began that it completed. Where it completed none,
+    /// the answer says nothing.
     #[inline(always)]
     pub fn take(&mut self, here: FramePlace, dir: Dir, event: Event<'_>) -> FramePlace
         ensures tester { self.new.tester ≡ begun_after Tester dir (seen_event event.entry) here self.old.tester }
@@ -52,8 +53,8 @@ impl Begun {
         ensures tester_first { dir ≡ Tester → result ≡ began_at dir (seen_event event.entry) here self.old.tester }
         ensures unit_first { dir ≡ Unit → result ≡ began_at dir (seen_event event.entry) here self.old.unit }
     {
-        let tester = left(Dir::Tester, event.ended, self.tester);
-        let unit = left(Dir::Unit, event.ended, self.unit);
+        let tester = still_begun(Dir::Tester, event.ended, self.tester);
+        let unit = still_begun(Dir::Unit, event.ended, self.unit);
         match dir {
             Dir::Tester => {
                 self.tester = moved(event.verdict, here, tester);
@@ -69,8 +70,8 @@ impl Begun {
     }
 }
 
-/// Where the reception of a direction began, if one stands after this end.
-pub fn left(dir: Dir, ended: Option<Ended>, begun: Option<FramePlace>) -> Option<FramePlace>
+/// Where the reception of a direction began, if it still stands after this end.
+pub fn still_begun(dir: Dir, ended: Option<Ended>, begun: Option<FramePlace>) -> Option<FramePlace>
     ensures { result ≡ left_by dir ended begun }
 {
     match (ended, dir) {

@@ -7,7 +7,7 @@ ghost use Rattle.direction.specs.declared.Dir.{Dir as DirValue};
 ghost use Rattle.isotp_receive.specs.declared.TheConstants.{MESSAGE_LIMIT};
 ghost use Rattle.isotp_segment.specs.CanonicalFrames.{IsFullNext, canonical_frames};
 ghost use Rattle.isotp_segment.specs.Timed.{all_frames};
-ghost use Rattle.uds_exchange.specs.Numbering.{IsJudgedAfter, sent};
+ghost use Rattle.uds_exchange.specs.Judging.{IsJudgedAfter, sent};
 ghost use Rattle.uds_exchange.specs.Order.{held as held_after};
 ghost use Rattle.uds_exchange.specs.Orderer.{IsHeld, orders_after};
 ghost use Rattle.trace_log.specs.Settings.{id_of};
@@ -117,7 +117,7 @@ fn say_frame<S: TextSink>(
 {
     let id = config.id_of(sender);
     let length = line_length(id);
-    if !place.admits(length) {
+    if !place.admit(length) {
         return false;
     }
     say_line(out, place.clock(), id, frame);
@@ -198,7 +198,7 @@ fn say_stretch<'a, S: TextSink, const NAME: usize>(
 {
     let mut rest = frames;
     'stretch: while let Some(frame) = rest.next_full(sender) {
-        if !place.admits(NAMELESS + NAME) {
+        if !place.admit(NAMELESS + NAME) {
             return rest;
         }
         out.put_three(place.clock().stamp(), &name, &line_end(&frame));
@@ -219,7 +219,7 @@ pub(crate) fn order_to<S: TextSink>(
     ensures says { OnOk result ((M : List Message) → orderer.old ≡ orders_after M → IsJudgedAfter M message.entry
         → SaysDue S.says config.now M (sent message.entry) place.old out.old place.new out.new) }
     ensures held { OnErr result ((M : List Message) → orderer.old ≡ orders_after M → IsJudgedAfter M message.entry → IsHeld M (sent message.entry)) }
-    ensures refused { OnErr result ((M : List Message) → orderer.old ≡ orders_after M → IsJudgedAfter M message.entry → (place.new ≡ place.old) × S.says out.old [] out.new) }
+    ensures refused { OnErr result ((place.new ≡ place.old) × S.says out.old [] out.new) }
 {
     let mut sink = CanonicalSink {
         out,

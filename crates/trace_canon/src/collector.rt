@@ -103,7 +103,7 @@ impl Collector {
     ghost use Rattle.std.specs.Prelude.{◌≡◌, ◌<◌, ◌+◌, ℕ, List, [], ◌∷◌, ◌++◌, OnOk};
     ghost use Rattle.direction.specs.Dir.{Message};
     ghost use Rattle.uds_exchange.specs.Meaning.{meaning, flattened};
-    ghost use Rattle.uds_exchange.specs.Numbering.{IsJudgedAfter, sent};
+    ghost use Rattle.uds_exchange.specs.Judging.{IsJudgedAfter, sent};
     ghost use Rattle.trace_log.specs.Settings.{Settings};
     ghost use Rattle.trace_canon.specs.SessionScript.{Collects};
     ghost use Rattle.trace_canon.specs.proving.Measuring.{HaveLengths};
@@ -115,7 +115,6 @@ impl Collector {
     {
         let limit = self.config.max_bytes();
         if self.length > limit {
-            self.stay_over(message.dir, message.bytes);
             return Ok(());
         }
         let length = self.length.saturating_add(self.added(message));
@@ -124,21 +123,10 @@ impl Collector {
             self.length = length;
             return Ok(());
         }
-        match self.pairing.take(message) {
-            Ok(()) => {
-                self.length = length;
-                Ok(())
-            }
-            Err(refused) => Err(refused),
-        }
+        self.pairing.take(message)?;
+        self.length = length;
+        Ok(())
     }
-
-    /// One more message leaves the canonical log above the limit. Nothing is done.
-    #[inline(always)]
-    fn stay_over(&self, dir: Dir, bytes: &[u8])
-        ensures { (settings : Settings) (M : List Message) → settings.max_bytes < self.now.length → Collects settings M self.now.pairing self.now.length self.now.config
-            → Collects settings (M ++ (dir, bytes.now) ∷ []) self.now.pairing self.now.length self.now.config }
-    {}
 
     /// By how many bytes one more message makes the canonical log longer.
     fn added(&self, message: Judged<'_>) -> u64
@@ -189,10 +177,7 @@ impl Machine for Collector {
         let Some(message) = seen.message else {
             return Ok(());
         };
-        match self.take(message) {
-            Ok(()) => Ok(()),
-            Err(refused) => Err(refused),
-        }
+        self.take(message)
     }
 
     fn end<S: TextSink>(

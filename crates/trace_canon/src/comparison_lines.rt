@@ -1,18 +1,16 @@
-//! The text of a comparison: in words, and what it shares with that in JSON.
-ghost use Rattle.std.specs.Prelude.{ℕ, ◌+◌, Some, None, slice_get};
-ghost use Rattle.uds_exchange.specs.ItemSeen.{item_value};
-ghost use Rattle.trace_canon.specs.ComparisonText.{comparison_lines, comparison_text, shown_lines, shown_text};
+//! The text of a comparison, in words or as an object.
+ghost use Rattle.trace_canon.specs.ComparisonText.{comparison_lines, comparison_text, shown_lines};
 ghost use Rattle.trace_run.specs.Printed.{Prints};
 ghost use Rattle.trace_io.specs.Counted.{IsLowCount};
 
+use crate::compared_items::say_item_at;
 use crate::comparing::{Compared, Comparison};
 use crate::comparison_objects::say_comparison_object;
 use trace_io::{Target, TextSink};
 use trace_log::Fault;
 use trace_run::{Printable, print};
 use trace_text::say::say_parts;
-use trace_text::{Notation, Numbering, Part, say_item_object, say_worded};
-use uds_exchange::{Item, Meaning};
+use trace_text::{Notation, Part};
 
 /// How a comparison is written.
 #[derive(Clone, Copy, Debug, PartialEq, Eq)]
@@ -88,42 +86,4 @@ fn say_items_at<S: TextSink>(compared: &Compared, place: usize, out: &mut S)
     say_item_at(&compared.left.meaning, place, Notation::Text, out);
     say_parts(out, &[Part::Text("right: ")]);
     say_item_at(&compared.right.meaning, place, Notation::Text, out);
-}
-
-/// Says the item at a place of a meaning, or that there is none.
-pub(crate) fn say_item_at<S: TextSink>(
-    meaning: &Meaning,
-    place: usize,
-    notation: Notation,
-    out: &mut S,
-)
-    ensures { S.says out.old (shown_text notation (place + 1) (slice_get meaning.now place)) out.new }
-{
-    if place >= meaning.len() {
-        say_nothing(notation, out);
-        return;
-    }
-    if let Some(item) = meaning.item(place) {
-        say_shown(place as u64 + 1, item, notation, out);
-    }
-}
-
-/// Says an item, which has this number.
-fn say_shown<S: TextSink>(number: u64, item: Item<'_>, notation: Notation, out: &mut S)
-    ensures { S.says out.old (shown_text notation number (Some (item_value item.entry))) out.new }
-{
-    match notation {
-        Notation::Text => say_worded(number, Numbering::Shown, item, out),
-        Notation::Json => say_item_object(number, Numbering::Shown, item, out),
-    }
-}
-
-/// Says that there is no item.
-fn say_nothing<S: TextSink>(notation: Notation, out: &mut S)
-    ensures { (number : ℕ) → S.says out.old (shown_text notation number None) out.new }
-{
-    match notation {
-        Notation::Text => say_parts(out, &[Part::Text("nothing\n")]),
-        Notation::Json => say_parts(out, &[Part::Text("null")]),
-    }
 }

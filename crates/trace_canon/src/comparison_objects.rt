@@ -2,8 +2,8 @@
 ghost use Rattle.trace_canon.specs.ComparisonText.{comparison_members, different_members, shown_members};
 ghost use Rattle.trace_text.specs.Json.{object_line};
 
+use crate::compared_items::say_item_at;
 use crate::comparing::{Compared, Comparison};
-use crate::comparison_lines::say_item_at;
 use trace_io::TextSink;
 use trace_text::say::say_parts;
 use trace_text::{Notation, Part};

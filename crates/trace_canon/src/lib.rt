@@ -38,6 +38,7 @@
 pub mod begun;
 mod canonical_sink;
 mod collector;
+mod compared_items;
 mod comparing;
 mod comparison_lines;
 mod comparison_objects;

@@ -9,7 +9,7 @@ use trace_text::names::role_name;
 use trace_text::say::{say_bytes, say_direction, say_number, say_text};
 use uds_exchange::Judged;
 
-/// Says the line of a message, that has its first frame and its last one in these places, as an object.
+/// Says the line of a message that has its first frame and its last one in these places, as an object.
 pub(crate) fn say_message_object<S: TextSink>(
     message: Judged<'_>,
     first: FramePlace,

@@ -2,7 +2,7 @@
 ghost use Rattle.std.specs.Prelude.{◌≡◌, ℕ, List, [], ◌∷◌, ◌++◌, length, OnOk, OnErr, Err};
 ghost use Rattle.direction.specs.Dir.{Message};
 ghost use Rattle.isotp_receive.specs.declared.TheConstants.{MESSAGE_LIMIT};
-ghost use Rattle.uds_exchange.specs.Numbering.{IsJudgedAfter, sent};
+ghost use Rattle.uds_exchange.specs.Judging.{IsJudgedAfter, sent};
 ghost use Rattle.uds_exchange.specs.Decided.{undecided};
 ghost use Rattle.uds_exchange.specs.Decider.{decides_after, IsKept};
 ghost use Rattle.trace_canon.specs.Keeping.{CompletesKept};
@@ -125,7 +125,7 @@ pub(crate) struct LineSink<'a, S> {
 
 impl<'a, S: TextSink> ItemSink for LineSink<'a, S> {
     ghost use Rattle.std.specs.Prelude.{◌≡◌};
-    ghost use Rattle.uds_exchange.specs.Numbering.{one_more};
+    ghost use Rattle.uds_exchange.specs.Judging.{one_more};
     ghost use Rattle.trace_text.specs.ListText.{item_line};
 
     ghost takes = { λ s item t. (t.out.ghost_name ≡ s.out.ghost_name) × (t.number.ghost_name ≡ s.number.ghost_name) × (t.style ≡ s.style)

@@ -19,7 +19,7 @@ use Rattle.isotp_receive.specs.StandingReception.{StandingReception, fit_of, is_
 use Rattle.isotp_receive.specs.Trace.{Entry, FrameRole, single, first, consecutive, continue_or_wait, overflow, no_part, role, own_role, other_role}
 use Rattle.isotp_receive.specs.Verdict.{EventValue, VerdictValue, message, on_fit, on_flow_control, on_layout, verdict}
 use Rattle.isotp_receive.proofs.Promises.{one_more, same-self, other-apart}
-use Rattle.uds_exchange.specs.Numbering.{one_more as one_more_count}
+use Rattle.uds_exchange.specs.Judging.{one_more as one_more_count}
 use Rattle.trace_canon.specs.MessageLines.{last_start, place_of}
 use Rattle.trace_report.specs.Events.{frames_by}
 use Rattle.trace_canon.specs.declared.begun.FramePlace.{FramePlace}

@@ -15,7 +15,7 @@ use Rattle.trace_run.proofs.Promises.{tells_no_message}
 use Rattle.trace_report.specs.Rows as row
 use Rattle.uds_exchange.specs.Laws.{open_with}
 use Rattle.uds_exchange.specs.Meaning.{is_answer_to, is_tester_request}
-use Rattle.uds_exchange.specs.Numbering.{number_after, step_after}
+use Rattle.uds_exchange.specs.Judging.{number_after, step_after}
 use Rattle.uds_exchange.specs.OneMessage.{step_if_open, step_of}
 use Rattle.uds_exchange.specs.Order.{open_request}
 use Rattle.uds_exchange.proofs.Promises.{open_request_goes_on}

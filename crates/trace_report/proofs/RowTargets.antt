@@ -16,7 +16,7 @@ use Rattle.trace_canon.proofs.Promises.{messages_next}
 use Rattle.trace_canon.specs.MessageLines.{place_of}
 use Rattle.uds_exchange.proofs.Promises.{held_are_fewer, items_grow}
 use Rattle.uds_exchange.specs.Meaning.{is_tester_request, meaning}
-use Rattle.uds_exchange.specs.Numbering.{items_with, number_after, number_by, open_number, step_after}
+use Rattle.uds_exchange.specs.Judging.{items_with, number_after, number_by, open_number, step_after}
 use Rattle.uds_exchange.specs.OneMessage.{step_of}
 use Rattle.uds_exchange.specs.Order.{open_request}
 use Rattle.uds_exchange.specs.declared.step.Step.{Step}

@@ -13,7 +13,7 @@ use Rattle.isotp_receive.specs.Verdict.{VerdictValue, message, began, stored, fl
 use Rattle.trace_canon.proofs.Promises.{messages_next}
 use Rattle.uds_exchange.proofs.Promises.{meaning_goes_on, step_by_items}
 use Rattle.uds_exchange.specs.Meaning.{meaning}
-use Rattle.uds_exchange.specs.Numbering.{step_after}
+use Rattle.uds_exchange.specs.Judging.{step_after}
 use Rattle.uds_exchange.specs.OneMessage.{step_of}
 use Rattle.uds_exchange.specs.Order.{open_request}
 use Rattle.uds_exchange.specs.declared.step.Step.{Step}

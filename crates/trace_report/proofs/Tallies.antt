@@ -3,7 +3,7 @@ use Rattle.std.proofs.Common.{◌≡◌, ℕ, ◌<◌, ◌≤◌, ◌^◌, ◌-�
 use Rattle.std.specs.Prelude.{if◌then◌else◌}
 use Rattle.std.proofs.lemmas.Grind.{flat_map-append}
 use Rattle.std.proofs.lemmas.List.{length-append}
-use Rattle.uds_exchange.specs.Numbering.{one_more}
+use Rattle.uds_exchange.specs.Judging.{one_more}
 use Rattle.trace_report.specs.Rows.{RowValue}
 use Rattle.trace_report.specs.Sorts.{is_of, most_links, rank, sort_of, target_of, targets_of, counts_in, first_targets, tally_of}
 use Rattle.trace_report.specs.declared.counts.SortCounts.{SortCounts}

@@ -7,7 +7,7 @@ ghost use Rattle.isotp_receive.specs.StandingReception.{receptions_after};
 ghost use Rattle.isotp_receive.specs.Trace.{Entry};
 ghost use Rattle.isotp_receive.specs.Verdict.{verdict};
 ghost use Rattle.trace_run.specs.Seen.{IsSeen};
-ghost use Rattle.uds_exchange.specs.Numbering.{IsJudgedAfter, number_after, sent, step_after};
+ghost use Rattle.uds_exchange.specs.Judging.{IsJudgedAfter, number_after, sent, step_after};
 ghost use Rattle.trace_canon.specs.MessageLines.{place_of};
 ghost use Rattle.trace_report.specs.Events.{closing_rows, end_rows, ended_rows, frame_rows, role_of_step as role_by, rows_before, standing_row};
 ghost use Rattle.trace_report.specs.Rows.{message as message_row};

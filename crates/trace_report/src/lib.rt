@@ -8,8 +8,8 @@
 //! ```
 //!
 //! [`report`] is a machine over the driver of `trace_run` (`reporter`). A `follower` knows what the rows to come
-//! depend on: the numbers of items, the request that waits, and the `places` where messages begin. It answers the rows
-//! of a frame (`row`). The `chart` says them, in `blocks` that fold, and keeps a `tally` for the verdict.
+//! depend on: the number of the exchange that waits, how and when its request came, and the `places` where messages
+//! begin. It answers the rows of a frame (`row`). The `chart` says them, in `blocks` that fold, and keeps a `tally` for the verdict.
 //!
 //! The text of a page is in pieces: its `front`; the rows of messages (`message_rows`, `brief_rows`) and of what is
 //! missing (`lost_rows`), by `cells` and `words`; the `verdict`, with `links` and `counts`; and the `help`. The style

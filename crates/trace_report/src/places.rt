@@ -12,7 +12,7 @@ ghost use Rattle.trace_report.specs.proving.Following.{KnowsPlaces};
 use crate::frames::{FrameCounts, frames_carrying};
 use direction::Dir;
 use isotp_receive::Event;
-use trace_canon::begun::{Begun, FramePlace, left};
+use trace_canon::begun::{Begun, FramePlace, still_begun};
 
 /// Of the receptions that stand: where they began, and how many frames they took.
 #[derive(Clone, Copy, Debug)]
@@ -39,7 +39,8 @@ impl Places {
         }
     }
 
-    /// Takes what a frame did that stands here. Answers the extent of the message that it completed, if it completed one.
+    /// Takes what a frame in this place did, and answers the extent of the message that it completed. Where it completed none,
+    /// the answer says nothing.
     #[inline(always)]
     pub(crate) fn take(&mut self, here: FramePlace, dir: Dir, event: Event<'_>) -> Extent
         ensures next { (T : List Entry) (e : Entry) → e.line ≡ here.line → e.micros ≡ here.micros → e.dir ≡ dir → length T < 2 ^ 62
@@ -51,7 +52,7 @@ impl Places {
             → seen_event event.entry ≡ verdict MESSAGE_LIMIT T e → (seen_event event.entry).verdict ≡ completes bytes → KnowsPlaces T self.old
             → result.frames ≡ frames_by (stands MESSAGE_LIMIT e.dir T) (role e.dir e) }
     {
-        let begun = left(dir, event.ended, self.begun.of(dir));
+        let begun = still_begun(dir, event.ended, self.begun.of(dir));
         let frames = frames_carrying(begun, self.frames.of(dir));
         let first = self.begun.take(here, dir, event);
         self.frames.take(dir, event.verdict);

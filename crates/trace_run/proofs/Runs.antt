@@ -28,17 +28,17 @@ no_trace : (settings : Settings) → trace settings [] ≡ []
 unfolding trace_from
 no_trace settings = refl
 
--- The run has taken no line: a receiver of the settings has received nothing, and this is known of its taker.
+-- The run has taken no line: a receiver of the settings has received nothing, and this is known of its telling.
 pub record IsRunStart {M W : Type 0} (IsFresh : Telling M W → Type 0) (settings : Settings) (run : Receiver M W × W) : Type 0 where
   pub config : run.0.config ≡ settings
   pub nothing : IsStart run.0.pair run.0.lines run.0.counts
-  pub fresh : IsFresh run.0.taker
+  pub fresh : IsFresh run.0.telling
 
--- it starts with a receiver of the settings, over such a taker
-pub starts_run : {M W : Type 0} (IsFresh : Telling M W → Type 0) (settings : Settings) (taker : Telling M W) (receiver : Receiver M W) (device : W)
-    → IsReceiverStart settings taker receiver.config receiver.pair receiver.lines receiver.counts receiver.taker → IsFresh taker
+-- it starts with a receiver of the settings, over such a telling
+pub starts_run : {M W : Type 0} (IsFresh : Telling M W → Type 0) (settings : Settings) (telling : Telling M W) (receiver : Receiver M W) (device : W)
+    → IsReceiverStart settings telling receiver.config receiver.pair receiver.lines receiver.counts receiver.telling → IsFresh telling
     → IsRunStart IsFresh settings (receiver, device)
-starts_run IsFresh settings taker receiver device starts fresh =
+starts_run IsFresh settings telling receiver device starts fresh =
     record { config = starts.config_is; nothing = starts.nothing; fresh = subst IsFresh (sym starts.taker_is) fresh }
 
 -- what is known of a line on which a run stopped: it has a frame of one of the two directions, and this is known of its
@@ -48,7 +48,7 @@ StopsOn settings Known meanings what why =
     (stamped : Stamped) × (d : Dir) × (what ≡ Some stamped) × (Some d ≡ direction_of settings stamped.frame.id)
     × Known (trace settings meanings) (entry_in meanings stamped d) why
 
--- what is said of a taker of events and its device, of the trace that they took and of the frame on which they stopped
+-- what is said of a telling of events and its device, of the trace that they took and of the frame on which they stopped
 abbrev pub TookEvents : Type 0 → Type 0 → Type 1
 TookEvents M W = Telling M W × W → List Entry → Telling M W × W → Type 0
 
@@ -61,15 +61,15 @@ module _ {M W : Type 0} (took : TookEvents M W) where
   TookLines s meanings t =
       (t.0.config ≡ s.0.config)
       × (IsStart s.0.pair s.0.lines s.0.counts
-      → Receives s.0.config meanings t.0.pair t.0.lines t.0.counts × took (s.0.taker, s.1) (trace s.0.config meanings) (t.0.taker, t.1))
+      → Receives s.0.config meanings t.0.pair t.0.lines t.0.counts × took (s.0.telling, s.1) (trace s.0.config meanings) (t.0.telling, t.1))
 
-  -- none was, where the taker has taken no event
-  pub took_nothing : (run : Receiver M W × W) → took (run.0.taker, run.1) [] (run.0.taker, run.1) → TookLines run [] run
+  -- none was, where the telling has taken no event
+  pub took_nothing : (run : Receiver M W × W) → took (run.0.telling, run.1) [] (run.0.telling, run.1) → TookLines run [] run
   took_nothing run none = (
     refl,
     λ start. (
       receives_start run.0.config run.0.pair run.0.lines run.0.counts start,
-      subst (λ T. took (run.0.taker, run.1) T (run.0.taker, run.1)) (sym (no_trace run.0.config)) none,
+      subst (λ T. took (run.0.telling, run.1) T (run.0.telling, run.1)) (sym (no_trace run.0.config)) none,
     ),
   )
 
@@ -79,21 +79,21 @@ module _ {M W : Type 0} (took : TookEvents M W) where
   has_received settings start now begun meanings lines =
       subst (λ s. Receives s meanings now.0.pair now.0.lines now.0.counts) begun.config (lines.1 begun.nothing).0
 
-  -- and what its taker has taken
+  -- and what its telling has taken
   pub has_taken : {IsFresh : Telling M W → Type 0} (settings : Settings) (start now : Receiver M W × W) → IsRunStart IsFresh settings start → (meanings : List (Option Stamped))
-      → TookLines start meanings now → took (start.0.taker, start.1) (trace settings meanings) (now.0.taker, now.1)
+      → TookLines start meanings now → took (start.0.telling, start.1) (trace settings meanings) (now.0.telling, now.1)
   has_taken settings start now begun meanings lines =
-      subst (λ s. took (start.0.taker, start.1) (trace s meanings) (now.0.taker, now.1)) begun.config (lines.1 begun.nothing).1
+      subst (λ s. took (start.0.telling, start.1) (trace s meanings) (now.0.telling, now.1)) begun.config (lines.1 begun.nothing).1
 
 module _ {M W : Type 0} (stopped : StoppedOnEvent M W) where
   -- the run stopped on a line
   abbrev pub StoppedOnLine : Stopped (Receiver M W × W)
   StoppedOnLine s meanings what why t =
       IsStart s.0.pair s.0.lines s.0.counts
-      → StopsOn s.0.config (λ T e why. stopped (s.0.taker, s.1) T e why (t.0.taker, t.1)) meanings what why
+      → StopsOn s.0.config (λ T e why. stopped (s.0.telling, s.1) T e why (t.0.telling, t.1)) meanings what why
 
   pub has_stopped : {IsFresh : Telling M W → Type 0} (settings : Settings) (start now : Receiver M W × W) → IsRunStart IsFresh settings start
       → (meanings : List (Option Stamped)) (what : Option Stamped) (why : Fault) → StoppedOnLine start meanings what why now
-      → StopsOn settings (λ T e why. stopped (start.0.taker, start.1) T e why (now.0.taker, now.1)) meanings what why
+      → StopsOn settings (λ T e why. stopped (start.0.telling, start.1) T e why (now.0.telling, now.1)) meanings what why
   has_stopped settings start now begun meanings what why line =
-      subst (λ s. StopsOn s (λ T e why. stopped (start.0.taker, start.1) T e why (now.0.taker, now.1)) meanings what why) begun.config (line begun.nothing)
+      subst (λ s. StopsOn s (λ T e why. stopped (start.0.telling, start.1) T e why (now.0.telling, now.1)) meanings what why) begun.config (line begun.nothing)

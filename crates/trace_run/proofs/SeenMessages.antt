@@ -6,7 +6,7 @@ use Rattle.isotp_receive.specs.declared.TheConstants.{MESSAGE_LIMIT}
 use Rattle.isotp_receive.specs.EventSeen.{seen_event}
 use Rattle.isotp_receive.specs.Trace.{Entry}
 use Rattle.isotp_receive.specs.Verdict.{EventValue, VerdictValue, message, began, stored, flowed, dropped, messages, told_message, verdict}
-use Rattle.uds_exchange.specs.Numbering.{IsJudgedOf, number_after, sent, step_after}
+use Rattle.uds_exchange.specs.Judging.{IsJudgedOf, number_after, sent, step_after}
 use Rattle.uds_exchange.specs.declared.judge.Judged.{Judged}
 use Rattle.trace_log.proofs.Promises.{messages_more}
 use Rattle.trace_run.specs.Seen.{IsEventOf, IsSeen}

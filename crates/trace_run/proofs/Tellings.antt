@@ -22,7 +22,7 @@ use Rattle.trace_run.specs.declared.machine.Stop.TheVariants as end_stop
 use Rattle.trace_log.specs.declared.summary.Summary.{Summary}
 use Rattle.trace_run.specs.proving.Carrying.{StopsFor, stops_for, Carries, Speaks, Settles, IsTellingStart, Tells, StopsTelling, EndsSaying, EndsTelling, EndsAs, SettlesAs, SettlesWith, RefusesTelling, GivesUp, WroteTold}
 use Rattle.trace_log.specs.Feeding.{FeedsLog, FeedsSome, CountsRead, WroteBefore, Took, TakesFront, StopsWithin}
-use Rattle.uds_exchange.specs.Numbering.{HasJudged}
+use Rattle.uds_exchange.specs.Judging.{HasJudged}
 use Rattle.trace_log.specs.Failing.{FailedIf}
 use Rattle.trace_log.specs.LinesRead.{counts_last, AreGiven, AreLinesRead, AreReadBefore, WritesTextOfRead}
 use Rattle.trace_log.specs.Settings.{Settings}
@@ -355,17 +355,17 @@ module _ {M W : Type 0} (stands : M → List Entry → M → Type 0) (scripts : 
 
   -- no event was told
   abbrev pub HasToldNothing : Telling M W → Type 0
-  HasToldNothing taker = IsTellingStart (stands taker.machine [] taker.machine) taker.judge taker.page.failed taker.page.block
+  HasToldNothing telling = IsTellingStart (stands telling.machine [] telling.machine) telling.judge telling.page.failed telling.page.block
 
   -- so it is with a machine that stands at its start
-  pub told_none : (machine : M) (taker : Telling M W) → taker.machine ≡ machine → stands machine [] machine → HasJudged [] taker.judge → taker.page.failed ≡ false
-      → taker.page.block ≡ [] → HasToldNothing taker
-  told_none machine taker same at_start removed well blank =
+  pub told_none : (machine : M) (telling : Telling M W) → telling.machine ≡ machine → stands machine [] machine → HasJudged [] telling.judge → telling.page.failed ≡ false
+      → telling.page.block ≡ [] → HasToldNothing telling
+  told_none machine telling same at_start removed well blank =
       record { stands = subst (λ m. stands m [] m) (sym same) at_start; judged = removed; well = well; blank = blank }
 
   -- no line was taken
   pub takes_nothing : (start : Receiver M W × W) → TookLines ToldEvents start [] start
-  takes_nothing start = took_nothing ToldEvents start (told_nothing (start.0.taker, start.1))
+  takes_nothing start = took_nothing ToldEvents start (told_nothing (start.0.telling, start.1))
 
   -- what was told of events was written
   abbrev pub WroteEvents : TookEvents M W
@@ -374,7 +374,7 @@ module _ {M W : Type 0} (stands : M → List Entry → M → Type 0) (scripts : 
 
   -- and of lines
   abbrev pub WroteLines : Receiver M W × W → List (Option Stamped) → Receiver M W × W → Type 0
-  WroteLines s meanings t = IsStart s.0.pair s.0.lines s.0.counts → WroteEvents (s.0.taker, s.1) (trace s.0.config meanings) (t.0.taker, t.1)
+  WroteLines s meanings t = IsStart s.0.pair s.0.lines s.0.counts → WroteEvents (s.0.telling, s.1) (trace s.0.config meanings) (t.0.telling, t.1)
 
   -- of no line nothing is told
   pub wrote_no_line : (start : Receiver M W × W) → WroteLines start [] start
@@ -385,7 +385,7 @@ module _ {M W : Type 0} (stands : M → List Entry → M → Type 0) (scripts : 
     said = [];
     wrote = sym (append-nil (target.taken start.1));
     carried =
-        subst (λ b. Carries target start.1 [] b start.0.taker.page.block start.1) (sym fresh.well)
+        subst (λ b. Carries target start.1 [] b start.0.telling.page.block start.1) (sym fresh.well)
         (subst (λ h. Carries target start.1 [] false h start.1) (sym fresh.blank) (blank_page target start.1 low));
   }
 
@@ -401,27 +401,27 @@ module _ {M W : Type 0} (stands : M → List Entry → M → Type 0) (scripts : 
   -- from such a start on
   module _ (settings : Settings) (start now : Receiver M W × W) (begun : IsRunStart HasToldNothing settings start) (low : target.failures start.1 ≤ 2 ^ 62) where
     pub gives : (meanings : List (Option Stamped)) → TookLines ToldEvents start meanings now
-        → Tells (stands start.0.taker.machine) target (scripts start.0.taker.machine) start.1 (trace settings meanings) now.0.taker.machine now.0.taker.judge
-        now.0.taker.page.failed now.0.taker.page.block now.1
+        → Tells (stands start.0.telling.machine) target (scripts start.0.telling.machine) start.1 (trace settings meanings) now.0.telling.machine now.0.telling.judge
+        now.0.telling.page.failed now.0.telling.page.block now.1
     gives meanings lines = has_taken ToldEvents settings start now begun meanings lines begun.fresh low
 
     -- what was written before the last piece, and what came after it
     pub eagerly : (log : List ℕ) (given : ℕ) (before : WroteBefore WroteLines start log given now) (new : W)
-        → ((mid : W) (said : List ℕ) → Carries target mid said now.0.taker.page.failed now.0.taker.page.block now.1 → Begins (target.taken mid) (target.taken new))
-        → TellsEagerly (scripts start.0.taker.machine) MESSAGE_LIMIT settings log given (target.taken start.1) (target.taken new)
+        → ((mid : W) (said : List ℕ) → Carries target mid said now.0.telling.page.failed now.0.telling.page.block now.1 → Begins (target.taken mid) (target.taken new))
+        → TellsEagerly (scripts start.0.telling.machine) MESSAGE_LIMIT settings log given (target.taken start.1) (target.taken new)
     eagerly log given before new more =
         let wrote = before.written begun.nothing begun.fresh low in
         let of_settings : trace start.0.config before.meanings ≡ trace settings before.meanings = ap (λ s. trace s before.meanings) begun.config in
-        tells_eagerly (scripts start.0.taker.machine) settings log given before.front before.rest before.meanings before.standing (target.taken start.1) (target.taken wrote.mid) (target.taken new)
-        before.stands before.parts before.near (subst (λ T. (scripts start.0.taker.machine).strict ≡ true → AllByRecursion AnnouncesWithin T) of_settings wrote.within)
-        (wrote.wrote ∙ ap (λ T. target.taken start.1 ++ told ((scripts start.0.taker.machine).word) T) of_settings) (more wrote.mid wrote.said wrote.carried)
+        tells_eagerly (scripts start.0.telling.machine) settings log given before.front before.rest before.meanings before.standing (target.taken start.1) (target.taken wrote.mid) (target.taken new)
+        before.stands before.parts before.near (subst (λ T. (scripts start.0.telling.machine).strict ≡ true → AllByRecursion AnnouncesWithin T) of_settings wrote.within)
+        (wrote.wrote ∙ ap (λ T. target.taken start.1 ++ told ((scripts start.0.telling.machine).word) T) of_settings) (more wrote.mid wrote.said wrote.carried)
 
     settled : (failed : Bool) (meanings : List (Option Stamped)) → TookLines (SettledEvents failed) start meanings now
-        → Tells (stands start.0.taker.machine) target (scripts start.0.taker.machine) start.1 (trace settings meanings) now.0.taker.machine now.0.taker.judge failed [] now.1
+        → Tells (stands start.0.telling.machine) target (scripts start.0.telling.machine) start.1 (trace settings meanings) now.0.telling.machine now.0.telling.judge failed [] now.1
     settled failed meanings lines = has_taken (SettledEvents failed) settings start now begun meanings lines begun.fresh low
 
     halts : (meanings : List (Option Stamped)) (what : Option Stamped) (why : Fault) → StoppedOnLine StoppedTelling start meanings what why now
-        → StopsOn settings (λ T e why. StopsTelling target (scripts start.0.taker.machine) (needs start.0.taker.machine) start.1 T e why now.0.taker.page.failed now.0.taker.page.block now.1) meanings what why
+        → StopsOn settings (λ T e why. StopsTelling target (scripts start.0.telling.machine) (needs start.0.telling.machine) start.1 T e why now.0.telling.page.failed now.0.telling.page.block now.1) meanings what why
     halts meanings what why line =
         let stops = has_stopped StoppedTelling settings start now begun meanings what why line in
         (stops.0, stops.1, stops.2, stops.3, stops.4 begun.fresh low)
@@ -429,19 +429,19 @@ module _ {M W : Type 0} (stands : M → List Entry → M → Type 0) (scripts : 
     module _ (new : W) where
       -- how the run ends on a refusal that is told, after these lines
       refuses : (why answer : Fault) (meanings : List (Option Stamped)) → TookLines ToldEvents start meanings now → RefusesTelling stands scripts target why now.0 now.1 answer new
-          → SettlesWith (refusal_of_lines (scripts start.0.taker.machine) MESSAGE_LIMIT settings why meanings) why target now.0.taker.page.failed now.0.taker.page.block now.1 answer new
+          → SettlesWith (refusal_of_lines (scripts start.0.telling.machine) MESSAGE_LIMIT settings why meanings) why target now.0.telling.page.failed now.0.telling.page.block now.1 answer new
       refuses why answer meanings taken up =
           let told_so = gives meanings taken in
-          up start.0.taker.machine settings meanings (has_received ToldEvents settings start now begun meanings taken) told_so.judged told_so.machine_stands
+          up start.0.telling.machine settings meanings (has_received ToldEvents settings start now begun meanings taken) told_so.judged told_so.machine_stands
 
       refuses_all : (why answer : Fault) (meanings : List (Option Stamped)) → TookLines ToldEvents start meanings now → RefusesTelling stands scripts target why now.0 now.1 answer new
-          → EndsAs why target start.1 (refused_of_lines (scripts start.0.taker.machine) MESSAGE_LIMIT settings why meanings) answer new
+          → EndsAs why target start.1 (refused_of_lines (scripts start.0.telling.machine) MESSAGE_LIMIT settings why meanings) answer new
       refuses_all why answer meanings taken up =
-          refuses why answer meanings taken up start.1 (told_of_lines (scripts start.0.taker.machine) settings meanings) (gives meanings taken).carried
+          refuses why answer meanings taken up start.1 (told_of_lines (scripts start.0.telling.machine) settings meanings) (gives meanings taken).carried
 
       -- only more is written
       pub more_given_up : (B : Type 0) (why answer : Fault) → FedSome start {A = B} (Err why) now → GivesUp stands scripts target why now.0 now.1 answer new
-          → (mid : W) (said : List ℕ) → Carries target mid said now.0.taker.page.failed now.0.taker.page.block now.1 → Begins (target.taken mid) (target.taken new)
+          → (mid : W) (said : List ℕ) → Carries target mid said now.0.telling.page.failed now.0.telling.page.block now.1 → Begins (target.taken mid) (target.taken new)
       more_given_up B (fault.BadLine line column) answer (meanings, taken) up mid said carries =
           more_at_fault (fault.BadLine line column) answer mid _ new (refuses (fault.BadLine line column) answer meanings taken up mid said carries)
       more_given_up B fault.LogLimit answer (meanings, taken) up mid said carries =
@@ -455,11 +455,11 @@ module _ {M W : Type 0} (stands : M → List Entry → M → Type 0) (scripts : 
       -- what is answered on a fault of the lines
       pub told_of_fault : {B : Type 0} (replies : Answering B) (log : List ℕ) (given : ℕ) (why : Fault) (answer : Fault) (m : ℕ) → m ≡ settings.max_bytes
           → Fed start m log given (Err why) now → GivesUp stands scripts target why now.0 now.1 answer new
-          → AnswersTold (scripts start.0.taker.machine) replies MESSAGE_LIMIT settings log given (Err answer) (target.taken start.1) (target.taken new)
+          → AnswersTold (scripts start.0.telling.machine) replies MESSAGE_LIMIT settings log given (Err answer) (target.taken start.1) (target.taken new)
       told_of_fault replies log given why answer m is read up = by why (subst (λ k. Fed start k log given (Err why) now) is read) up
         where
           script : Script
-          script = scripts start.0.taker.machine
+          script = scripts start.0.telling.machine
 
           text : List (Option Stamped) → List ℕ
           text = told_of_lines script settings
@@ -505,7 +505,7 @@ module _ {M W : Type 0} (stands : M → List Entry → M → Type 0) (scripts : 
           -- a line announces too much
           over : (line announced : ℕ) (meanings : List (Option Stamped)) (what : Option Stamped) → (halted : StoppedOnLine StoppedTelling start meanings what (fault.Oversize line announced) now)
               → StopsWithin settings.max_bytes log given meanings what
-              → SettlesAs (fault.Oversize line announced) target now.0.taker.page.failed now.0.taker.page.block now.1 answer new → Answers answer
+              → SettlesAs (fault.Oversize line announced) target now.0.telling.page.failed now.0.telling.page.block now.1 answer new → Answers answer
           over line announced meanings what line_stopped place settles =
               let halted = halts meanings what (fault.Oversize line announced) line_stopped in
               let strict = halted.4.reason.0 in
@@ -602,11 +602,11 @@ module _ {M W : Type 0} (stands : M → List Entry → M → Type 0) (scripts : 
       -- a frame of the log needed memory, where it was refused
       pub needed : (log : List ℕ) (given : ℕ) (why : Fault) (answer : Fault) (m : ℕ) → m ≡ settings.max_bytes
           → Fed start m log given (Err why) now → GivesUp stands scripts target why now.0 now.1 answer new → answer ≡ fault.Memory
-          → HasFrame (λ T e. IsKeptForMessage MESSAGE_LIMIT T e ⊎ needs start.0.taker.machine T e) settings log
+          → HasFrame (λ T e. IsKeptForMessage MESSAGE_LIMIT T e ⊎ needs start.0.telling.machine T e) settings log
       needed log given why answer m is read up refused = by why (subst (λ k. Fed start k log given (Err why) now) is read) up
         where
           Needed : Type 0
-          Needed = HasFrame (λ T e. IsKeptForMessage MESSAGE_LIMIT T e ⊎ needs start.0.taker.machine T e) settings log
+          Needed = HasFrame (λ T e. IsKeptForMessage MESSAGE_LIMIT T e ⊎ needs start.0.telling.machine T e) settings log
 
           other : (name : Fault) (said : List ℕ) → name ≢ fault.Memory → EndsAs name target start.1 said answer new → Needed
           other name said apart (inl well) = absurd (apart (sym well.0 ∙ refused))
@@ -616,10 +616,10 @@ module _ {M W : Type 0} (stands : M → List Entry → M → Type 0) (scripts : 
               → GivesUp stands scripts target why now.0 now.1 answer new → Needed
           by fault.Memory (meanings, what, line_stopped, place) up =
               let halted = halts meanings what fault.Memory line_stopped in
-              has_frame (λ T e. IsKeptForMessage MESSAGE_LIMIT T e ⊎ needs start.0.taker.machine T e) settings log given meanings what halted.0 halted.1 place halted.2 halted.3 halted.4.reason.1
+              has_frame (λ T e. IsKeptForMessage MESSAGE_LIMIT T e ⊎ needs start.0.telling.machine T e) settings log given meanings what halted.0 halted.1 place halted.2 halted.3 halted.4.reason.1
           by (fault.Oversize line announced) (meanings, what, line_stopped, place) up =
               let halted = halts meanings what (fault.Oversize line announced) line_stopped in
-              other (fault.Oversize line announced) (told_of_lines (scripts start.0.taker.machine) settings meanings) (λ same. absurd (cc same)) (up start.1 _ halted.4.carried)
+              other (fault.Oversize line announced) (told_of_lines (scripts start.0.telling.machine) settings meanings) (λ same. absurd (cc same)) (up start.1 _ halted.4.carried)
           by (fault.BadLine line column) (meanings, taken, place) up =
               other (fault.BadLine line column) _ (λ same. absurd (cc same)) (refuses_all (fault.BadLine line column) answer meanings taken up)
           by fault.LogLimit (meanings, taken, long, come, stood) up =
@@ -649,7 +649,7 @@ module _ {M W : Type 0} (stands : M → List Entry → M → Type 0) (scripts : 
               on fault.LogLimit _ (λ is. absurd (cc is)) (λ is. absurd (cc is)) (refuses_all fault.LogLimit answer meanings taken up)
           by fault.OutputLimit takes up = absurd takes
           by fault.Read (meanings, taken) up =
-              let text = told_of_lines (scripts start.0.taker.machine) settings meanings in (
+              let text = told_of_lines (scripts start.0.telling.machine) settings meanings in (
                 text,
                 false,
                 subst (λ w. Carries target start.1 text false [] w) (sym up.1) (settled false meanings taken).carried,
@@ -657,7 +657,7 @@ module _ {M W : Type 0} (stands : M → List Entry → M → Type 0) (scripts : 
                 up.0,
               )
           by fault.Write (meanings, taken) up =
-              let text = told_of_lines (scripts start.0.taker.machine) settings meanings in (
+              let text = told_of_lines (scripts start.0.telling.machine) settings meanings in (
                 text,
                 true,
                 subst (λ w. Carries target start.1 text true [] w) (sym up.1) (settled true meanings taken).carried,
@@ -665,10 +665,10 @@ module _ {M W : Type 0} (stands : M → List Entry → M → Type 0) (scripts : 
                 subst (λ f. f ≢ fault.Read) (sym up.0) (λ is. absurd (cc is)),
               )
           by (fault.Oversize place announced) (meanings, what, line) up =
-              on (fault.Oversize place announced) (told_of_lines (scripts start.0.taker.machine) settings meanings) (λ is. absurd (cc is)) (λ is. absurd (cc is))
+              on (fault.Oversize place announced) (told_of_lines (scripts start.0.telling.machine) settings meanings) (λ is. absurd (cc is)) (λ is. absurd (cc is))
               (up start.1 _ (halts meanings what (fault.Oversize place announced) line).4.carried)
           by fault.Memory (meanings, what, line) up =
-              on fault.Memory (told_of_lines (scripts start.0.taker.machine) settings meanings) (λ is. absurd (cc is)) (λ is. absurd (cc is)) (up start.1 _ (halts meanings what fault.Memory line).4.carried)
+              on fault.Memory (told_of_lines (scripts start.0.telling.machine) settings meanings) (λ is. absurd (cc is)) (λ is. absurd (cc is)) (up start.1 _ (halts meanings what fault.Memory line).4.carried)
 
 -- so the fault of the target is answered exactly where it failed
 pub fails_so : {A W : Type 0} (target : Ghosts W) (start new : W) (answer : Fault) (said : List ℕ) (failed : Bool) → Carries target start said failed [] new → IsOutcomeOf failed answer

@@ -6,10 +6,10 @@ use Rattle.isotp_receive.specs.declared.event.Event.{Event}
 use Rattle.isotp_receive.specs.EventSeen.{seen_event}
 use Rattle.isotp_receive.specs.Trace.{Entry}
 use Rattle.isotp_receive.specs.Verdict.{messages, told_message, verdict}
-use Rattle.uds_exchange.specs.Numbering.{IsJudgedOf}
+use Rattle.uds_exchange.specs.Judging.{IsJudgedOf}
 use Rattle.trace_run.specs.declared.machine.Seen.{Seen}
 
--- This is what the frame e, of this line, time and direction, did after the frames T.
+-- This is what the frame e, of this line, time and direction, did after the frames T, of which there are fewer than 2 ^ 62.
 pub record IsEventOf (T : List Entry) (e : Entry) (at_line at_micros : ℕ) (sender : Dir) (event : Event) : Type 0 where
   pub few : length T < 2 ^ 62
   pub line : e.line ≡ at_line

@@ -1,16 +1,10 @@
 //! A log told by a machine: where a run reads, writes and fails.
-ghost use Rattle.std.specs.Prelude.{◌≡◌, ℕ, ◌^◌, ◌<◌, List, [], ◌∷◌, ◌++◌, length, Err, IfErr, OnOk, OnErr, Option, false};
+ghost use Rattle.std.specs.Prelude.{◌≡◌, ℕ, List, [], length, Err, Option, false};
 ghost use Rattle.can_log.specs.declared.frame.Stamped.{Stamped as StampedValue};
 ghost use Rattle.isotp_receive.specs.declared.TheConstants.{MESSAGE_LIMIT};
-ghost use Rattle.isotp_receive.specs.Capacities.{KeepsWithin};
-ghost use Rattle.isotp_receive.specs.EventSeen.{seen_event, seen_verdict};
-ghost use Rattle.isotp_receive.specs.StandingReception.{receptions_after};
-ghost use Rattle.isotp_receive.specs.Events.{announced_by};
 ghost use Rattle.isotp_receive.specs.Trace.{Entry};
-ghost use Rattle.isotp_receive.specs.Verdict.{verdict};
 ghost use Rattle.trace_io.specs.Counted.{IsLowCount, AreLowCounts};
-ghost use Rattle.trace_run.specs.proving.Carrying.{Begins, Carries, Speaks, SettlesAs, Tells, EndsTelling, GivesUp, RefusesTelling, stops_for};
-ghost use Rattle.uds_exchange.specs.Numbering.{HasJudged};
+ghost use Rattle.trace_run.specs.proving.Carrying.{Begins, Carries, SettlesAs, Tells, EndsTelling, GivesUp, RefusesTelling};
 ghost use Rattle.trace_log.specs.proving.Receiving.{Receives};
 ghost use Rattle.trace_log.specs.Settings.{Settings};
 ghost use Rattle.trace_log.specs.Summing.{ends_in_line_feed};
@@ -20,10 +14,10 @@ ghost use Rattle.trace_run.specs.declared.machine.Stop.TheVariants.{OutputLimit}
 ghost use Rattle.trace_log.specs.declared.summary.Summary.{Summary as SummaryValue};
 
 use crate::machine::{Machine, Stop};
-use crate::page::{Drain, Page, settle};
+use crate::page::{Page, settle};
 use crate::receiver::Receiver;
 use crate::summing::sum_up;
-use crate::telling::Telling;
+use crate::telling::{Telling, tell_end, tell_refusal};
 use isotp_receive::Pair;
 use std::alloc::Global;
 use trace_io::{Source, Target};
@@ -70,8 +64,8 @@ pub fn run_lenient<M: Machine + Drop, R: Source, W: Target>(
     run(alloc, config, machine, reader, writer)
 }
 
-/// Ends a run on a fault, and answers what that is called. The machine is told of a line or a limit that refuses the
-/// log, and what was said is written. A fault of a device stands as it is.
+/// Ends a run on a fault, and answers what that is called: the machine is told of a line or a limit that refuses the log, and
+/// what was said is written. A fault of a device stands as it is, and nothing is written.
 fn give_up<M: Machine + Drop, W: Target>(
     fault: Fault,
     receiver: Receiver<M, W>,
@@ -94,10 +88,10 @@ fn stop<M: Machine + Drop, W: Target>(
     receiver: Receiver<M, W>,
     target: &mut W,
 ) -> Fault
-    ensures { SettlesAs fault W.Target receiver.taker.page.failed receiver.taker.page.block target.old result target.new }
+    ensures { SettlesAs fault W.Target receiver.telling.page.failed receiver.telling.page.block target.old result target.new }
 {
-    let Receiver { taker, .. } = receiver;
-    let Telling { mut page, .. } = taker;
+    let Receiver { telling, .. } = receiver;
+    let Telling { mut page, .. } = telling;
     settle_before(fault, target, &mut page)
 }
 
@@ -109,7 +103,7 @@ fn refuse<M: Machine, W: Target>(why: Fault, receiver: Receiver<M, W>, target: &
         pair,
         lines,
         counts,
-        taker,
+        telling,
         ..
     } = receiver;
     let Telling {
@@ -117,7 +111,7 @@ fn refuse<M: Machine, W: Target>(why: Fault, receiver: Receiver<M, W>, target: &
         judge,
         mut page,
         ..
-    } = taker;
+    } = telling;
     let summary = sum_up(&pair, lines, counts, judge.removed, false);
     tell_refusal(machine, target, &mut page, &summary, why);
     settle_before(why, target, &mut page)
@@ -134,39 +128,6 @@ fn settle_before<W: Target>(fault: Fault, target: &mut W, page: &mut Page) -> Fa
     }
 }
 
-/// Has the machine say what it says at the end, and answer.
-fn tell_end<M: Machine, W: Target>(
-    machine: M,
-    target: &mut W,
-    page: &mut Page,
-    pair: &Pair,
-    summary: &Summary,
-) -> Result<M::Answer, Stop>
-    ensures says { (start : M) (T : List Entry) → M.stands start T machine → pair.now.receptions ≡ receptions_after MESSAGE_LIMIT T
-        → KeepsWithin MESSAGE_LIMIT T pair.now
-        → Speaks W.Target page.old.failed page.old.block target.old ((M.script start).last T summary.now) page.new.failed page.new.block target.new }
-    ensures answered { (start : M) (T : List Entry) → M.stands start T machine → pair.now.receptions ≡ receptions_after MESSAGE_LIMIT T
-        → M.answers start T summary.now result }
-{
-    let mut out = Drain { target, page };
-    machine.end(pair, summary, &mut out)
-}
-
-/// Has the machine say what it says of a refusal.
-fn tell_refusal<M: Machine, W: Target>(
-    machine: M,
-    target: &mut W,
-    page: &mut Page,
-    summary: &Summary,
-    why: Fault,
-)
-    ensures says { (start : M) (T : List Entry) → M.stands start T machine
-        → Speaks W.Target page.old.failed page.old.block target.old ((M.script start).refused T summary.now why) page.new.failed page.new.block target.new }
-{
-    let mut out = Drain { target, page };
-    machine.refused(summary, why, &mut out);
-}
-
 /// Writes what is said at the end, and answers. The log ended in a line feed, or not.
 fn finish<M: Machine, W: Target>(
     receiver: Receiver<M, W>,
@@ -175,18 +136,18 @@ fn finish<M: Machine, W: Target>(
 ) -> Result<M::Answer, Fault>
     ensures ends { (start : W) (first : M) (settings : Settings) (log : List ℕ) (meanings : List (Option StampedValue))
         → Receives settings meanings receiver.pair receiver.lines receiver.counts → ended ≡ ends_in_line_feed log
-        → Tells (M.stands first) W.Target (M.script first) start (trace settings meanings) receiver.taker.machine receiver.taker.judge
-        receiver.taker.page.failed receiver.taker.page.block target.old
+        → Tells (M.stands first) W.Target (M.script first) start (trace settings meanings) receiver.telling.machine receiver.telling.judge
+        receiver.telling.page.failed receiver.telling.page.block target.old
         → EndsTelling W.Target (M.script first) (M.answers first) start settings log meanings result target.new }
     ensures more { (mid : W) (said : List ℕ) (first : M) (settings : Settings) (meanings : List (Option StampedValue))
-        → Receives settings meanings receiver.pair receiver.lines receiver.counts → M.stands first (trace settings meanings) receiver.taker.machine
-        → Carries W.Target mid said receiver.taker.page.failed receiver.taker.page.block target.old → Begins (W.taken mid) (W.taken target.new) }
+        → Receives settings meanings receiver.pair receiver.lines receiver.counts → M.stands first (trace settings meanings) receiver.telling.machine
+        → Carries W.Target mid said receiver.telling.page.failed receiver.telling.page.block target.old → Begins (W.taken mid) (W.taken target.new) }
 {
     let Receiver {
         pair,
         lines,
         counts,
-        taker,
+        telling,
         ..
     } = receiver;
     let Telling {
@@ -194,7 +155,7 @@ fn finish<M: Machine, W: Target>(
         judge,
         mut page,
         ..
-    } = taker;
+    } = telling;
     let summary = sum_up(&pair, lines, counts, judge.removed, ended);
     let answer = tell_end(machine, target, &mut page, &pair, &summary);
     if !settle(target, &mut page) {

@@ -23,7 +23,7 @@ pub enum Stop {
     OutputLimit,
 }
 
-/// What a frame did.
+/// What is seen of a frame: what it did, and the message that it completed.
 #[derive(Clone, Copy, Debug)]
 pub struct Seen<'a> {
     /// Its line, from 1 on.
@@ -62,8 +62,8 @@ pub trait Machine {
     fn event<S: TextSink>(&mut self, seen: Seen<'_>, out: &mut S) -> Result<(), AllocError>
         ensures ok { OnOk result ((start : Self) (T : List Entry) (e : Entry) → IsSeen T e seen.entry → stands start T self.old
             → stands start (T ++ e ∷ []) self.new × S.says out.old ((script start).word T e) out.new) }
-        ensures err { OnErr result ((start : Self) (T : List Entry) (e : Entry) → IsSeen T e seen.entry → stands start T self.old
-            → needs start T e × S.says out.old [] out.new) };
+        ensures err { OnErr result ((start : Self) (T : List Entry) → stands start T self.old → S.says out.old [] out.new) }
+        ensures needs { OnErr result ((start : Self) (T : List Entry) (e : Entry) → IsSeen T e seen.entry → stands start T self.old → needs start T e) };
 
     /// Takes the end of the log: the receptions that stand, in no more memory than they may keep, and the counts.
     fn end<S: TextSink>(

@@ -76,8 +76,8 @@ fn put_text<W: Target>(target: &mut W, page: &mut Page, text: &[u8])
     }
 }
 
-/// Puts a text on a page that has no room for it: the page is filled with the front of it and written. So no write is shorter
-/// than a page, but for the one before a text that is longer than a page.
+/// Puts a text on a page that has no room for it: the page is filled with the front of it and written. So what this writes is a
+/// whole page, or all that stood before a text that is longer than one.
 #[inline(never)]
 fn put_anew<W: Target>(target: &mut W, page: &mut Page, text: &[u8])
     requires { 0 < length text.now }

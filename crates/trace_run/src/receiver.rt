@@ -21,96 +21,14 @@ use isotp_receive::{Event, Pair, Verdict};
 use trace_io::Target;
 use trace_log::{Config, Fault, LineTaker, Summary};
 
-/// Takes one more frame of a direction. A pair asks for memory only where the frame's bytes are kept for a message of
-/// several frames.
-fn receive<M: Machine, W: Target>(
-    pair: &mut Pair,
-    counts: &mut Summary,
-    taker: &mut Telling<M, W>,
-    target: &mut W,
-    line: u64,
-    micros: u64,
-    dir: Dir,
-    frame: &Frame,
-) -> Result<(), Fault>
-    ensures fault { IfErr result IsOfTaker }
-    ensures pair { OnOk result ((T : List Entry) → pair.old.receptions ≡ receptions_after MESSAGE_LIMIT T
-        → pair.new.receptions ≡ receptions_after MESSAGE_LIMIT (T ++ record { line = line; micros = micros; dir = dir; frame = frame.now } ∷ [])) }
-    ensures grew { OnOk result (CapacitiesGrow MESSAGE_LIMIT dir (layout_of frame.now) pair.old pair.new) }
-    ensures counts { OnOk result ((T : List Entry) → pair.old.receptions ≡ receptions_after MESSAGE_LIMIT T
-        → counts.new ≡ counted_more dir (verdict MESSAGE_LIMIT T (record { line = line; micros = micros; dir = dir; frame = frame.now })) counts.old) }
-    ensures told { (T : List Entry) → pair.old.receptions ≡ receptions_after MESSAGE_LIMIT T → length T < 2 ^ 62
-        → TellsFrame M.stands M.script M.needs W.Target T (record { line = line; micros = micros; dir = dir; frame = frame.now }) taker.old target.old result taker.new target.new }
-{
-    match pair.accept(line, micros, dir, frame) {
-        Ok(event) => hand_on(counts, taker, target, line, micros, dir, event),
-        Err(_refused) => Err(Fault::Memory),
-    }
-}
-
-/// Counts what a frame did, and hands it on. Most frames complete a message or are stored for one. They go ways of their own: there
-/// the verdict is known when it is compiled, so that no reason is stored and read by a covering load.
-#[inline(always)]
-fn hand_on<M: Machine, W: Target>(
-    counts: &mut Summary,
-    taker: &mut Telling<M, W>,
-    target: &mut W,
-    line: u64,
-    micros: u64,
-    dir: Dir,
-    event: Event<'_>,
-) -> Result<(), Fault>
-    ensures fault { IfErr result IsOfTaker }
-    ensures counts { counts.new ≡ counted_more dir (seen_event event.entry) counts.old }
-    ensures told { (T : List Entry) (e : Entry) → IsEventOf T e line micros dir event.entry
-        → TellsFrame M.stands M.script M.needs W.Target T e taker.old target.old result taker.new target.new }
-{
-    let ended = event.ended;
-    match event.verdict {
-        Verdict::Message(message) => {
-            let verdict = Verdict::Message(message);
-            let event = Event { verdict, ended };
-            hand_on_seen(counts, taker, target, line, micros, dir, event)
-        }
-        Verdict::Stored => {
-            let verdict = Verdict::Stored;
-            let event = Event { verdict, ended };
-            hand_on_seen(counts, taker, target, line, micros, dir, event)
-        }
-        Verdict::Began | Verdict::Flow | Verdict::Dropped(_) => {
-            hand_on_seen(counts, taker, target, line, micros, dir, event)
-        }
-    }
-}
-
-/// The same on one of the ways.
-#[inline(always)]
-fn hand_on_seen<M: Machine, W: Target>(
-    counts: &mut Summary,
-    taker: &mut Telling<M, W>,
-    target: &mut W,
-    line: u64,
-    micros: u64,
-    dir: Dir,
-    event: Event<'_>,
-) -> Result<(), Fault>
-    ensures fault { IfErr result IsOfTaker }
-    ensures counts { counts.new ≡ counted_more dir (seen_event event.entry) counts.old }
-    ensures told { (T : List Entry) (e : Entry) → IsEventOf T e line micros dir event.entry
-        → TellsFrame M.stands M.script M.needs W.Target T e taker.old target.old result taker.new target.new }
-{
-    counts.count(dir, event);
-    taker.take(target, line, micros, dir, event)
-}
-
-/// The receptions of a log, and what was counted in it.
+/// The receptions of a log, what was counted in it, and the machine that is told of it.
 #[derive(Drop)]
 pub(crate) struct Receiver<M, W> {
     pub config: Config,
     pub pair: Pair,
     pub lines: u64,
     pub counts: Summary,
-    pub taker: Telling<M, W>,
+    pub telling: Telling<M, W>,
 }
 
 impl<M, W> Receiver<M, W> {
@@ -120,16 +38,16 @@ impl<M, W> Receiver<M, W> {
     ghost use Rattle.trace_log.specs.proving.Receiving.{IsReceiverStart};
 
     /// Before the first line, with a pair that has received no frame and keeps no memory.
-    pub(crate) fn start(config: &Config, pair: Pair, taker: Telling<M, W>) -> Receiver<M, W>
+    pub(crate) fn start(config: &Config, pair: Pair, telling: Telling<M, W>) -> Receiver<M, W>
         requires { pair ≡ new_pair MESSAGE_LIMIT }
-        ensures { IsReceiverStart config.now taker result.config result.pair result.lines result.counts result.taker }
+        ensures { IsReceiverStart config.now telling result.config result.pair result.lines result.counts result.telling }
     {
         Receiver {
             config: *config,
             pair,
             lines: 0,
             counts: Summary::nothing(),
-            taker,
+            telling,
         }
     }
 }
@@ -141,33 +59,34 @@ impl<M: Machine, W: Target> LineTaker for Receiver<M, W> {
     ghost use Rattle.trace_log.specs.Settings.{direction_of};
     ghost use Rattle.trace_log.specs.Trace.{trace};
     ghost use Rattle.std.specs.Prelude.{◌≤◌, ◌^◌, [], true, false};
-    ghost use Rattle.trace_run.specs.proving.Carrying.{IsTellingStart, Tells, StopsTelling, WroteTold};
+    ghost use Rattle.trace_run.specs.proving.Carrying.{Tells, StopsTelling, WroteTold};
+    ghost use Rattle.trace_run.specs.proving.Telling.{HasTold, HasToldNothing};
     ghost use Rattle.trace_log.specs.proving.Receiving.{Receives, entry_in, IsStart};
 
     type Device = W;
 
     ghost took = { λ s meanings t. (t.0.config ≡ s.0.config)
         × (IsStart s.0.pair s.0.lines s.0.counts
-        → Receives s.0.config meanings t.0.pair t.0.lines t.0.counts × (IsTellingStart (M.stands s.0.taker.machine [] s.0.taker.machine) s.0.taker.judge s.0.taker.page.failed s.0.taker.page.block → W.failures s.1 ≤ 2 ^ 62
-        → Tells (M.stands s.0.taker.machine) W.Target (M.script s.0.taker.machine) s.1 (trace s.0.config meanings) t.0.taker.machine t.0.taker.judge t.0.taker.page.failed t.0.taker.page.block t.1)) };
+        → Receives s.0.config meanings t.0.pair t.0.lines t.0.counts × (HasToldNothing M.stands s.0.telling → W.failures s.1 ≤ 2 ^ 62
+        → HasTold M.stands M.script W.Target s.1 s.0.telling.machine (trace s.0.config meanings) t.0.telling t.1)) };
 
     ghost rested = { λ s meanings t. (t.0.config ≡ s.0.config)
         × (IsStart s.0.pair s.0.lines s.0.counts
-        → Receives s.0.config meanings t.0.pair t.0.lines t.0.counts × (IsTellingStart (M.stands s.0.taker.machine [] s.0.taker.machine) s.0.taker.judge s.0.taker.page.failed s.0.taker.page.block → W.failures s.1 ≤ 2 ^ 62
-        → Tells (M.stands s.0.taker.machine) W.Target (M.script s.0.taker.machine) s.1 (trace s.0.config meanings) t.0.taker.machine t.0.taker.judge false [] t.1)) };
+        → Receives s.0.config meanings t.0.pair t.0.lines t.0.counts × (HasToldNothing M.stands s.0.telling → W.failures s.1 ≤ 2 ^ 62
+        → Tells (M.stands s.0.telling.machine) W.Target (M.script s.0.telling.machine) s.1 (trace s.0.config meanings) t.0.telling.machine t.0.telling.judge false [] t.1)) };
 
     ghost broke = { λ s meanings t. (t.0.config ≡ s.0.config)
         × (IsStart s.0.pair s.0.lines s.0.counts
-        → Receives s.0.config meanings t.0.pair t.0.lines t.0.counts × (IsTellingStart (M.stands s.0.taker.machine [] s.0.taker.machine) s.0.taker.judge s.0.taker.page.failed s.0.taker.page.block → W.failures s.1 ≤ 2 ^ 62
-        → Tells (M.stands s.0.taker.machine) W.Target (M.script s.0.taker.machine) s.1 (trace s.0.config meanings) t.0.taker.machine t.0.taker.judge true [] t.1)) };
+        → Receives s.0.config meanings t.0.pair t.0.lines t.0.counts × (HasToldNothing M.stands s.0.telling → W.failures s.1 ≤ 2 ^ 62
+        → Tells (M.stands s.0.telling.machine) W.Target (M.script s.0.telling.machine) s.1 (trace s.0.config meanings) t.0.telling.machine t.0.telling.judge true [] t.1)) };
 
     ghost stopped = { λ s meanings what fault t. IsStart s.0.pair s.0.lines s.0.counts
         → (stamped : StampedValue) × (d : DirValue) × (what ≡ Some stamped) × (Some d ≡ direction_of s.0.config stamped.frame.id)
-        × (IsTellingStart (M.stands s.0.taker.machine [] s.0.taker.machine) s.0.taker.judge s.0.taker.page.failed s.0.taker.page.block → W.failures s.1 ≤ 2 ^ 62
-        → StopsTelling W.Target (M.script s.0.taker.machine) (M.needs s.0.taker.machine) s.1 (trace s.0.config meanings) (entry_in meanings stamped d) fault t.0.taker.page.failed t.0.taker.page.block t.1) };
+        × (HasToldNothing M.stands s.0.telling → W.failures s.1 ≤ 2 ^ 62
+        → StopsTelling W.Target (M.script s.0.telling.machine) (M.needs s.0.telling.machine) s.1 (trace s.0.config meanings) (entry_in meanings stamped d) fault t.0.telling.page.failed t.0.telling.page.block t.1) };
 
-    ghost sure = { λ s first t. IsStart s.0.pair s.0.lines s.0.counts → IsTellingStart (M.stands s.0.taker.machine [] s.0.taker.machine) s.0.taker.judge s.0.taker.page.failed s.0.taker.page.block → W.failures s.1 ≤ 2 ^ 62
-        → WroteTold W.Target (M.script s.0.taker.machine) s.1 (trace s.0.config first) t.0.taker.page.failed t.0.taker.page.block t.1 };
+    ghost sure = { λ s first t. IsStart s.0.pair s.0.lines s.0.counts → HasToldNothing M.stands s.0.telling → W.failures s.1 ≤ 2 ^ 62
+        → WroteTold W.Target (M.script s.0.telling.machine) s.1 (trace s.0.config first) t.0.telling.page.failed t.0.telling.page.block t.1 };
 
     ghost wants = { λ s first second. (first ≡ s.config.tester) × (second ≡ s.config.unit) };
 
@@ -182,7 +101,7 @@ impl<M: Machine, W: Target> LineTaker for Receiver<M, W> {
     }
 
     fn rest(&mut self, device: &mut W) -> bool {
-        self.taker.rest(device)
+        self.telling.rest(device)
     }
 
     fn take(&mut self, device: &mut W, line: u64, what: &Option<Stamped>) -> Result<(), Fault> {
@@ -196,7 +115,7 @@ impl<M: Machine, W: Target> LineTaker for Receiver<M, W> {
         receive(
             &mut self.pair,
             &mut self.counts,
-            &mut self.taker,
+            &mut self.telling,
             device,
             line,
             stamped.micros,
@@ -204,4 +123,86 @@ impl<M: Machine, W: Target> LineTaker for Receiver<M, W> {
             &stamped.frame,
         )
     }
+}
+
+/// Takes one more frame of a direction. A pair asks for memory only where the frame's bytes are kept for a message of
+/// several frames.
+fn receive<M: Machine, W: Target>(
+    pair: &mut Pair,
+    counts: &mut Summary,
+    telling: &mut Telling<M, W>,
+    target: &mut W,
+    line: u64,
+    micros: u64,
+    dir: Dir,
+    frame: &Frame,
+) -> Result<(), Fault>
+    ensures fault { IfErr result IsOfTaker }
+    ensures pair { OnOk result ((T : List Entry) → pair.old.receptions ≡ receptions_after MESSAGE_LIMIT T
+        → pair.new.receptions ≡ receptions_after MESSAGE_LIMIT (T ++ record { line = line; micros = micros; dir = dir; frame = frame.now } ∷ [])) }
+    ensures grew { OnOk result (CapacitiesGrow MESSAGE_LIMIT dir (layout_of frame.now) pair.old pair.new) }
+    ensures counts { OnOk result ((T : List Entry) → pair.old.receptions ≡ receptions_after MESSAGE_LIMIT T
+        → counts.new ≡ counted_more dir (verdict MESSAGE_LIMIT T (record { line = line; micros = micros; dir = dir; frame = frame.now })) counts.old) }
+    ensures told { (T : List Entry) → pair.old.receptions ≡ receptions_after MESSAGE_LIMIT T → length T < 2 ^ 62
+        → TellsFrame M.stands M.script M.needs W.Target T (record { line = line; micros = micros; dir = dir; frame = frame.now }) telling.old target.old result telling.new target.new }
+{
+    match pair.accept(line, micros, dir, frame) {
+        Ok(event) => hand_on(counts, telling, target, line, micros, dir, event),
+        Err(_refused) => Err(Fault::Memory),
+    }
+}
+
+/// Has what a frame did counted and told. Most frames complete a message or are stored for one. They go ways of their own: there
+/// the verdict is known when it is compiled, so that no reason is stored and read by a covering load.
+#[inline(always)]
+fn hand_on<M: Machine, W: Target>(
+    counts: &mut Summary,
+    telling: &mut Telling<M, W>,
+    target: &mut W,
+    line: u64,
+    micros: u64,
+    dir: Dir,
+    event: Event<'_>,
+) -> Result<(), Fault>
+    ensures fault { IfErr result IsOfTaker }
+    ensures counts { counts.new ≡ counted_more dir (seen_event event.entry) counts.old }
+    ensures told { (T : List Entry) (e : Entry) → IsEventOf T e line micros dir event.entry
+        → TellsFrame M.stands M.script M.needs W.Target T e telling.old target.old result telling.new target.new }
+{
+    let ended = event.ended;
+    match event.verdict {
+        Verdict::Message(message) => {
+            let verdict = Verdict::Message(message);
+            let event = Event { verdict, ended };
+            count_and_tell(counts, telling, target, line, micros, dir, event)
+        }
+        Verdict::Stored => {
+            let verdict = Verdict::Stored;
+            let event = Event { verdict, ended };
+            count_and_tell(counts, telling, target, line, micros, dir, event)
+        }
+        Verdict::Began | Verdict::Flow | Verdict::Dropped(_) => {
+            count_and_tell(counts, telling, target, line, micros, dir, event)
+        }
+    }
+}
+
+/// Counts what a frame did, and has it told.
+#[inline(always)]
+fn count_and_tell<M: Machine, W: Target>(
+    counts: &mut Summary,
+    telling: &mut Telling<M, W>,
+    target: &mut W,
+    line: u64,
+    micros: u64,
+    dir: Dir,
+    event: Event<'_>,
+) -> Result<(), Fault>
+    ensures fault { IfErr result IsOfTaker }
+    ensures counts { counts.new ≡ counted_more dir (seen_event event.entry) counts.old }
+    ensures told { (T : List Entry) (e : Entry) → IsEventOf T e line micros dir event.entry
+        → TellsFrame M.stands M.script M.needs W.Target T e telling.old target.old result telling.new target.new }
+{
+    counts.count(dir, event);
+    telling.take(target, line, micros, dir, event)
 }

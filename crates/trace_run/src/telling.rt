@@ -1,26 +1,28 @@
-//! A machine beside the page that it says its text onto: it is told what each frame did.
-ghost use Rattle.std.specs.Prelude.{◌≡◌, ◌^◌, ◌<◌, List, [], ◌∷◌, ◌++◌, length, OnOk, OnErr, None};
+//! A machine beside the judge of the messages and the page that its text is written from: it is told what each frame did.
+ghost use Rattle.std.specs.Prelude.{◌≡◌, ◌^◌, ◌<◌, List, [], ◌∷◌, ◌++◌, length, OnOk, OnErr};
 ghost use Rattle.direction.specs.Dir.{Message};
 ghost use Rattle.isotp_receive.specs.declared.TheConstants.{MESSAGE_LIMIT};
+ghost use Rattle.isotp_receive.specs.Capacities.{KeepsWithin};
 ghost use Rattle.isotp_receive.specs.EventSeen.{seen_verdict};
 ghost use Rattle.isotp_receive.specs.Events.{announced_by};
+ghost use Rattle.isotp_receive.specs.StandingReception.{receptions_after};
 ghost use Rattle.isotp_receive.specs.Trace.{Entry};
 ghost use Rattle.isotp_receive.specs.Verdict.{told_message};
-ghost use Rattle.uds_exchange.specs.Numbering.{HasJudged, IsJudgedOf};
+ghost use Rattle.uds_exchange.specs.Judging.{HasJudged, IsJudgedOf};
 ghost use Rattle.trace_run.specs.Seen.{IsSeen};
 ghost use Rattle.trace_run.specs.proving.Carrying.{Speaks, stops_for};
 
-use crate::machine::{Machine, Seen};
+use crate::machine::{Machine, Seen, Stop};
 use crate::page::{Drain, Page, settle};
 use direction::Dir;
-use isotp_receive::{Event, Reason, Verdict};
+use isotp_receive::{Event, Pair, Reason, Verdict};
 use std::alloc::AllocError;
 use std::marker::PhantomData;
 use trace_io::Target;
-use trace_log::Fault;
+use trace_log::{Fault, Summary};
 use uds_exchange::{Judge, Judged};
 
-/// A machine, the page that it writes on, and the judge of the messages.
+/// A machine, the judge of the messages, and the page that the machine's text goes onto.
 #[derive(Drop)]
 pub(crate) struct Telling<M, W> {
     pub machine: M,
@@ -31,7 +33,7 @@ pub(crate) struct Telling<M, W> {
 
 impl<M, W> Telling<M, W> {
     ghost use Rattle.std.specs.Prelude.{◌≡◌, [], false};
-    ghost use Rattle.uds_exchange.specs.Numbering.{HasJudged};
+    ghost use Rattle.uds_exchange.specs.Judging.{HasJudged};
 
     /// Before the first event.
     pub(crate) fn start(machine: M) -> Telling<M, W>
@@ -50,24 +52,24 @@ impl<M, W> Telling<M, W> {
 }
 
 impl<M: Machine, W: Target> Telling<M, W> {
-    ghost use Rattle.std.specs.Prelude.{◌≡◌, ◌^◌, ◌<◌, List, [], ◌∷◌, ◌++◌, length, OnOk, IfErr, true, false};
+    ghost use Rattle.std.specs.Prelude.{◌≡◌, List, [], IfErr, true, false};
     ghost use Rattle.isotp_receive.specs.Trace.{Entry};
     ghost use Rattle.trace_run.specs.Seen.{IsEventOf};
     ghost use Rattle.trace_run.specs.proving.Carrying.{Tells, WroteTold};
-    ghost use Rattle.trace_run.specs.proving.Telling.{TellsFrame};
+    ghost use Rattle.trace_run.specs.proving.Telling.{HasTold, TellsFrame};
     ghost use Rattle.trace_log.specs.Feeding.{IsOfTaker};
 
     /// Writes what is due, before more is read. Answers whether it could.
     pub(crate) fn rest(&mut self, target: &mut W) -> bool
         ensures well { result ≡ true → (start : W) (first : M) (T : List Entry)
-            → Tells (M.stands first) W.Target (M.script first) start T self.old.machine self.old.judge self.old.page.failed self.old.page.block target.old
+            → HasTold M.stands M.script W.Target start first T self.old target.old
             → Tells (M.stands first) W.Target (M.script first) start T self.new.machine self.new.judge false [] target.new
-            × Tells (M.stands first) W.Target (M.script first) start T self.new.machine self.new.judge self.new.page.failed self.new.page.block target.new }
+            × HasTold M.stands M.script W.Target start first T self.new target.new }
         ensures wrong { result ≡ false → (start : W) (first : M) (T : List Entry)
-            → Tells (M.stands first) W.Target (M.script first) start T self.old.machine self.old.judge self.old.page.failed self.old.page.block target.old
+            → HasTold M.stands M.script W.Target start first T self.old target.old
             → Tells (M.stands first) W.Target (M.script first) start T self.new.machine self.new.judge true [] target.new }
         ensures sure { result ≡ true → (start : W) (first : M) (T : List Entry)
-            → Tells (M.stands first) W.Target (M.script first) start T self.old.machine self.old.judge self.old.page.failed self.old.page.block target.old
+            → HasTold M.stands M.script W.Target start first T self.old target.old
             → WroteTold W.Target (M.script first) start T self.new.page.failed self.new.page.block target.new }
         ensures kept { (start : W) (first : M) (earlier : List Entry) → WroteTold W.Target (M.script first) start earlier self.old.page.failed self.old.page.block target.old
             → WroteTold W.Target (M.script first) start earlier self.new.page.failed self.new.page.block target.new }
@@ -89,7 +91,7 @@ impl<M: Machine, W: Target> Telling<M, W> {
         ensures told { (T : List Entry) (e : Entry) → IsEventOf T e line micros dir event.entry
             → TellsFrame M.stands M.script M.needs W.Target T e self.old target.old result self.new target.new }
     {
-        let message = judged(&mut self.judge, dir, event.verdict);
+        let message = judged_message(&mut self.judge, dir, event.verdict);
         match refusal(self.machine.is_strict(), event.verdict) {
             Some(announced) => Err(Fault::Oversize { line, announced }),
             None => {
@@ -109,9 +111,9 @@ impl<M: Machine, W: Target> Telling<M, W> {
     }
 }
 
-/// The message that a frame of this direction completed, judged. Most frames complete none, and are seen here alone.
+/// The message that a frame of this direction completed, judged. Laid in line, since most frames complete none.
 #[inline(always)]
-fn judged<'a>(judge: &mut Judge, dir: Dir, verdict: Verdict<'a>) -> Option<Judged<'a>>
+fn judged_message<'a>(judge: &mut Judge, dir: Dir, verdict: Verdict<'a>) -> Option<Judged<'a>>
     ensures next { (M : List Message) → length M < 2 ^ 62 → HasJudged M judge.old
         → HasJudged (M ++ told_message dir (seen_verdict verdict.entry)) judge.new }
     ensures judged { (M : List Message) → length M < 2 ^ 62 → HasJudged M judge.old
@@ -163,12 +165,46 @@ fn tell<M: Machine, W: Target>(
     ensures ok { OnOk result ((start : M) (T : List Entry) (e : Entry) → IsSeen T e seen.entry → M.stands start T machine.old
         → M.stands start (T ++ e ∷ []) machine.new
         × Speaks W.Target page.old.failed page.old.block target.old ((M.script start).word T e) page.new.failed page.new.block target.new) }
-    ensures err { OnErr result ((start : M) (T : List Entry) (e : Entry) → IsSeen T e seen.entry → M.stands start T machine.old
-        → M.needs start T e × Speaks W.Target page.old.failed page.old.block target.old [] page.new.failed page.new.block target.new) }
+    ensures err { OnErr result ((start : M) (T : List Entry) → M.stands start T machine.old
+        → Speaks W.Target page.old.failed page.old.block target.old [] page.new.failed page.new.block target.new) }
+    ensures needs { OnErr result ((start : M) (T : List Entry) (e : Entry) → IsSeen T e seen.entry → M.stands start T machine.old → M.needs start T e) }
 {
     let mut out = Drain { target, page };
     match machine.event(seen, &mut out) {
         Ok(()) => Ok(()),
         Err(refused) => Err(refused),
     }
+}
+
+/// Has the machine say what it says at the end, and answer.
+pub(crate) fn tell_end<M: Machine, W: Target>(
+    machine: M,
+    target: &mut W,
+    page: &mut Page,
+    pair: &Pair,
+    summary: &Summary,
+) -> Result<M::Answer, Stop>
+    ensures says { (start : M) (T : List Entry) → M.stands start T machine → pair.now.receptions ≡ receptions_after MESSAGE_LIMIT T
+        → KeepsWithin MESSAGE_LIMIT T pair.now
+        → Speaks W.Target page.old.failed page.old.block target.old ((M.script start).last T summary.now) page.new.failed page.new.block target.new }
+    ensures answered { (start : M) (T : List Entry) → M.stands start T machine → pair.now.receptions ≡ receptions_after MESSAGE_LIMIT T
+        → M.answers start T summary.now result }
+{
+    let mut out = Drain { target, page };
+    machine.end(pair, summary, &mut out)
+}
+
+/// Has the machine say what it says of a refusal.
+pub(crate) fn tell_refusal<M: Machine, W: Target>(
+    machine: M,
+    target: &mut W,
+    page: &mut Page,
+    summary: &Summary,
+    why: Fault,
+)
+    ensures says { (start : M) (T : List Entry) → M.stands start T machine
+        → Speaks W.Target page.old.failed page.old.block target.old ((M.script start).refused T summary.now why) page.new.failed page.new.block target.new }
+{
+    let mut out = Drain { target, page };
+    machine.refused(summary, why, &mut out);
 }

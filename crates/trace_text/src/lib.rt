@@ -14,6 +14,7 @@ pub mod names;
 mod notation;
 mod parts;
 mod remark;
+mod remark_lines;
 mod remark_objects;
 pub mod say;
 
@@ -22,4 +23,5 @@ pub use item_objects::say_item_object;
 pub use item_style::{ItemStyle, Numbering};
 pub use notation::Notation;
 pub use parts::Part;
-pub use remark::{Remark, say_remark};
+pub use remark::Remark;
+pub use remark_lines::say_remark;

@@ -110,6 +110,6 @@ fn say_summary_object<S: TextSink>(summary: &Summary, out: &mut S)
     ensures { S.says out.old (object_line (remark_members (remark.Counts summary.now))) out.new }
 {
     say_text(out, "{\"event\":\"counts\"");
-    say_counts(",\"", "\":", &summary.named(), out);
+    say_counts(out, ",\"", "\":", &summary.named());
     say_text(out, "}\n");
 }

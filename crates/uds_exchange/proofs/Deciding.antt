@@ -13,7 +13,7 @@ use Rattle.uds_exchange.specs.Meaning.{ItemValue, exchange, stray, stray_of, is_
 use Rattle.uds_exchange.specs.Order.{has_exchange, open_request_in, open_request, held_in, held, rejection_of}
 use Rattle.uds_exchange.specs.proving.Deciding.{step_in, items_for, items_by, keep_for, keep, Refuses}
 use Rattle.uds_message.specs.Message.{sid}
-use Rattle.uds_exchange.specs.Numbering.{step_after}
+use Rattle.uds_exchange.specs.Judging.{step_after}
 use Rattle.uds_exchange.proofs.Kept.{not-request}
 use Rattle.uds_exchange.specs.WaitingExchange.{one_later, waiting}
 use Rattle.uds_exchange.specs.proving.Pairing.{join_by, join}

@@ -3,7 +3,7 @@ use Rattle.std.proofs.Common.{◌≡◌, ℕ, List, Option, option_map, sym, ◌
 use Rattle.direction.specs.Dir.{Message}
 use Rattle.uds_message.specs.Message.{sid}
 use Rattle.uds_exchange.specs.Meaning.{ItemValue, meaning}
-use Rattle.uds_exchange.specs.Numbering.{IsJudgedAfter, IsOpenSid, sent, step_after}
+use Rattle.uds_exchange.specs.Judging.{IsJudgedAfter, IsOpenSid, sent, step_after}
 use Rattle.uds_exchange.specs.Order.{open_request_in}
 use Rattle.uds_exchange.specs.declared.judge.Judged.{Judged}
 use Rattle.uds_exchange.specs.proving.Pairing.{AreOpenBy}

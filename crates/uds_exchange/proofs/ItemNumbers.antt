@@ -1,4 +1,4 @@
--- How many items there are with one more message, and so the judge of items.
+-- How many items there are with one more message, and so the numbers of items.
 use Rattle.std.proofs.Common.{◌≡◌, ℕ, ◌-◌, not, ◌&&◌, ◌+◌, ◌<◌, ◌≤◌, ◌^◌, false, List, [], ◌∷◌, ◌++◌, length, Option, Some, None, arith, refl, sym, ◌∙◌, ap, inl, inr, length-append, zero, suc, option_map}
 use Rattle.std.specs.Prelude.{slice_set}
 use Rattle.std.proofs.lemmas.Bool.{cases_Bool}
@@ -12,7 +12,7 @@ use Rattle.uds_exchange.specs.WaitingExchange.{waiting, waiting_sid}
 use Rattle.uds_exchange.specs.proving.Pairing.{join_for, join_by, join}
 use Rattle.uds_exchange.specs.OneMessage.{step_of}
 use Rattle.uds_exchange.specs.proving.Steps.{Standing, standing_after, stand_for}
-use Rattle.uds_exchange.specs.Numbering.{step_after, number_by, number_after, items_with, waiting_number, waits_with, IsOpenSid, HasJudged, advanced, number_in}
+use Rattle.uds_exchange.specs.Judging.{step_after, number_by, number_after, items_with, waiting_number, waits_with, IsOpenSid, HasJudged, advanced, number_in}
 use Rattle.uds_exchange.specs.declared.judge.Judge.{Judge}
 use Rattle.uds_exchange.specs.declared.step.Step.{Step}
 use Rattle.uds_exchange.specs.declared.step.Step.TheVariants as step

@@ -10,7 +10,7 @@ use Rattle.uds_exchange.specs.WaitingExchange.{waiting, waiting_sid}
 use Rattle.uds_exchange.specs.proving.Pairing.{join_by, join}
 use Rattle.uds_exchange.specs.OneMessage.{step_of}
 use Rattle.uds_exchange.specs.proving.Steps.{Standing, standing_after, due_for, due, stand_for, advance_for, advance, Stops}
-use Rattle.uds_exchange.specs.Numbering.{step_after}
+use Rattle.uds_exchange.specs.Judging.{step_after}
 use Rattle.uds_exchange.specs.declared.step.Step.{Step}
 use Rattle.uds_exchange.specs.declared.step.Step.TheVariants as step
 use Rattle.uds_exchange.specs.Sink.{AfterOk, AfterErr, Puts}

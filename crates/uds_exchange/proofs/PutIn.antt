@@ -5,7 +5,7 @@ use Rattle.uds_exchange.specs.declared.step.Step.{Step}
 use Rattle.uds_exchange.specs.declared.step.Step.TheVariants as step
 use Rattle.uds_exchange.specs.Laws.{IsPutInBy, OneMoreIsPutIn}
 use Rattle.uds_exchange.specs.Meaning.{meaning, flattened}
-use Rattle.uds_exchange.specs.Numbering.{step_after}
+use Rattle.uds_exchange.specs.Judging.{step_after}
 use Rattle.uds_exchange.specs.Order.{early, held}
 use Rattle.uds_exchange.specs.proving.Steps.{Standing, standing_after, due_for, stand_for}
 use Rattle.uds_exchange.proofs.Early.{early-then-held}

@@ -5,7 +5,7 @@ use Rattle.direction.specs.Dir.{Message}
 use Rattle.uds_exchange.specs.Meaning.{is_tester_request, is_answer_to, is_pending_reply_to, ItemValue, exchange, stray_of, meaning, flattened, removed_messages}
 use Rattle.uds_exchange.specs.Decided.{decided, undecided}
 use Rattle.uds_exchange.specs.Roles.{MessageRole, IsOpenBehind, HasRole, AreRoles, arranged, those_removed}
-use Rattle.uds_exchange.specs.Numbering.{step_after}
+use Rattle.uds_exchange.specs.Judging.{step_after}
 use Rattle.uds_exchange.specs.Order.{open_request, held, early, rejection_of}
 use Rattle.uds_exchange.specs.declared.step.Step.{Step}
 use Rattle.uds_exchange.specs.declared.step.Step.TheVariants as step

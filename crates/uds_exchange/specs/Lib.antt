@@ -11,5 +11,5 @@ pub mod Decider
 pub mod Laws
 pub mod OneMessage
 pub mod WaitingExchange
-pub mod Numbering
+pub mod Judging
 pub mod proving

@@ -6,7 +6,7 @@ ghost use Rattle.uds_exchange.specs.Meaning.{stray_of};
 ghost use Rattle.uds_exchange.specs.Decided.{undecided, unanswered_items};
 ghost use Rattle.uds_exchange.specs.Decider.{decides_after, PutsDecided, IsKept};
 ghost use Rattle.uds_exchange.specs.ItemSink.{PutsItems};
-ghost use Rattle.uds_exchange.specs.Numbering.{IsJudgedAfter, sent};
+ghost use Rattle.uds_exchange.specs.Judging.{IsJudgedAfter, sent};
 ghost use Rattle.uds_exchange.specs.proving.Deciding.{answered_items, items_for, keep_for, Refuses};
 
 use crate::held::Held;

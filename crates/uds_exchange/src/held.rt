@@ -94,7 +94,7 @@ impl Held {
         Ok(())
     }
 
-    /// Drops all messages, and keeps the memory of the first block.
+    /// Drops all messages, and keeps the memory of the first block and of the lists.
     pub(crate) fn clear(&mut self)
         ensures { self.new ≡ [] }
     {

@@ -2,7 +2,7 @@
 
 ghost use Rattle.std.specs.Prelude.{◌≡◌, ◌^◌, ◌<◌, ◌++◌, ◌∷◌, [], List, length};
 ghost use Rattle.direction.specs.Dir.{Message};
-ghost use Rattle.uds_exchange.specs.Numbering.{HasJudged, IsOpenSid, advanced, number_after, number_in, one_more, sent, step_after};
+ghost use Rattle.uds_exchange.specs.Judging.{HasJudged, IsOpenSid, advanced, number_after, number_in, one_more, sent, step_after};
 
 use crate::step::{Step, step_of};
 use direction::Dir;
@@ -10,8 +10,10 @@ use direction::Dir;
 /// A message of which it is known what becomes of it.
 #[derive(Clone, Copy, Debug)]
 pub struct Judged<'a> {
+    /// Who sent it.
     pub dir: Dir,
     pub bytes: &'a [u8],
+    /// What becomes of it.
     pub step: Step,
     /// The number of its item, from 1. A reply that is left out has that of the exchange that it puts off.
     pub item: u64,

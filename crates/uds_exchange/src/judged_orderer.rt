@@ -2,7 +2,7 @@
 
 ghost use Rattle.std.specs.Prelude.{◌≡◌, ◌≢◌, ◌++◌, ◌∷◌, [], List, true, false, length, OnOk, IfErr, sum_by};
 ghost use Rattle.direction.specs.Dir.{Message};
-ghost use Rattle.uds_exchange.specs.Numbering.{IsJudgedAfter, sent};
+ghost use Rattle.uds_exchange.specs.Judging.{IsJudgedAfter, sent};
 ghost use Rattle.uds_exchange.specs.Order.{held as held_after};
 ghost use Rattle.uds_exchange.specs.Sink.{Puts, Fails};
 ghost use Rattle.uds_exchange.specs.Orderer.{orders_after, PutsDue, IsHeld, StopsDue, StopsHeld};
@@ -19,8 +19,8 @@ use direction::Dir;
 use std::alloc::Global;
 use std::marker::Model;
 
-/// An [`Orderer`](crate::Orderer) that is told what becomes of each message. Contracts see whether it has failed, and what it
-/// holds.
+/// Orders messages that are judged already: an [`Orderer`](crate::Orderer) that is told what becomes of each. Contracts see
+/// whether it has failed, and what it holds.
 #[derive(Debug, Drop)]
 pub struct JudgedOrderer {
     pub(crate) has_failed: bool,
@@ -47,8 +47,8 @@ impl JudgedOrderer {
         }
     }
 
-    /// The sum of the lengths of the messages that are held; 0 where no request is open. After a fault of the sink it
-    /// says nothing.
+    /// The sum of the lengths of the messages that are held; 0 where no request is open, if each message was judged rightly.
+    /// After a fault of the sink it says nothing.
     pub fn held(&self) -> u64
         ensures { result ≡ sum_by (λ x. length x.1) self.now.holds }
     {
@@ -74,6 +74,8 @@ impl JudgedOrderer {
             → StopsDue S.after_ok S.after_err M (sent message.entry) sink.old sink.new fault) }
 
         ensures fails { (why : S.Fault) → result ≡ Err (Sink why) → self.new.has_failed ≡ true }
+        ensures front { (why : S.Fault) → result ≡ Err (Sink why)
+            → (due : List Message) × Fails S.after_ok S.after_err sink.old due why sink.new }
         ensures failed { self.old.has_failed ≡ true → result ≡ Err Failed }
         ensures failed_only { result ≡ Err Failed
             → (self.old.has_failed ≡ true) × (self.new ≡ self.old) × (sink.new ≡ sink.old) }

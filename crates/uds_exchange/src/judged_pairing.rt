@@ -3,7 +3,7 @@
 ghost use Rattle.std.specs.Prelude.{◌≡◌, ◌≢◌, ◌++◌, ◌∷◌, [], List, OnOk, OnErr};
 ghost use Rattle.direction.specs.Dir.{Message};
 ghost use Rattle.uds_exchange.specs.Meaning.{meaning};
-ghost use Rattle.uds_exchange.specs.Numbering.{IsJudgedAfter, sent};
+ghost use Rattle.uds_exchange.specs.Judging.{IsJudgedAfter, sent};
 ghost use Rattle.uds_exchange.specs.WaitingExchange.{waiting};
 ghost use Rattle.uds_exchange.specs.proving.Pairing as Spec;
 
@@ -13,8 +13,8 @@ use crate::step::Step;
 use std::alloc::{AllocError, Global};
 use std::marker::Model;
 
-/// A [`Pairing`](crate::Pairing) that is told what becomes of each message. Contracts see it as a list of items: the meaning of
-/// the messages, where each was judged behind those before it.
+/// Pairs messages that are judged already: a [`Pairing`](crate::Pairing) that is told what becomes of each. Contracts see it as
+/// a list of items: the meaning of the messages, where each was judged behind those before it.
 #[derive(Debug, Drop)]
 pub struct JudgedPairing {
     meaning: Meaning,

@@ -6,11 +6,11 @@ ghost use Rattle.uds_exchange.specs.proving.Blocks.{block_at, bytes_at, block_by
 use std::alloc::{AllocError, Global};
 use std::marker::Model;
 
-/// So many bytes the first block has, or one message.
+/// The first block has so many bytes, or those of a longer first message.
 const FIRST_BLOCK: usize = 1_024;
 
-/// How often a block has twice the bytes of the one before it: up to 65,536. So few messages take little memory, and many few
-/// blocks.
+/// Up to this number of a block its bytes double with its number: up to 65,536. So few messages take little memory, and many
+/// few blocks.
 const DOUBLINGS: u32 = 6;
 
 /// A longer message has a block of its own length, so that at most a sixteenth of a large block is left empty.
@@ -22,7 +22,7 @@ const LAST_START: usize = 65_535;
 /// Messages, each whole in a block, where it stays when more are kept: so what is kept takes its own length, and is copied once.
 #[derive(Drop)]
 pub(crate) struct Messages {
-    /// It is no element of a list, so that few messages ask for memory once.
+    /// It lies beside the list of the later ones, so that a few messages take memory once.
     first: Vec<u8>,
     later: Vec<Vec<u8>>,
     /// The number of the block that is being filled. That of the first is 0.

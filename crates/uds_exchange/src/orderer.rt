@@ -1,6 +1,6 @@
 //! Messages put into their order as soon as it is known.
 
-ghost use Rattle.std.specs.Prelude.{◌≡◌, ◌≢◌, ◌++◌, ◌∷◌, [], List, true, false, length, OnOk, IfErr, sum_by};
+ghost use Rattle.std.specs.Prelude.{◌≡◌, ◌≢◌, ◌++◌, ◌∷◌, [], List, true, length, OnOk, IfErr, sum_by};
 ghost use Rattle.direction.specs.Dir.{Message};
 ghost use Rattle.uds_exchange.specs.Order.{held as held_after};
 ghost use Rattle.uds_exchange.specs.Sink.{Puts};
@@ -76,9 +76,7 @@ impl Orderer {
             → (self.old.has_failed ≡ true) × (self.new ≡ self.old) × (sink.new ≡ sink.old) }
     {
         let mut judge = self.judge;
-        if let Err(fault) = self.orderer.take(judge.take(dir, message), sink) {
-            return Err(fault);
-        }
+        self.orderer.take(judge.take(dir, message), sink)?;
         self.judge = judge;
         Ok(())
     }

@@ -22,8 +22,8 @@ pub enum Step {
 }
 
 /// What becomes of a message, where `open_sid` is the first byte of the request that waits for its answer. Nothing else of the
-/// messages before it has a say, so that whoever only counts replies need hold none.
-pub fn step_of(open_sid: Option<u8>, dir: Dir, message: &[u8]) -> Step
+/// messages before it has a say, so that a judge holds none.
+pub(crate) fn step_of(open_sid: Option<u8>, dir: Dir, message: &[u8]) -> Step
     ensures { result ≡ Spec.step_of open_sid (dir, message.now) }
 {
     let stray = if open_sid.is_some() {

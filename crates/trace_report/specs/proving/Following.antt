@@ -7,7 +7,7 @@ use Rattle.isotp_receive.specs.declared.TheConstants.{MESSAGE_LIMIT}
 use Rattle.isotp_receive.specs.StandingReception.{StandingReception, stands}
 use Rattle.isotp_receive.specs.Trace.{Entry, same_direction}
 use Rattle.isotp_receive.specs.Verdict.{EventValue, VerdictValue, message, began, stored, flowed, dropped, messages}
-use Rattle.uds_exchange.specs.Numbering.{one_more, step_after, waiting_number}
+use Rattle.uds_exchange.specs.Judging.{one_more, step_after, waiting_number}
 use Rattle.uds_exchange.specs.Order.{open_request}
 use Rattle.uds_message.specs.Message.{is_suppressing}
 use Rattle.trace_canon.specs.declared.begun.FramePlace.{FramePlace}

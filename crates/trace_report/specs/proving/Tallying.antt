@@ -1,7 +1,7 @@
 -- Devices of proof: what the verdict of a report is made of, with one more row of a sort.
 use Rattle.std.specs.Prelude.{ℕ, [], ◌∷◌, ◌++◌, take}
 use Rattle.arrayvec.specs.ArrayVec.{ArrayVec}
-use Rattle.uds_exchange.specs.Numbering.{one_more}
+use Rattle.uds_exchange.specs.Judging.{one_more}
 use Rattle.trace_report.specs.Sorts.{most_links}
 use Rattle.trace_report.specs.declared.counts.SortCounts.{SortCounts}
 use Rattle.trace_report.specs.declared.sorts.Sort.{Sort}

@@ -16,7 +16,7 @@ use Rattle.trace_run.specs.declared.receiver.Receiver.{Receiver}
 use Rattle.trace_run.specs.declared.machine.Stop.{Stop}
 use Rattle.trace_run.specs.declared.machine.Stop.TheVariants as stop
 use Rattle.trace_log.specs.Trace.{trace}
-use Rattle.uds_exchange.specs.Numbering.{HasJudged}
+use Rattle.uds_exchange.specs.Judging.{HasJudged}
 use Rattle.uds_exchange.specs.declared.judge.Judge.{Judge}
 use Rattle.trace_log.specs.proving.Announcing.{AnnouncesWithin}
 use Rattle.trace_log.specs.proving.Receiving.{Receives}
@@ -131,8 +131,8 @@ SettlesWith {W = W} text name target failed held old result new =
 abbrev pub RefusesTelling : {M W : Type 0} → (M → List Entry → M → Type 0) → (M → Script) → Ghosts W → Fault → Receiver M W → W → Fault → W → Type 0
 RefusesTelling {M = M} stands scripts target why receiver old result new =
     (first : M) (settings : Settings) (meanings : List (Option Stamped)) → Receives settings meanings receiver.pair receiver.lines receiver.counts
-    → HasJudged (messages MESSAGE_LIMIT (trace settings meanings)) receiver.taker.judge → stands first (trace settings meanings) receiver.taker.machine
-    → SettlesWith (refusal_of_lines (scripts first) MESSAGE_LIMIT settings why meanings) why target receiver.taker.page.failed receiver.taker.page.block old result new
+    → HasJudged (messages MESSAGE_LIMIT (trace settings meanings)) receiver.telling.judge → stands first (trace settings meanings) receiver.telling.machine
+    → SettlesWith (refusal_of_lines (scripts first) MESSAGE_LIMIT settings why meanings) why target receiver.telling.page.failed receiver.telling.page.block old result new
 
 -- how a run ends on a fault, with what it has taken: that of a device stands as it is, and before others all that is
 -- said is written
@@ -140,9 +140,9 @@ abbrev pub GivesUp : {M W : Type 0} → (M → List Entry → M → Type 0) → 
 GivesUp stands scripts target (fault.BadLine line column) receiver old result new = RefusesTelling stands scripts target (fault.BadLine line column) receiver old result new
 GivesUp stands scripts target fault.LogLimit receiver old result new = RefusesTelling stands scripts target fault.LogLimit receiver old result new
 GivesUp stands scripts target (fault.Oversize line announced) receiver old result new =
-    SettlesAs (fault.Oversize line announced) target receiver.taker.page.failed receiver.taker.page.block old result new
-GivesUp stands scripts target fault.OutputLimit receiver old result new = SettlesAs fault.OutputLimit target receiver.taker.page.failed receiver.taker.page.block old result new
-GivesUp stands scripts target fault.Memory receiver old result new = SettlesAs fault.Memory target receiver.taker.page.failed receiver.taker.page.block old result new
+    SettlesAs (fault.Oversize line announced) target receiver.telling.page.failed receiver.telling.page.block old result new
+GivesUp stands scripts target fault.OutputLimit receiver old result new = SettlesAs fault.OutputLimit target receiver.telling.page.failed receiver.telling.page.block old result new
+GivesUp stands scripts target fault.Memory receiver old result new = SettlesAs fault.Memory target receiver.telling.page.failed receiver.telling.page.block old result new
 GivesUp stands scripts target fault.Read receiver old result new = (result ≡ fault.Read) × (new ≡ old)
 GivesUp stands scripts target fault.Write receiver old result new = (result ≡ fault.Write) × (new ≡ old)
 

@@ -5,12 +5,16 @@ use Rattle.trace_io.specs.declared.device.Target.{Ghosts}
 use Rattle.trace_log.specs.declared.fault.Fault.{Fault}
 use Rattle.trace_run.specs.Told.{Script}
 use Rattle.trace_run.specs.declared.telling.Telling.{Telling}
-use Rattle.trace_run.specs.proving.Carrying.{Tells, StopsTelling, WroteTold}
+use Rattle.trace_run.specs.proving.Carrying.{IsTellingStart, Tells, StopsTelling, WroteTold}
 
 -- the frames of the trace were told, since this start and by what the machine first was
 abbrev pub HasTold : {M W : Type 0} → (M → List Entry → M → Type 0) → (M → Script) → Ghosts W → W → M → List Entry → Telling M W → W → Type 0
 HasTold stands scripts target start first T telling now =
     Tells (stands first) target (scripts first) start T telling.machine telling.judge telling.page.failed telling.page.block now
+
+-- nothing was told: the machine stands at its start, no message is judged and the page is blank
+abbrev pub HasToldNothing : {M W : Type 0} → (M → List Entry → M → Type 0) → Telling M W → Type 0
+HasToldNothing stands telling = IsTellingStart (stands telling.machine [] telling.machine) telling.judge telling.page.failed telling.page.block
 
 -- The frame e was told after the frames T, or the run stopped at it. Whatever was written before is.
 pub record TellsFrame {M W A : Type 0} (stands : M → List Entry → M → Type 0) (scripts : M → Script) (needs : M → List Entry → Entry → Type 0) (target : Ghosts W)

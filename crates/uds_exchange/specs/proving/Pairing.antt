@@ -4,7 +4,7 @@ use Rattle.direction.specs.Dir.{Message}
 use Rattle.uds_exchange.specs.declared.step.Step.{Step}
 use Rattle.uds_exchange.specs.declared.step.Step.TheVariants as step
 use Rattle.uds_exchange.specs.Meaning.{ItemValue, exchange, stray_of, is_tester_request, is_answer_to, is_pending_reply_to, meaning}
-use Rattle.uds_exchange.specs.Numbering.{IsOpenSid}
+use Rattle.uds_exchange.specs.Judging.{IsOpenSid}
 use Rattle.uds_exchange.specs.WaitingExchange.{waiting}
 
 -- what the code keeps beside the items: the place of the exchange that waits

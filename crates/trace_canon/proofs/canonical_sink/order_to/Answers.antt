@@ -1,7 +1,7 @@
 use Rattle.std.proofs.Common.{Err, ap, sym, subst, ◌∙◌}
 use Rattle.isotp_receive.specs.declared.TheConstants.{MESSAGE_LIMIT}
 use Rattle.isotp_segment.specs.Timed.{all_frames}
-use Rattle.uds_exchange.specs.Numbering.{sent}
+use Rattle.uds_exchange.specs.Judging.{sent}
 use Rattle.trace_canon.specs.proving.Writing.{text_from}
 use Rattle.trace_canon.proofs.CanonicalSayings.{SaysOne, said_all, stops_for_memory}
 use Rattle.trace_canon.proofs.canonical_sink.order_to.Goals as goal

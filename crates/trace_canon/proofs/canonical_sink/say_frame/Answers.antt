@@ -8,13 +8,13 @@ use Rattle.trace_canon.specs.proving.Writing.{behind, line_at}
 use Rattle.trace_canon.proofs.SaidFrames.{line_said, line_stops}
 use Rattle.trace_canon.proofs.canonical_sink.say_frame.Goals as goal
 
-pub returns-then-not-admits-clause-says : goal.returns-then-not-admits-clause-says
-returns-then-not-admits-clause-says g c = λ later.
+pub returns-then-not-admit-clause-says : goal.returns-then-not-admit-clause-says
+returns-then-not-admit-clause-says g c = λ later.
     let settings = c.args.config.now in
     let frame : Dir × List ℕ = (c.args.sender, c.args.frame.now) in
     let long = canonical_line_length c.args.place.now.lines (id_of settings c.args.sender) c.args.frame.now c.told-frame in
     let asked = c.line_length-length.ensures ∙ ap canonical_length c.id_of-id.ensures.value in
-    let none = c.admits.ensures.none c.if-not-admits.true in
+    let none = c.admit.ensures.none c.if-not-admit.true in
     let beyond = none.0 in
     let over : c.args.place.now.room < length (line_at settings c.args.place.now.lines frame) = omega arith in
     subst (λ p. SaysFront g.S.TextSink.says settings c.args.place.now c.args.out.now (frame ∷ later) p c.args.out.now later) (sym none.1)
@@ -27,7 +27,7 @@ returns-clause-says g c = λ later.
     let line = line_at settings c.args.place.now.lines frame in
     let long = canonical_line_length c.args.place.now.lines (id_of settings c.args.sender) c.args.frame.now c.told-frame in
     let asked = c.line_length-length.ensures ∙ ap canonical_length c.id_of-id.ensures.value in
-    let admitted = c.admits.ensures.some c.if-not-admits.false in
+    let admitted = c.admit.ensures.some c.if-not-admit.false in
     let within = admitted.0 in
     let room : length line ≤ c.args.place.now.room = omega arith in
     let here : c.clock.result.now ≡ c.args.place.now.lines = c.clock.ensures ∙ ap (λ p. p.lines) admitted.1 in

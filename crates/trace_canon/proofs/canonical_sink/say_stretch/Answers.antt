@@ -15,22 +15,22 @@ stretch-init g c = record {
   fewer = omega arith;
 }
 
-pub returns-then-not-admits-clause-says : goal.returns-then-not-admits-clause-says
-returns-then-not-admits-clause-says g c =
+pub returns-then-not-admit-clause-says : goal.returns-then-not-admit-clause-says
+returns-then-not-admit-clause-says g c =
     let settings = c.args.config.now in
     let frame : Dir × List ℕ = (c.args.sender, c.in-Some.frame) in
     let long = canonical_line_length c.stretch.place.lines (id_of settings c.args.sender) c.in-Some.frame (omega arith) in
     let named = canonical_name_length (id_of settings c.args.sender) in
     let name = ap length c.requires.name in
-    let none = c.admits.ensures.none c.if-not-admits.true in
+    let none = c.admit.ensures.none c.if-not-admit.true in
     let beyond = none.0 in
     let stops = line_stops g.S.TextSink.says g.met.S.TextSink.nothing g.met.S.TextSink.onward settings c.stretch.place c.stretch.out frame c.next_full.new.self (omega arith) in
-    more_said g.S.TextSink.says g.met.S.TextSink.nothing g.met.S.TextSink.onward settings c.args.place.now c.stretch.place c.stretch.place c.admits.new.self
+    more_said g.S.TextSink.says g.met.S.TextSink.nothing g.met.S.TextSink.onward settings c.args.place.now c.stretch.place c.stretch.place c.admit.new.self
     c.args.out.now c.stretch.out c.stretch.out c.args.frames c.stretch.rest (frame ∷ c.next_full.new.self) c.next_full.new.self c.stretch.invariant.says c.in-Some.ensures.some refl
     (subst (λ p. SaysFront g.S.TextSink.says settings c.stretch.place c.stretch.out (frame ∷ c.next_full.new.self) p c.stretch.out c.next_full.new.self) (sym none.1) stops)
 
-pub returns-then-not-admits-clause-fewer : goal.returns-then-not-admits-clause-fewer
-returns-then-not-admits-clause-fewer g c =
+pub returns-then-not-admit-clause-fewer : goal.returns-then-not-admit-clause-fewer
+returns-then-not-admit-clause-fewer g c =
     let so_far = c.stretch.invariant.fewer in
     let step = ap length c.in-Some.ensures.some in
     omega arith
@@ -41,7 +41,7 @@ stretch-preserved g c =
     let frame : Dir × List ℕ = (c.args.sender, c.in-Some.frame) in
     let identifier = id_of settings c.args.sender in
     let line = line_at settings c.stretch.place.lines frame in
-    let admitted = c.admits.ensures.some c.if-not-admits.false in
+    let admitted = c.admit.ensures.some c.if-not-admit.false in
     let here : c.clock.result.now ≡ c.stretch.place.lines = c.clock.ensures ∙ ap (λ p. p.lines) admitted.1 in
     let stamped = c.stamp.ensures ∙ ap canonical_stamp here in
     let is : c.stamp.result.now ++ c.args.name ++ c.line_end.result ≡ line =

@@ -1,6 +1,6 @@
 use Rattle.std.proofs.Common.{refl, subst}
 use Rattle.trace_text.specs.Words.{role_text}
-use Rattle.uds_exchange.specs.Numbering.{sent}
+use Rattle.uds_exchange.specs.Judging.{sent}
 use Rattle.trace_canon.proofs.PlacingScripts.{object_parts}
 use Rattle.trace_canon.proofs.message_objects.say_message_object.Goals as goal
 

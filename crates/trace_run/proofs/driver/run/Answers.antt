@@ -29,10 +29,10 @@ begun g c =
     (told_none g.M.Machine.stands g.M.Machine.script g.M.Machine.needs g.W.Target c.args.machine c.start.result c.start.ensures.machine c.requires.machine c.start.ensures.judged c.start.ensures.well
     c.start.ensures.blank)
 
-same_machine : (g : Over) (c : After-start-receiver g) → c.start-receiver.result.taker.machine ≡ c.args.machine
+same_machine : (g : Over) (c : After-start-receiver g) → c.start-receiver.result.telling.machine ≡ c.args.machine
 same_machine g c = ap (λ (t : Telling g.row.M.Denot g.row.W.Denot). t.machine) c.start-receiver.ensures.taker_is ∙ c.start.ensures.machine
 
-same_script : (g : Over) (c : After-start-receiver g) → g.M.Machine.script c.start-receiver.result.taker.machine ≡ g.M.Machine.script c.args.machine
+same_script : (g : Over) (c : After-start-receiver g) → g.M.Machine.script c.start-receiver.result.telling.machine ≡ g.M.Machine.script c.args.machine
 same_script g c = ap g.M.Machine.script (ap (λ (t : Telling g.row.M.Denot g.row.W.Denot). t.machine) c.start-receiver.ensures.taker_is ∙ c.start.ensures.machine)
 
 near : (g : Over) (c : After-start-receiver g) (log : List ℕ) (given failures failures_now : ℕ)
@@ -41,7 +41,7 @@ near : (g : Over) (c : After-start-receiver g) (log : List ℕ) (given failures 
 near g c log given failures failures_now reads =
     let M = g.M.Machine in
     subst (λ (script : Script). ReadsWhile (StopsNothingWithin script.strict MESSAGE_LIMIT c.args.config.now log) given failures failures_now) (same_script g c)
-    (reads_near c.args.config.now log (M.script c.start-receiver.result.taker.machine).strict
+    (reads_near c.args.config.now log (M.script c.start-receiver.result.telling.machine).strict
     (λ meanings now taken. (gives M.stands M.script M.needs g.W.Target c.args.config.now (start g c) now (begun g c) c.requires.writer meanings taken).within) reads)
 
 pub returns-in-Err : goal.returns-in-Err
@@ -50,7 +50,7 @@ returns-in-Err g c =
     let W = g.W.Target in
     let settings = c.args.config.now in
     let at = (goal.at.returns-in-Err g c).After-start-receiver in
-    let now : Receiver g.row.M.Denot g.row.W.Denot × g.row.W.Denot = (c.feed_lines.new.taker, c.feed_lines.new.device) in
+    let now : Receiver g.row.M.Denot g.row.W.Denot × g.row.W.Denot = (c.feed_lines.new.telling, c.feed_lines.new.device) in
     let none = takes_nothing M.stands M.script M.needs W (start g at) in
     let known_of =
     known M.stands M.script M.needs W settings (start g at) now (begun g at) c.requires.writer c.give_up.new.target Bool c.in-Err.fault c.give_up.result
@@ -60,7 +60,7 @@ returns-in-Err g c =
         answer = λ log agrees.
             subst (λ m. AnswersTold (M.script m) (M.answers m) MESSAGE_LIMIT settings log (length (g.R.Source.given c.feed_lines.new.reader) - length (g.R.Source.given c.args.reader.now)) (Err c.give_up.result)
             (W.taken c.args.writer.now) (W.taken c.give_up.new.target)) (same_machine g at)
-            (told_of_fault M.stands M.script M.needs W settings (start g at) now (begun g at) c.requires.writer c.give_up.new.target (M.answers c.start-receiver.result.taker.machine) log
+            (told_of_fault M.stands M.script M.needs W settings (start g at) now (begun g at) c.requires.writer c.give_up.new.target (M.answers c.start-receiver.result.telling.machine) log
             (length (g.R.Source.given c.feed_lines.new.reader) - length (g.R.Source.given c.args.reader.now)) c.in-Err.fault c.give_up.result c.max_bytes.result c.max_bytes.ensures.value
             (c.in-Err.ensures.lines log agrees (start g at) none) c.give_up.ensures);
         eager = λ log agrees.
@@ -98,26 +98,26 @@ returns-in-Err g c =
 
 -- how the run ends, after lines that mean this
 ends : (g : Over) (c : After-finish g) (log : List ℕ) (meanings : List (Option Stamped)) → c.in-Ok.ended ≡ ends_in_line_feed log
-    → TookLines (ToldEvents g.M.Machine.stands g.M.Machine.script g.M.Machine.needs g.W.Target) (c.start-receiver.result, c.args.writer.now) meanings (c.feed_lines.new.taker, c.feed_lines.new.device)
+    → TookLines (ToldEvents g.M.Machine.stands g.M.Machine.script g.M.Machine.needs g.W.Target) (c.start-receiver.result, c.args.writer.now) meanings (c.feed_lines.new.telling, c.feed_lines.new.device)
     → EndsTelling g.W.Target (g.M.Machine.script c.args.machine) (g.M.Machine.answers c.args.machine) c.args.writer.now c.args.config.now log meanings c.finish.result c.finish.new.target
 ends g c log meanings feed lines =
     let M = g.M.Machine in
     let W = g.W.Target in
     let settings = c.args.config.now in
     let at = (goal.at.returns-in-Ok g c).After-start-receiver in
-    let now : Receiver g.row.M.Denot g.row.W.Denot × g.row.W.Denot = (c.feed_lines.new.taker, c.feed_lines.new.device) in
+    let now : Receiver g.row.M.Denot g.row.W.Denot × g.row.W.Denot = (c.feed_lines.new.telling, c.feed_lines.new.device) in
     subst (λ m. EndsTelling W (M.script m) (M.answers m) c.args.writer.now settings log meanings c.finish.result c.finish.new.target) (same_machine g at)
-    (c.finish.ensures.ends c.args.writer.now c.start-receiver.result.taker.machine settings log meanings
+    (c.finish.ensures.ends c.args.writer.now c.start-receiver.result.telling.machine settings log meanings
     (has_received (ToldEvents M.stands M.script M.needs W) settings (start g at) now (begun g at) meanings lines) feed
     (gives M.stands M.script M.needs W settings (start g at) now (begun g at) c.requires.writer meanings lines))
 
 within : (g : Over) (c : After-finish g) (meanings : List (Option Stamped))
-    → TookLines (ToldEvents g.M.Machine.stands g.M.Machine.script g.M.Machine.needs g.W.Target) (c.start-receiver.result, c.args.writer.now) meanings (c.feed_lines.new.taker, c.feed_lines.new.device)
+    → TookLines (ToldEvents g.M.Machine.stands g.M.Machine.script g.M.Machine.needs g.W.Target) (c.start-receiver.result, c.args.writer.now) meanings (c.feed_lines.new.telling, c.feed_lines.new.device)
     → (g.M.Machine.script c.args.machine).strict ≡ true → AllByRecursion AnnouncesWithin (trace c.args.config.now meanings)
 within g c meanings lines =
     let M = g.M.Machine in
     let at = (goal.at.returns-in-Ok g c).After-start-receiver in
-    let now : Receiver g.row.M.Denot g.row.W.Denot × g.row.W.Denot = (c.feed_lines.new.taker, c.feed_lines.new.device) in
+    let now : Receiver g.row.M.Denot g.row.W.Denot × g.row.W.Denot = (c.feed_lines.new.telling, c.feed_lines.new.device) in
     subst (λ (script : Script). script.strict ≡ true → AllByRecursion AnnouncesWithin (trace c.args.config.now meanings)) (same_script g at)
     (gives M.stands M.script M.needs g.W.Target c.args.config.now (start g at) now (begun g at) c.requires.writer meanings lines).within
 
@@ -141,12 +141,12 @@ returns-in-Ok g c =
             (omega (arith, read.1, c.max_bytes.ensures.value)) read.2 read.3 (within g c read.0 read.5) (ends g c log read.0 read.6 read.5);
         eager = λ log agrees.
             let lines = c.in-Ok.ensures.lines log agrees (start g at) none in
-            let now : Receiver g.row.M.Denot g.row.W.Denot × g.row.W.Denot = (c.feed_lines.new.taker, c.feed_lines.new.device) in
+            let now : Receiver g.row.M.Denot g.row.W.Denot × g.row.W.Denot = (c.feed_lines.new.telling, c.feed_lines.new.device) in
             subst (λ (script : Script). TellsEagerly script MESSAGE_LIMIT settings log (length (g.R.Source.given c.feed_lines.new.reader) - length (g.R.Source.given c.args.reader.now))
             (W.taken c.args.writer.now) (W.taken c.finish.new.target)) (same_script g at)
             (eagerly M.stands M.script M.needs W settings (start g at) now (begun g at) c.requires.writer log (length (g.R.Source.given c.feed_lines.new.reader) - length (g.R.Source.given c.args.reader.now))
             (c.in-Ok.ensures.eager log agrees (start g at) none (wrote_no_line M.stands M.script M.needs W (start g at))) c.finish.new.target
-            (λ mid said carried. c.finish.ensures.more mid said c.start-receiver.result.taker.machine settings lines.0
+            (λ mid said carried. c.finish.ensures.more mid said c.start-receiver.result.telling.machine settings lines.0
             (has_received (ToldEvents M.stands M.script M.needs W) settings (start g at) now (begun g at) lines.0 lines.5)
             (gives M.stands M.script M.needs W settings (start g at) now (begun g at) c.requires.writer lines.0 lines.5).machine_stands carried));
         memory = λ log agrees refused. absurd (never_memory W script (M.answers c.args.machine) c.args.writer.now c.finish.new.target settings some.0 takes.0 c.finish.result end refused);

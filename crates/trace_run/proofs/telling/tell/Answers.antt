@@ -17,14 +17,11 @@ returns-in-Ok-clause-ok g c = λ start T e seen stands.
     )
 
 pub returns-in-Err-clause-err : goal.returns-in-Err-clause-err
-returns-in-Err-clause-err g c = λ start T e seen stands.
+returns-in-Err-clause-err g c = λ start T stands.
     let W = g.W.Target in
     let page = c.args.page.now in
-    let both = c.in-Err.ensures.err start T e seen stands in
-    let said = both.1 in
+    let said = c.in-Err.ensures.err start T stands in
     let target_is = c.target-1.given.1 (sym said.0) in
-    let page_is = c.page-1.given.1 (sym said.1) in (
-      both.0,
-      subst (λ w. Speaks W page.failed page.block c.args.target.now [] c.page-1.given.0.failed c.page-1.given.0.block w) (sym target_is)
-          (subst (λ (p : Page). Speaks W page.failed page.block c.args.target.now [] p.failed p.block c.event.new.out.target.now) (sym page_is) said.2),
-    )
+    let page_is = c.page-1.given.1 (sym said.1) in
+    subst (λ w. Speaks W page.failed page.block c.args.target.now [] c.page-1.given.0.failed c.page-1.given.0.block w) (sym target_is)
+    (subst (λ (p : Page). Speaks W page.failed page.block c.args.target.now [] p.failed p.block c.event.new.out.target.now) (sym page_is) said.2)

@@ -1,4 +1,4 @@
-use Rattle.uds_exchange.specs.Numbering.{sent}
+use Rattle.uds_exchange.specs.Judging.{sent}
 use Rattle.uds_exchange.proofs.Putting.{fails-first}
 use Rattle.uds_exchange.proofs.Variants.{if_err_along}
 use Rattle.uds_exchange.proofs.judged_orderer.put_due.Goals as goal

@@ -1,5 +1,5 @@
 use Rattle.std.proofs.Common.{ap, sym, ◌∙◌}
-use Rattle.uds_exchange.specs.Numbering.{sent, step_after}
+use Rattle.uds_exchange.specs.Judging.{sent, step_after}
 use Rattle.uds_exchange.proofs.Promises.{one_more_is_put_in}
 use Rattle.trace_canon.specs.SessionScript.{has_place}
 use Rattle.trace_canon.proofs.Lengths.{length_by_step, same_by_step}

@@ -1,6 +1,6 @@
 use Rattle.std.proofs.Common.{◌≡◌, ◌⊎◌, inl, inr, Bool, Option, Some, ℕ, ap, sym, ◌∙◌, true, false}
 use Rattle.std.specs.Prelude.{if◌then◌else◌}
-use Rattle.uds_exchange.specs.Numbering.{number_after, sent, step_after, waiting_number, waits_with}
+use Rattle.uds_exchange.specs.Judging.{number_after, sent, step_after, waiting_number, waits_with}
 use Rattle.uds_exchange.specs.declared.step.Step.{Step}
 use Rattle.uds_exchange.specs.declared.step.Step.TheVariants as step
 use Rattle.uds_exchange.proofs.Promises.{waiting_number_goes_on}

@@ -24,6 +24,6 @@ returns-clause-first c = λ T e bytes line micros dir seen completes known.
 
 pub returns-clause-frames : goal.returns-clause-frames
 returns-clause-frames c = λ T e bytes dir few seen completes known.
-    c.frames_carrying-frames.ensures ∙ ap (λ b. frames_with b c.of-2.result) c.left-begun.ensures
+    c.frames_carrying-frames.ensures ∙ ap (λ b. frames_with b c.of-2.result) c.still_begun-begun.ensures
     ∙ frames_known T e c.args.dir (seen_event c.args.event) c.args.self.now c.of.result c.of-2.result bytes dir seen (omega arith) known c.of.ensures.tester c.of.ensures.unit
     c.of-2.ensures.tester c.of-2.ensures.unit completes

@@ -20,8 +20,8 @@ returns-in_default-clause-ok g c = λ start meanings number few took. (
       let received = took.1 fresh in
       let same = trace_same_blank start.0.config meanings c.args.what.now c.in_default.is in (
         receives_same start.0.config meanings c.args.what.now c.args.self.now.pair c.args.self.now.lines c.args.line c.args.self.now.counts same number received.0,
-        subst (λ T. IsTellingStart (g.M.Machine.stands start.0.taker.machine [] start.0.taker.machine) start.0.taker.judge start.0.taker.page.failed start.0.taker.page.block → g.W.Target.failures start.1 ≤ 2 ^ 62
-            → Tells (g.M.Machine.stands start.0.taker.machine) g.W.Target (g.M.Machine.script start.0.taker.machine) start.1 T c.args.self.now.taker.machine c.args.self.now.taker.judge c.args.self.now.taker.page.failed c.args.self.now.taker.page.block c.args.device.now) (sym same) received.1,
+        subst (λ T. IsTellingStart (g.M.Machine.stands start.0.telling.machine [] start.0.telling.machine) start.0.telling.judge start.0.telling.page.failed start.0.telling.page.block → g.W.Target.failures start.1 ≤ 2 ^ 62
+            → Tells (g.M.Machine.stands start.0.telling.machine) g.W.Target (g.M.Machine.script start.0.telling.machine) start.1 T c.args.self.now.telling.machine c.args.self.now.telling.judge c.args.self.now.telling.page.failed c.args.self.now.telling.page.block c.args.device.now) (sym same) received.1,
       ),
 )
 
@@ -35,8 +35,8 @@ returns-in_default-direction_of-clause-ok g c = λ start meanings number few too
       sym c.in_default-direction_of.is ∙ c.direction_of.ensures ∙ ap (direction_of c.args.self.now.config) c.id.ensures ∙ ap (λ s. direction_of s stamped.frame.id) took.0 in
       let same = trace_same_foreign start.0.config meanings c.args.what.now stamped c.in-Some.is none in (
         receives_same start.0.config meanings c.args.what.now c.args.self.now.pair c.args.self.now.lines c.args.line c.args.self.now.counts same number received.0,
-        subst (λ T. IsTellingStart (g.M.Machine.stands start.0.taker.machine [] start.0.taker.machine) start.0.taker.judge start.0.taker.page.failed start.0.taker.page.block → g.W.Target.failures start.1 ≤ 2 ^ 62
-            → Tells (g.M.Machine.stands start.0.taker.machine) g.W.Target (g.M.Machine.script start.0.taker.machine) start.1 T c.args.self.now.taker.machine c.args.self.now.taker.judge c.args.self.now.taker.page.failed c.args.self.now.taker.page.block c.args.device.now) (sym same) received.1,
+        subst (λ T. IsTellingStart (g.M.Machine.stands start.0.telling.machine [] start.0.telling.machine) start.0.telling.judge start.0.telling.page.failed start.0.telling.page.block → g.W.Target.failures start.1 ≤ 2 ^ 62
+            → Tells (g.M.Machine.stands start.0.telling.machine) g.W.Target (g.M.Machine.script start.0.telling.machine) start.1 T c.args.self.now.telling.machine c.args.self.now.telling.judge c.args.self.now.telling.page.failed c.args.self.now.telling.page.block c.args.device.now) (sym same) received.1,
       ),
 )
 
@@ -62,9 +62,9 @@ returns-clause-ok g c =
                 grew
                 (counts T received.0.pair_is ∙ ap (λ (e : Entry). counted_more d (verdict MESSAGE_LIMIT T e) c.args.self.now.counts) here) received.0,
             λ blank low.
-                subst (λ U. Tells (g.M.Machine.stands start.0.taker.machine) g.W.Target (g.M.Machine.script start.0.taker.machine) start.1 U c.receive.new.taker.machine c.receive.new.taker.judge c.receive.new.taker.page.failed c.receive.new.taker.page.block c.receive.new.target) (sym next)
-                (subst (λ (e : Entry). Tells (g.M.Machine.stands start.0.taker.machine) g.W.Target (g.M.Machine.script start.0.taker.machine) start.1 (T ++ e ∷ []) c.receive.new.taker.machine c.receive.new.taker.judge c.receive.new.taker.page.failed c.receive.new.taker.page.block c.receive.new.target) here
-                (taken T received.0.pair_is (omega arith) start.1 start.0.taker.machine (received.1 blank low))),
+                subst (λ U. Tells (g.M.Machine.stands start.0.telling.machine) g.W.Target (g.M.Machine.script start.0.telling.machine) start.1 U c.receive.new.telling.machine c.receive.new.telling.judge c.receive.new.telling.page.failed c.receive.new.telling.page.block c.receive.new.target) (sym next)
+                (subst (λ (e : Entry). Tells (g.M.Machine.stands start.0.telling.machine) g.W.Target (g.M.Machine.script start.0.telling.machine) start.1 (T ++ e ∷ []) c.receive.new.telling.machine c.receive.new.telling.judge c.receive.new.telling.page.failed c.receive.new.telling.page.block c.receive.new.target) here
+                (taken T received.0.pair_is (omega arith) start.1 start.0.telling.machine (received.1 blank low))),
           ),
     )) c.receive.ensures.pair c.receive.ensures.grew c.receive.ensures.counts
     (on_ok_of_each _ _ _ c.receive.result (λ T stands few. (c.receive.ensures.told T stands few).ok))
@@ -87,13 +87,13 @@ returns-clause-err g c =
       c.in-Some.is,
       direction,
       λ blank low.
-          subst (λ (e : Entry). StopsTelling g.W.Target (g.M.Machine.script start.0.taker.machine) (g.M.Machine.needs start.0.taker.machine) start.1 T e fault c.receive.new.taker.page.failed
-          c.receive.new.taker.page.block c.receive.new.target) here
-          (stops T received.0.pair_is (omega arith) start.1 start.0.taker.machine (received.1 blank low)),
+          subst (λ (e : Entry). StopsTelling g.W.Target (g.M.Machine.script start.0.telling.machine) (g.M.Machine.needs start.0.telling.machine) start.1 T e fault c.receive.new.telling.page.failed
+          c.receive.new.telling.page.block c.receive.new.target) here
+          (stops T received.0.pair_is (omega arith) start.1 start.0.telling.machine (received.1 blank low)),
     )) (if_err_of_each _ _ _ c.receive.result (λ T stands few. (c.receive.ensures.told T stands few).err))
 
 pub returns-clause-kept : goal.returns-clause-kept
 returns-clause-kept g c = λ start meanings first number few took sure fresh blank low.
     let received = took.1 fresh in
     let frames = few_frames start.0.config meanings in
-    (c.receive.ensures.told (trace start.0.config meanings) received.0.pair_is (omega arith)).kept start.1 start.0.taker.machine (trace start.0.config first) (received.1 blank low) (sure fresh blank low)
+    (c.receive.ensures.told (trace start.0.config meanings) received.0.pair_is (omega arith)).kept start.1 start.0.telling.machine (trace start.0.config first) (received.1 blank low) (sure fresh blank low)

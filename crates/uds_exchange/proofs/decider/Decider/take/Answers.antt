@@ -1,5 +1,5 @@
 use Rattle.std.proofs.Common.{◌∙◌}
-use Rattle.uds_exchange.specs.Numbering.{sent}
+use Rattle.uds_exchange.specs.Judging.{sent}
 use Rattle.uds_exchange.specs.proving.Deciding.{items_for}
 use Rattle.uds_exchange.proofs.Deciding.{decided-found, keeps-found, refuses-kept}
 use Rattle.uds_exchange.proofs.Variants.{on_ok_along, on_err_along}

@@ -1,5 +1,6 @@
 use Rattle.std.proofs.Common.{◌∙◌}
-use Rattle.uds_exchange.specs.Numbering.{sent}
+use Rattle.uds_exchange.specs.Judging.{sent}
+use Rattle.uds_exchange.specs.proving.Steps.{due_for}
 use Rattle.uds_exchange.proofs.Variants.{on_ok_along, if_err_along}
 use Rattle.uds_exchange.proofs.NextStep.{ordered-next, puts-due, held-with, stops-due}
 use Rattle.uds_exchange.proofs.judged_orderer.JudgedOrderer.take.Goals as goal
@@ -21,3 +22,6 @@ pub returns-clause-stops : goal.returns-clause-stops
 returns-clause-stops g c =
     if_err_along c.advance.result _ _ (λ e h M is judged.
     stops-due g.S.MessageSink.after_ok g.S.MessageSink.after_err M (sent c.args.message) c.args.message.step c.args.self.now c.advance.new.self _ _ e is judged h) c.advance.ensures.err
+
+pub returns-clause-front : goal.returns-clause-front
+returns-clause-front g c = λ why is. (due_for c.args.message.step c.args.self.now.holds (sent c.args.message), (rw is at c.advance.ensures.err).2)

@@ -1,5 +1,5 @@
 use Rattle.std.proofs.Common.{sym, ◌∙◌}
-use Rattle.uds_exchange.specs.Numbering.{sent}
+use Rattle.uds_exchange.specs.Judging.{sent}
 use Rattle.uds_exchange.proofs.ItemNumbers.{joined-found}
 use Rattle.uds_exchange.proofs.Variants.{on_ok_along, on_err_along}
 use Rattle.uds_exchange.proofs.judged_pairing.JudgedPairing.take.Goals as goal

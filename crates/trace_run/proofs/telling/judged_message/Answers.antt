@@ -1,8 +1,8 @@
 use Rattle.std.proofs.Common.{◌++◌, ap, subst, sym}
 use Rattle.isotp_receive.specs.EventSeen.{seen_verdict}
 use Rattle.isotp_receive.specs.Verdict.{told_message}
-use Rattle.uds_exchange.specs.Numbering.{HasJudged}
-use Rattle.trace_run.proofs.telling.judged.Goals as goal
+use Rattle.uds_exchange.specs.Judging.{HasJudged}
+use Rattle.trace_run.proofs.telling.judged_message.Goals as goal
 
 pub returns-in-Message-clause-next : goal.returns-in-Message-clause-next
 returns-in-Message-clause-next c = λ M few so_far.

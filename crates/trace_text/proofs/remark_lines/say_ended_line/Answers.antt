@@ -1,6 +1,6 @@
 use Rattle.std.proofs.Common.{subst}
 use Rattle.trace_text.proofs.RemarkLines.{ended_is}
-use Rattle.trace_text.proofs.remark.say_ended_line.Goals as goal
+use Rattle.trace_text.proofs.remark_lines.say_ended_line.Goals as goal
 
 pub returns : goal.returns
 returns g c =

@@ -1,7 +1,7 @@
 use Rattle.std.proofs.Common.{◌++◌, ◌∙◌, ap, codes, sym, subst}
 use Rattle.trace_text.specs.ExplainText.{reason_line}
 use Rattle.trace_text.proofs.RemarkLines.{layout_is, sequence_is, announced_is}
-use Rattle.trace_text.proofs.remark.say_reason.Goals as goal
+use Rattle.trace_text.proofs.remark_lines.say_reason.Goals as goal
 
 pub returns-in-Pdu : goal.returns-in-Pdu
 returns-in-Pdu g c =

@@ -1,7 +1,7 @@
 use Rattle.std.proofs.Common.{sym, subst}
 use Rattle.trace_run.specs.proving.Carrying.{Speaks}
 use Rattle.trace_run.specs.declared.page.Page.{Page}
-use Rattle.trace_run.proofs.driver.tell_end.Goals as goal
+use Rattle.trace_run.proofs.telling.tell_end.Goals as goal
 
 pub returns-clause-says : goal.returns-clause-says
 returns-clause-says g c = λ start T stands pair keeps.

@@ -1,6 +1,6 @@
 use Rattle.std.proofs.Common.{subst}
 use Rattle.trace_text.proofs.RemarkLines.{dropped_is}
-use Rattle.trace_text.proofs.remark.say_dropped_line.Goals as goal
+use Rattle.trace_text.proofs.remark_lines.say_dropped_line.Goals as goal
 
 pub returns : goal.returns
 returns g c =

@@ -1,6 +1,6 @@
 use Rattle.std.proofs.Common.{subst}
 use Rattle.trace_text.proofs.RemarkLines.{counts_are}
-use Rattle.trace_text.proofs.remark.say_counts_words.Goals as goal
+use Rattle.trace_text.proofs.remark_lines.say_counts_words.Goals as goal
 
 pub returns : goal.returns
 returns g c =

@@ -1,4 +1,4 @@
--- The judge of items: to which item of the meaning one more message belongs, by the messages before it alone.
+-- What is judged of one more message by those before it alone: what becomes of it, and the number of its item; and what a judge keeps.
 use Rattle.std.specs.Prelude.{◌≡◌, ℕ, ◌+◌, ◌-◌, List, [], ◌∷◌, length, Option, Some, None, option_map, min}
 use Rattle.direction.specs.Dir.{Message}
 use Rattle.uds_message.specs.Message.{sid}

@@ -1,0 +1,47 @@
+//! The item of a log at the place where two differ, in words and in JSON.
+ghost use Rattle.std.specs.Prelude.{ℕ, ◌+◌, Some, None, slice_get};
+ghost use Rattle.uds_exchange.specs.ItemSeen.{item_value};
+ghost use Rattle.trace_canon.specs.ComparisonText.{shown_text};
+
+use trace_io::TextSink;
+use trace_text::say::say_parts;
+use trace_text::{Notation, Numbering, Part, say_item_object, say_worded};
+use uds_exchange::{Item, Meaning};
+
+/// Says the item at a place of a meaning, or that there is none.
+pub(crate) fn say_item_at<S: TextSink>(
+    meaning: &Meaning,
+    place: usize,
+    notation: Notation,
+    out: &mut S,
+)
+    ensures { S.says out.old (shown_text notation (place + 1) (slice_get meaning.now place)) out.new }
+{
+    if place >= meaning.len() {
+        say_nothing(notation, out);
+        return;
+    }
+    if let Some(item) = meaning.item(place) {
+        say_shown(place as u64 + 1, item, notation, out);
+    }
+}
+
+/// Says an item by its number.
+fn say_shown<S: TextSink>(number: u64, item: Item<'_>, notation: Notation, out: &mut S)
+    ensures { S.says out.old (shown_text notation number (Some (item_value item.entry))) out.new }
+{
+    match notation {
+        Notation::Text => say_worded(number, Numbering::Shown, item, out),
+        Notation::Json => say_item_object(number, Numbering::Shown, item, out),
+    }
+}
+
+/// Says that there is no item.
+fn say_nothing<S: TextSink>(notation: Notation, out: &mut S)
+    ensures { (number : ℕ) → S.says out.old (shown_text notation number None) out.new }
+{
+    match notation {
+        Notation::Text => say_parts(out, &[Part::Text("nothing\n")]),
+        Notation::Json => say_parts(out, &[Part::Text("null")]),
+    }
+}
