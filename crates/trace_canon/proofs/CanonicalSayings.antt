@@ -6,7 +6,7 @@ use Rattle.isotp_receive.specs.declared.TheConstants.{MESSAGE_LIMIT}
 use Rattle.isotp_segment.specs.CanonicalFrames.{canonical_frames}
 use Rattle.isotp_segment.specs.Timed.{all_frames}
 use Rattle.uds_exchange.specs.Orderer.{StopsHeld, StopsDue}
-use Rattle.uds_exchange.specs.Sink.{AfterOk, Puts}
+use Rattle.uds_exchange.specs.Sink.{AfterOk, Fails, Puts}
 use Rattle.uds_exchange.specs.declared.order_fault.OrderFault.{OrderFault}
 use Rattle.uds_exchange.specs.declared.order_fault.OrderFault.TheVariants as order_fault
 use Rattle.trace_canon.specs.proving.Writing.{text_from, place_after}
@@ -69,3 +69,13 @@ pub stops_for_memory : {K E Goal : Type 0} (after_ok : AfterOk K) (M : List Mess
 stops_for_memory after_ok M message s t order_fault.Memory stops by = by refl
 stops_for_memory after_ok M message s t order_fault.Failed stops by = absurd stops
 stops_for_memory after_ok M message s t (order_fault.Sink why) (due, is, (front, next, rest, between, parts, puts, err)) by = absurd err
+
+never_fails : {K E Goal : Type 0} (after_ok : AfterOk K) (s t : K) (why : E) → (due : List Message) × Fails after_ok (λ s d m e t. ⊥) s due why t → Goal
+never_fails after_ok s t why (due, (front, next, rest, between, parts, puts, err)) = absurd err
+
+-- and whatever was judged of the message, the sink is as before
+pub stays_where_it_stops : {K E : Type 0} (after_ok : AfterOk K) (s t : K) (why : OrderFault E) → (why ≡ order_fault.Memory → t ≡ s) → (why ≡ order_fault.Failed → t ≡ s)
+    → ((e : E) → why ≡ order_fault.Sink e → (due : List Message) × Fails after_ok (λ s d m e t. ⊥) s due e t) → t ≡ s
+stays_where_it_stops after_ok s t order_fault.Memory memory failed sink = memory refl
+stays_where_it_stops after_ok s t order_fault.Failed memory failed sink = failed refl
+stays_where_it_stops after_ok s t (order_fault.Sink e) memory failed sink = never_fails after_ok s t e (sink e refl)

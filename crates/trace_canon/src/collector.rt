@@ -100,11 +100,11 @@ pub(crate) struct Collector {
 }
 
 impl Collector {
-    ghost use Rattle.std.specs.Prelude.{◌≡◌, ◌<◌, ◌+◌, ℕ, List, [], ◌∷◌, ◌++◌, OnOk};
+    ghost use Rattle.std.specs.Prelude.{◌≡◌, ◌≤◌, ◌+◌, ℕ, List, [], ◌∷◌, ◌++◌, OnOk, true, false};
     ghost use Rattle.direction.specs.Dir.{Message};
     ghost use Rattle.uds_exchange.specs.Meaning.{meaning, flattened};
     ghost use Rattle.uds_exchange.specs.Judging.{IsJudgedAfter, sent};
-    ghost use Rattle.trace_log.specs.Settings.{Settings};
+    ghost use Rattle.trace_log.specs.Settings.{AreSettings, Settings};
     ghost use Rattle.trace_canon.specs.SessionScript.{Collects};
     ghost use Rattle.trace_canon.specs.proving.Measuring.{HaveLengths};
 
@@ -113,19 +113,33 @@ impl Collector {
         ensures { OnOk result ((settings : Settings) (M : List Message) → IsJudgedAfter M message.entry → Collects settings M self.old.pairing self.old.length self.old.config
             → Collects settings (M ++ sent message.entry ∷ []) self.new.pairing self.new.length self.new.config) }
     {
-        let limit = self.config.max_bytes();
-        if self.length > limit {
+        if self.is_over(message.dir, message.bytes) {
             return Ok(());
         }
         let length = self.length.saturating_add(self.added(message));
-        if length > limit {
+        if length > self.config.max_bytes() {
             self.pairing = JudgedPairing::new(self.alloc);
             self.length = length;
             return Ok(());
         }
-        self.pairing.take(message)?;
-        self.length = length;
-        Ok(())
+        match self.pairing.take(message) {
+            Ok(()) => {
+                self.length = length;
+                Ok(())
+            }
+            Err(refused) => Err(refused),
+        }
+    }
+
+    /// Whether the canonical log is above the limit, and so with this message, too.
+    #[inline(always)]
+    fn is_over(&self, _dir: Dir, _bytes: &[u8]) -> bool
+        ensures stays { result ≡ true → (settings : Settings) (M : List Message) → Collects settings M self.now.pairing self.now.length self.now.config
+            → Collects settings (M ++ (_dir, _bytes.now) ∷ []) self.now.pairing self.now.length self.now.config }
+        ensures within { result ≡ false → self.now.length ≤ self.now.config.max_bytes }
+        ensures settings { AreSettings self.now.config }
+    {
+        self.length > self.config.max_bytes()
     }
 
     /// By how many bytes one more message makes the canonical log longer.
@@ -177,7 +191,10 @@ impl Machine for Collector {
         let Some(message) = seen.message else {
             return Ok(());
         };
-        self.take(message)
+        match self.take(message) {
+            Ok(()) => Ok(()),
+            Err(refused) => Err(refused),
+        }
     }
 
     fn end<S: TextSink>(

@@ -1,9 +1,9 @@
-use Rattle.std.proofs.Common.{Err, ap, sym, subst, ◌∙◌}
+use Rattle.std.proofs.Common.{Err, [], ap, sym, subst, ◌∙◌}
 use Rattle.isotp_receive.specs.declared.TheConstants.{MESSAGE_LIMIT}
 use Rattle.isotp_segment.specs.Timed.{all_frames}
 use Rattle.uds_exchange.specs.Judging.{sent}
 use Rattle.trace_canon.specs.proving.Writing.{text_from}
-use Rattle.trace_canon.proofs.CanonicalSayings.{SaysOne, said_all, stops_for_memory}
+use Rattle.trace_canon.proofs.CanonicalSayings.{SaysOne, said_all, stays_where_it_stops, stops_for_memory}
 use Rattle.trace_canon.proofs.canonical_sink.order_to.Goals as goal
 
 pub returns-in-Ok-clause-says : goal.returns-in-Ok-clause-says
@@ -22,3 +22,15 @@ pub returns-in-Err-clause-held : goal.returns-in-Err-clause-held
 returns-in-Err-clause-held g c = λ M stands judged.
     stops_for_memory (SaysOne g.S.TextSink.says g.met.S.TextSink.nothing g.met.S.TextSink.onward) M (sent c.args.message) _ c.take.new.sink c.in-Err._fault (c.in-Err.ensures.stops M stands judged)
     (λ is. c.take.ensures.held_only (c.in-Err.is ∙ ap Err is) M stands judged)
+
+pub returns-in-Err-clause-refused : goal.returns-in-Err-clause-refused
+returns-in-Err-clause-refused g c =
+    let S = g.S.TextSink in
+    let same = stays_where_it_stops (SaysOne S.says g.met.S.TextSink.nothing g.met.S.TextSink.onward) _ c.take.new.sink c.in-Err._fault
+    (λ is. (c.take.ensures.memory (c.in-Err.is ∙ ap Err is)).1) (λ is. (c.take.ensures.failed_only (c.in-Err.is ∙ ap Err is)).2)
+    (λ e is. c.take.ensures.front e (c.in-Err.is ∙ ap Err is)) in
+    let out_is = c.out-1.given.1 (ap (λ s. s.out.ghost_name) (sym same)) in
+    let place_is = c.place-1.given.1 (ap (λ s. s.place.ghost_name) (sym same)) in (
+      place_is ∙ ap (λ s. s.place.now) same,
+      subst (λ o. S.says c.args.out.now [] o) (sym (out_is ∙ ap (λ s. s.out.now) same)) (g.met.S.TextSink.nothing c.args.out.now),
+    )

@@ -50,7 +50,7 @@ returns-in-Err g c =
     let W = g.W.Target in
     let settings = c.args.config.now in
     let at = (goal.at.returns-in-Err g c).After-start-receiver in
-    let now : Receiver g.row.M.Denot g.row.W.Denot × g.row.W.Denot = (c.feed_lines.new.telling, c.feed_lines.new.device) in
+    let now : Receiver g.row.M.Denot g.row.W.Denot × g.row.W.Denot = (c.feed_lines.new.taker, c.feed_lines.new.device) in
     let none = takes_nothing M.stands M.script M.needs W (start g at) in
     let known_of =
     known M.stands M.script M.needs W settings (start g at) now (begun g at) c.requires.writer c.give_up.new.target Bool c.in-Err.fault c.give_up.result
@@ -98,26 +98,26 @@ returns-in-Err g c =
 
 -- how the run ends, after lines that mean this
 ends : (g : Over) (c : After-finish g) (log : List ℕ) (meanings : List (Option Stamped)) → c.in-Ok.ended ≡ ends_in_line_feed log
-    → TookLines (ToldEvents g.M.Machine.stands g.M.Machine.script g.M.Machine.needs g.W.Target) (c.start-receiver.result, c.args.writer.now) meanings (c.feed_lines.new.telling, c.feed_lines.new.device)
+    → TookLines (ToldEvents g.M.Machine.stands g.M.Machine.script g.M.Machine.needs g.W.Target) (c.start-receiver.result, c.args.writer.now) meanings (c.feed_lines.new.taker, c.feed_lines.new.device)
     → EndsTelling g.W.Target (g.M.Machine.script c.args.machine) (g.M.Machine.answers c.args.machine) c.args.writer.now c.args.config.now log meanings c.finish.result c.finish.new.target
 ends g c log meanings feed lines =
     let M = g.M.Machine in
     let W = g.W.Target in
     let settings = c.args.config.now in
     let at = (goal.at.returns-in-Ok g c).After-start-receiver in
-    let now : Receiver g.row.M.Denot g.row.W.Denot × g.row.W.Denot = (c.feed_lines.new.telling, c.feed_lines.new.device) in
+    let now : Receiver g.row.M.Denot g.row.W.Denot × g.row.W.Denot = (c.feed_lines.new.taker, c.feed_lines.new.device) in
     subst (λ m. EndsTelling W (M.script m) (M.answers m) c.args.writer.now settings log meanings c.finish.result c.finish.new.target) (same_machine g at)
     (c.finish.ensures.ends c.args.writer.now c.start-receiver.result.telling.machine settings log meanings
     (has_received (ToldEvents M.stands M.script M.needs W) settings (start g at) now (begun g at) meanings lines) feed
     (gives M.stands M.script M.needs W settings (start g at) now (begun g at) c.requires.writer meanings lines))
 
 within : (g : Over) (c : After-finish g) (meanings : List (Option Stamped))
-    → TookLines (ToldEvents g.M.Machine.stands g.M.Machine.script g.M.Machine.needs g.W.Target) (c.start-receiver.result, c.args.writer.now) meanings (c.feed_lines.new.telling, c.feed_lines.new.device)
+    → TookLines (ToldEvents g.M.Machine.stands g.M.Machine.script g.M.Machine.needs g.W.Target) (c.start-receiver.result, c.args.writer.now) meanings (c.feed_lines.new.taker, c.feed_lines.new.device)
     → (g.M.Machine.script c.args.machine).strict ≡ true → AllByRecursion AnnouncesWithin (trace c.args.config.now meanings)
 within g c meanings lines =
     let M = g.M.Machine in
     let at = (goal.at.returns-in-Ok g c).After-start-receiver in
-    let now : Receiver g.row.M.Denot g.row.W.Denot × g.row.W.Denot = (c.feed_lines.new.telling, c.feed_lines.new.device) in
+    let now : Receiver g.row.M.Denot g.row.W.Denot × g.row.W.Denot = (c.feed_lines.new.taker, c.feed_lines.new.device) in
     subst (λ (script : Script). script.strict ≡ true → AllByRecursion AnnouncesWithin (trace c.args.config.now meanings)) (same_script g at)
     (gives M.stands M.script M.needs g.W.Target c.args.config.now (start g at) now (begun g at) c.requires.writer meanings lines).within
 
@@ -141,7 +141,7 @@ returns-in-Ok g c =
             (omega (arith, read.1, c.max_bytes.ensures.value)) read.2 read.3 (within g c read.0 read.5) (ends g c log read.0 read.6 read.5);
         eager = λ log agrees.
             let lines = c.in-Ok.ensures.lines log agrees (start g at) none in
-            let now : Receiver g.row.M.Denot g.row.W.Denot × g.row.W.Denot = (c.feed_lines.new.telling, c.feed_lines.new.device) in
+            let now : Receiver g.row.M.Denot g.row.W.Denot × g.row.W.Denot = (c.feed_lines.new.taker, c.feed_lines.new.device) in
             subst (λ (script : Script). TellsEagerly script MESSAGE_LIMIT settings log (length (g.R.Source.given c.feed_lines.new.reader) - length (g.R.Source.given c.args.reader.now))
             (W.taken c.args.writer.now) (W.taken c.finish.new.target)) (same_script g at)
             (eagerly M.stands M.script M.needs W settings (start g at) now (begun g at) c.requires.writer log (length (g.R.Source.given c.feed_lines.new.reader) - length (g.R.Source.given c.args.reader.now))

@@ -6,31 +6,31 @@ use Rattle.trace_canon.specs.proving.Measuring.{HaveLengths}
 use Rattle.trace_canon.proofs.Collecting.{collects_more, collects_no_more, keeps_all}
 use Rattle.trace_canon.proofs.collector.Collector.take.Goals as goal
 
-pub returns-then-self-limit : goal.returns-then-self-limit
-returns-then-self-limit c = λ settings M judged stood.
-    let most = ap (λ (s : Settings). s.max_bytes) stood.same in
-    c.stay_over.ensures settings M (omega (arith, most, c.max_bytes-limit.ensures.value, c.if-self-limit.true)) stood
+pub returns-then-is_over : goal.returns-then-is_over
+returns-then-is_over c = λ settings M judged stood. c.is_over.ensures.stays c.if-is_over.true settings M stood
 
-pub returns-then-length-limit : goal.returns-then-length-limit
-returns-then-length-limit c = λ settings M judged stood.
+pub returns-then-length-max_bytes : goal.returns-then-length-max_bytes
+returns-then-length-max_bytes c = λ settings M judged stood.
     let message = sent c.args.message in
     let most = ap (λ (s : Settings). s.max_bytes) stood.same in
-    let all = keeps_all settings M _ _ _ stood (omega (arith, most, c.max_bytes-limit.ensures.value, c.if-self-limit.false)) in
+    let within = c.is_over.ensures.within c.if-is_over.false in
+    let all = keeps_all settings M _ _ _ stood (omega (arith, most, within)) in
     let size = stood.size + c.added.result in
     let have = subst (λ (s : Settings). HaveLengths s (flattened (meaning (M ++ message ∷ []))) size) stood.same
     (c.added.ensures M stood.size all.0 judged (subst (λ (s : Settings). HaveLengths s (flattened (meaning M)) stood.size) (sym stood.same) stood.measured)) in
     collects_no_more settings M message c.new.result c.saturating_add-length.result size have c.new.ensures
-    (omega (arith, most, c.max_bytes-limit.ensures.value, c.if-length-limit.true))
-    (omega (arith, most, c.max_bytes-limit.ensures.value, c.if-length-limit.true, all.1, c.saturating_add-length.ensures)) c.args.self.now.config stood.same
+    (omega (arith, most, c.max_bytes.ensures.value, c.if-length-max_bytes.true))
+    (omega (arith, most, c.max_bytes.ensures.value, c.if-length-max_bytes.true, all.1, c.saturating_add-length.ensures)) c.args.self.now.config stood.same
 
 pub returns-in-Ok : goal.returns-in-Ok
 returns-in-Ok c = λ settings M judged stood.
     let message = sent c.args.message in
     let most = ap (λ (s : Settings). s.max_bytes) stood.same in
-    let all = keeps_all settings M _ _ _ stood (omega (arith, most, c.max_bytes-limit.ensures.value, c.if-self-limit.false)) in
+    let within = c.is_over.ensures.within c.if-is_over.false in
+    let all = keeps_all settings M _ _ _ stood (omega (arith, most, within)) in
     let size = stood.size + c.added.result in
     let have = subst (λ (s : Settings). HaveLengths s (flattened (meaning (M ++ message ∷ []))) size) stood.same
     (c.added.ensures M stood.size all.0 judged (subst (λ (s : Settings). HaveLengths s (flattened (meaning M)) stood.size) (sym stood.same) stood.measured)) in
-    let known : c.saturating_add-length.result ≡ size = omega (arith, most, c.max_bytes-limit.ensures.value, c.max_bytes-limit.ensures.settings.most, c.if-length-limit.false, all.1, c.saturating_add-length.ensures) in
+    let known : c.saturating_add-length.result ≡ size = omega (arith, most, c.max_bytes.ensures.value, c.max_bytes.ensures.settings.most, c.if-length-max_bytes.false, all.1, c.saturating_add-length.ensures) in
     collects_more settings M message c.take.new.self c.saturating_add-length.result size have (c.in-Ok.ensures.ok M all.0 judged) known
-    (omega (arith, known, most, c.max_bytes-limit.ensures.value, c.if-length-limit.false)) c.args.self.now.config stood.same
+    (omega (arith, known, most, c.max_bytes.ensures.value, c.if-length-max_bytes.false)) c.args.self.now.config stood.same

@@ -12,9 +12,9 @@ returns-in-Ok-clause-ok g c = λ start T e seen stood.
     let completes = completes_judged T e c.args.seen c.in-Some.message seen c.in-Some.is in
     (subst (λ N. Collects start.config N now.pairing now.length now.config) (sym completes.next) (c.in-Ok.ensures start.config (messages MESSAGE_LIMIT T) completes.step stood), g.met.S.TextSink.nothing c.args._out.now)
 
-pub returns-in-Err-clause-err : goal.returns-in-Err-clause-err
-returns-in-Err-clause-err g c = λ start T e seen stood.
-    (completes_message T e c.in-Some.message (completes_judged T e c.args.seen c.in-Some.message seen c.in-Some.is), g.met.S.TextSink.nothing c.args._out.now)
+pub returns-in-Err-clause-needs : goal.returns-in-Err-clause-needs
+returns-in-Err-clause-needs g c = λ start T e seen stood.
+    completes_message T e c.in-Some.message (completes_judged T e c.args.seen c.in-Some.message seen c.in-Some.is)
 
 pub returns-in_default-clause-ok : goal.returns-in_default-clause-ok
 returns-in_default-clause-ok g c = λ start T e seen stood.

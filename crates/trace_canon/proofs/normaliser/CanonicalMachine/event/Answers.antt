@@ -15,11 +15,13 @@ returns-in-Ok-clause-ok g c = λ start T e seen stood.
     (c.in-Ok.ensures.stands M stood.ordered completes.step) (c.in-Ok.ensures.says M stood.ordered completes.step)
 
 pub returns-in-Err-clause-err : goal.returns-in-Err-clause-err
-returns-in-Err-clause-err g c = λ start T e seen stood.
-    let M = messages MESSAGE_LIMIT T in
+returns-in-Err-clause-err g c = λ start T stood. c.in-Err.ensures.refused.1
+
+pub returns-in-Err-clause-needs : goal.returns-in-Err-clause-needs
+returns-in-Err-clause-needs g c = λ start T e seen stood.
     let message = c.in-Some.message in
     let completes = completes_judged T e c.args.seen message seen c.in-Some.is in
-    (completes_held T e message completes (c.in-Err.ensures.held M stood.ordered completes.step), (c.in-Err.ensures.refused M stood.ordered completes.step).1)
+    completes_held T e message completes (c.in-Err.ensures.held (messages MESSAGE_LIMIT T) stood.ordered completes.step)
 
 pub returns-in_default-clause-ok : goal.returns-in_default-clause-ok
 returns-in_default-clause-ok g c = λ start T e seen stood.

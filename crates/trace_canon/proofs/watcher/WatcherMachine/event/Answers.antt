@@ -14,11 +14,11 @@ returns-in-Ok-clause-ok g c = λ start T e seen stood.
     watches_next g.S.TextSink.says start.style self.style T e (sent message) self.decider _ self.number _ c.args.out.now _ seen.event.few completes.next stood
     (c.in-Ok.ensures.stands M stood.decides completes.step) (c.in-Ok.ensures.says M stood.decides completes.step)
 
-pub returns-in-Err-clause-err : goal.returns-in-Err-clause-err
-returns-in-Err-clause-err g c = λ start T e seen stood.
+pub returns-in-Err-clause-needs : goal.returns-in-Err-clause-needs
+returns-in-Err-clause-needs g c = λ start T e seen stood.
     let message = c.in-Some.message in
     let completes = completes_judged T e c.args.seen message seen c.in-Some.is in
-    (completes_kept T e message completes (c.in-Err.ensures.kept (messages MESSAGE_LIMIT T) stood.decides completes.step), c.in-Err.ensures.quiet)
+    completes_kept T e message completes (c.in-Err.ensures.kept (messages MESSAGE_LIMIT T) stood.decides completes.step)
 
 pub returns-in_default-clause-ok : goal.returns-in_default-clause-ok
 returns-in_default-clause-ok g c = λ start T e seen stood.
