@@ -21,8 +21,9 @@ from functools import lru_cache
 
 # A function of a crate by its path, as `normaliser::normalise` or `scanner::Scanner::scan`, with the names of the clauses that its
 # contract ensures. That of a lone clause is empty. Those of a run are also the fields of its record, and `run` has the names of that.
-# A law stands in a public module, and does nothing. `texts` has each clause as it is written, those that it requires as one.
-Function = namedtuple("Function", "path clauses is_public is_law run texts")
+# A law stands in a public module, and does nothing. `texts` has each clause as it is written, those that it requires as one. `names`
+# is what a clause calls what is of the code: the words of the function's head and of its type's, and what the file has and uses.
+Function = namedtuple("Function", "path clauses is_public is_law run texts names")
 REQUIRES = "requires"
 
 # What a part of a cell says of some names: what they are, the names, their clauses, None where it names none, and their crate,
@@ -38,6 +39,7 @@ ARRAY_LENGTH = re.compile(r";(?=[^;{}\[\]\n]*\])")
 BLOCK = re.compile(r"^(pub )?(trait|impl)\b(.*?)\{\n(.*?)^\}", re.M | re.S)
 FUNCTION = re.compile(r"^ *(pub )?(?:pub\(crate\) )?(?:extern\s+)?fn (\w+)", re.M)
 CLAUSE = re.compile(r"\b(requires|ensures)\*?\s*(\w*)\s*$")
+OF_THE_FILE = re.compile(r"^(?:pub )?use ([^;]*);|^(?:pub(?:\(crate\))? )?(?:struct|enum|trait|const) (\w+)", re.M)
 
 
 def bare(text):
@@ -83,20 +85,22 @@ def owner(kind, head):
 @lru_cache(maxsize=None)
 def functions_in(source):
     """The functions of a source file: owner or None, name, the texts of its clauses by their names, whether it is as public as its
-    owner. Clauses of one name are one text."""
+    owner, and what its clauses call what is of the code. Clauses of one name are one text."""
     return list(read_functions(source))
 
 
 def read_functions(source):
     text = bare(source)
-    blocks = [(block.start(), block.end(), *owner(block[2], block[3])) for block in BLOCK.finditer(text)]
+    blocks = [(block.start(), block.end(), *owner(block[2], block[3]), block[3]) for block in BLOCK.finditer(text)]
+    of_file = " ".join(used or named for used, named in OF_THE_FILE.findall(text))
     for found in FUNCTION.finditer(text):
-        of, is_shared = next(((of, is_shared) for start, end, of, is_shared in blocks if start < found.start() < end), (None, False))
+        of, is_shared, above = next((block[2:] for block in blocks if block[0] < found.start() < block[1]), (None, False, ""))
+        head = text[found.end() : re.search(r"[{;]", text[found.end() :]).start() + found.end()]
         texts = {}
         for is_ensured, name, begin, end in contract(text, found.end()):
             key = name if is_ensured else REQUIRES
             texts[key] = f"{texts.get(key, '')} {folded(source[begin + 1 : end - 1])}".strip()
-        yield of, found[2], texts, found[1] is not None or is_shared
+        yield of, found[2], texts, found[1] is not None or is_shared, frozenset(re.findall(r"\w+", f"{of_file} {above} {head}"))
 
 
 # The files with the records of runs.
@@ -132,14 +136,14 @@ def functions(crate):
     names, modules = exported(library.read_text()) if library.exists() else (None, set())
     found = []
     for path in sorted((crate / "src").glob("*.rt")):
-        for of, name, texts, is_public in functions_in(path.read_text()):
+        for of, name, texts, is_public, words in functions_in(path.read_text()):
             run, fields = run_of(crate.parent, re.search(r"\w+", texts[RUN])[0]) if RUN in texts else ([], [])
             clauses = list(dict.fromkeys([*(clause for clause in texts if clause != REQUIRES), *(field for field, _ in fields)]))
             is_in_module = path.stem in modules and of is None
             is_seen = is_public and (is_in_module or names is None or (of or name) in names)
             is_law = is_in_module and path.stem == "laws"
             full = "::".join(part for part in (path.stem, of, name) if part)
-            found.append(Function(full, clauses, is_seen, is_law and is_seen, run if fields else [], texts))
+            found.append(Function(full, clauses, is_seen, is_law and is_seen, run if fields else [], texts, words))
     return found
 
 

@@ -15,11 +15,11 @@
 - docs/architecture.md says of each crate of the kit that the program stands on where it is called, and the call stands there;
 - the page for callers of each crate names each clause of its public calls, and docs/proved.md cites no other;
 - what docs/proved.md prints of the source stands there;
-- what docs/proved.md cites is written as tests/clauses.txt lists it, no law says nothing, and no edit of a table of edits that
-  takes a promise away passes these tests;
+- what docs/proved.md cites is written as tests/clauses.txt lists it, with each definition that it is made of; no law says nothing,
+  and no edit of a table of edits that takes a promise away passes these tests;
 - each law has a wrong body that makes it false, one of the headline in the gate;
 - scripts/clauses prints a row for each call and law that docs/proved.md cites, with the clauses that it cites, and what a law is
-  made of are the definitions that its `use` lines name, and no others of the same names;
+  made of are the definitions that its `use` lines name, and no others of the same names; a name that means nothing is told;
 - each decision of docs/DECISIONS.md says what would change it;
 - what introduces the program or the library has the words by which somebody looks for such a tool;
 - each fault displays the line that the program tells of it, as the page for callers of udsnorm says;
@@ -36,6 +36,7 @@ import shutil
 import subprocess
 import sys
 import tempfile
+from functools import lru_cache
 from pathlib import Path
 from xml.etree import ElementTree
 
@@ -313,10 +314,16 @@ def named_clauses(cases):
         cases.report(f"{name_of(PROVED)} cites no clause that {crate} has not", wrong)
 
 
+@lru_cache(maxsize=None)
+def printed_tables():
+    """The tables that scripts/clauses prints, by their crates."""
+    printed = subprocess.run([TOP / "scripts" / "clauses"], check=True, capture_output=True, text=True, timeout=60).stdout
+    return dict(re.findall(r"^## (\w+)\n\n(.*?)(?=\n\n|\Z)", printed, re.M | re.S))
+
+
 def printed_clauses(cases):
     """What docs/proved.md cites is in the tables that scripts/clauses prints: each law and call in that of its crate."""
-    printed = subprocess.run([TOP / "scripts" / "clauses"], check=True, capture_output=True, text=True, timeout=60).stdout
-    tables = dict(re.findall(r"^## (\w+)\n\n(.*?)(?=\n\n|\Z)", printed, re.M | re.S))
+    tables = printed_tables()
     wrong, count = [], 0
     for section, cell in clauses.cells(PROVED.read_text()):
         for citation in clauses.citations(cell):
@@ -357,6 +364,22 @@ TAKEN_AWAY = [
     ("the record of runs has a field less", "trace_run/specs/Told.antt", r"  pub eager : .*\n.*\n", ""),
     ("the record of runs says less", "trace_run/specs/Told.antt", r"(pub eager : .*\n.*) → TellsEagerly .*", r"\1 → ⊤"),
     ("a law beyond the headline is deleted", "uds_exchange/src/laws.rt", r"pub fn held_must_wait\(\)\n.*\n\{\}", ""),
+    ("a run over a log may tell nothing as it comes", "udsnorm/specs/Run.antt", r"  pub eager : .*\n.*\n", ""),
+    ("a run over a log may have any status", "udsnorm/specs/Run.antt", r"  pub status_is : status ≡ status_of_run strict outcome\n", ""),
+    ("the right log may be read after a fault of the left", "udsnorm/specs/Run.antt", r"  pub unread : .*\n", ""),
+    ("an engine need not tell as the log comes", "udsnorm/specs/Commands.antt", r"^(tells_eagerly_of \(runs script needs\) .*) = .*", r"\1 = ⊤"),
+    ("a log may be that of another file", "udsnorm/specs/Asked.antt", r"  pub by_name : .*\n", ""),
+    ("the right log may have been read", "udsnorm/specs/Asked.antt", r"  pub other_unread : .*\n", ""),
+    ("what is done with status 0 may be anything", "udsnorm/specs/Asked.antt", r"(?:^IsDoneBy .*\n(?:  .*\n)*)+", "IsDoneBy says file asked log before after = ⊤\n"),
+    ("a hint may be given where none is wanted", "udsnorm/specs/Process.antt", r"  pub only_there : is_wanted .*\n", ""),
+    ("memory may be refused for any log", "trace_canon/specs/InMemory.antt", r"  pub memory : fault ≡ Memory → .*\n", ""),
+    ("each log is clean", "udsnorm/specs/Ending.antt", r"^is_unclean strict summary = .*", "is_unclean strict summary = false"),
+    ("pairs may have any order", "uds_find/specs/Finding.antt", r"  pub sorted : .*\n", ""),
+    ("the least credits stand first", "uds_find/specs/Finding.antt", r"other\.credits\.0 one\.credits\.0", "one.credits.0 other.credits.0"),
+    ("faults have another order", "isotp_pdu/specs/Fault.antt", r"^precedence fault.Remote = 1", "precedence fault.Remote = 2"),
+    ("a name is that of another definition", "udsnorm/specs/Run.antt", r"\{ComesTo, answer_written, flushes, status_of_run, ", "{ComesTo, answer_written, flushes, status_of_pair as status_of_run, "),
+    ("a clause's name is that of another definition", "trace_canon/src/normaliser.rt", r"\bIsCanonicalFor([,}])", r"HaveSameMeaning as IsCanonicalFor\1"),
+    ("a name means nothing", "udsnorm/specs/Run.antt", r", has_text\}", "}"),
 ]
 
 
@@ -366,6 +389,7 @@ def taken_away(cases):
     with tempfile.TemporaryDirectory() as room:
         copy = Path(room, "crates")
         shutil.copytree(TOP / "crates", copy, ignore=shutil.ignore_patterns("out", "proofs", "must-fail"))
+        cases.report("nothing is wrong with a copy", promised.wrong(page, copy))
         for name, file, old, new in TAKEN_AWAY:
             text = (copy / file).read_text()
             edited, count = re.subn(old, new, text, flags=re.M)
@@ -377,14 +401,14 @@ def taken_away(cases):
 
 
 def texts_of_clauses(cases):
-    page = PROVED.read_text()
-    cases.report("what docs/proved.md cites is as tests/clauses.txt lists it", promised.changed(page, TOP / "crates"))
-    cases.report("no law says nothing", list(promised.Promised(page, TOP / "crates").empty()))
+    found = promised.Promised(PROVED.read_text(), TOP / "crates")
+    cases.report("what docs/proved.md cites is as tests/clauses.txt lists it", promised.changed(found))
+    cases.report("each name in what docs/proved.md cites means something", found.unknown)
+    cases.report("no law says nothing", list(found.empty()))
 
 
 def bodies_of_laws(cases):
     """By what scripts/clauses prints: a row for each law, whose last two cells are its wrong bodies."""
-    printed = subprocess.run([TOP / "scripts" / "clauses"], check=True, capture_output=True, text=True, timeout=60).stdout
     there = {(crate, edit.stem) for crate in crates() for edit in [*edits.of_the_gate(crate), *edits.beyond_it(crate)]}
     laws = {(crate, law.path.partition("::")[2]) for crate in crates() for law in clauses.Contracts(TOP / "crates" / crate).laws()}
     wrong = [f"no {body} of {crate}" for crate, _, body in edits.laws() if (crate, body) not in there]
@@ -392,7 +416,7 @@ def bodies_of_laws(cases):
     cases.report("the laws and wrong bodies that attacks/laws.txt names are there", wrong)
     page = PROVED.read_text()
     of_headline = {name for _, cell in list(clauses.cells(page))[: clauses.rows_of_the_headline(page)] for name in laws_in(cell)}
-    for crate, table in re.findall(r"^## (\w+)\n\n(.*?)(?=\n\n|\Z)", printed, re.M | re.S):
+    for crate, table in printed_tables().items():
         laws = re.findall(r"^\| law `laws::(\w+)` \| [^|]* \| ([^|]*)\| ([^|]*)\|$", table, re.M)
         wrong = [name for name, gate, beyond in laws if not gate.strip() + beyond.strip()]
         wrong += [f"{name} in the gate" for name, gate, _ in laws if name in of_headline and not gate.strip()]
@@ -404,27 +428,63 @@ def laws_in(cell):
     return [name for citation in clauses.citations(cell) if citation.kind == clauses.LAW for name in citation.names]
 
 
-# A crate in which two files define one name, and what a law says by it.
-SAME_NAMES = {
+# A crate in which two files define one name, and of which laws are made: definitions that cite each other, that have parameters in common,
+# a case, and an operator, whose equation begins with the name of another definition.
+MADE = {
     "Left.antt": "pub same : ℕ\nsame = part\n\npart : ℕ\npart = 1\n",
     "Right.antt": "pub same : ℕ\nsame = other\n\nabbrev mutual\n  pub other : ℕ\n  other = 2\n",
-    "Laws.antt": "use Rattle.made.specs.Left.{same}\nuse Rattle.made.specs.Right as right\n\n"
-    "pub One : Type 0\nOne = same ≡ 1\n\npub Two : Type 0\nTwo = right.same ≡ 2\n",
+    "Parts.antt": "module _ (limit : ℕ) where\n  pub Within : ℕ → Type 0\n  Within n = n ≤ rank one\n\npub data Kind : Type 0 where\n  one : Kind\n\n"
+    "rank : Kind → ℕ\nrank one = 1\n\ninfixl 10 ◌><◌\nabbrev pub ◌><◌ : ℕ → ℕ → ℕ\nrank >< limit = limit\n",
+    "Laws.antt": "use Rattle.made.specs.Left.{same}\nuse Rattle.made.specs.Right as right\nuse Rattle.made.specs.Parts.{◌><◌, Within}\n\n"
+    "pub One : Type 0\nOne = same ≡ 1\n\npub Two : Type 0\nTwo = right.same ≡ 2\n\npub Three : Type 0\nThree = Within 1 2\n\npub Four : Type 0\nFour = 1 >< 2\n",
 }
-OF_A_LAW = "ghost use Rattle.made.specs.Laws.{One, Two};"
+MADE_OF = {
+    "One": {("Left", "same"), ("Left", "part")},
+    "Two": {("Right", "same"), ("Right", "other")},
+    "Three": {("Parts", "Within"), ("Parts", "Kind"), ("Parts", "rank")},
+    "Four": {("Parts", "◌><◌"), ("Parts", "Kind"), ("Parts", "rank")},
+}
+OF_A_LAW = "ghost use Rattle.made.specs.Laws.{One, Two, Three, Four};"
 
 
-def names_of_two_definitions(cases):
+def made(folder, files):
+    """The definitions of a crate of these files."""
+    specs = Path(folder, "made", "specs")
+    specs.mkdir(parents=True)
+    for name, text in files.items():
+        (specs / name).write_text(text)
+    return statements.Definitions(specs.parent)
+
+
+def names_of_definitions(cases):
     with tempfile.TemporaryDirectory() as folder:
-        crate = Path(folder, "made")
-        (crate / "specs").mkdir(parents=True)
-        for name, text in SAME_NAMES.items():
-            (crate / "specs" / name).write_text(text)
-        known = statements.Definitions(crate)
-    for law, want in [("One", {("Left", "same"), ("Left", "part")}), ("Two", {("Right", "same"), ("Right", "other")})]:
-        found = known.reached(f"ensures {{ {law} }}", known.uses(OF_A_LAW))
+        known = made(folder, MADE)
+    scope = known.uses(statements.used_in(OF_A_LAW))
+    for law, want in MADE_OF.items():
+        found = known.reached(f"ensures {{ {law} }}", scope)
         wanted = {(("made", f"specs/{file}.antt"), name) for file, name in {("Laws", law), *want}}
         cases.report(f"the law {law} is made of the definitions of one file", [] if found == wanted else [str(sorted(found ^ wanted))])
+
+
+# Lines of a file, and what of them means nothing.
+NAMED = [
+    ("names that are used or bound", "use Rattle.std.specs.Prelude.{ℕ, ◌+◌}\npub sum : ℕ → ℕ\nsum n = (λ m. let k = m + n in k) n\n", []),
+    ("a name that no line brings", "pub sum : ℕ → ℕ\nsum n = n\n", ["ℕ"]),
+    ("an operator that no line brings", "pub sum : Type 0\nsum = λ n. n + n\n", ["+"]),
+    ("a name that its file lacks", "use Rattle.made.specs.Left as left\npub sum : Type 0\nsum = left.other\n", ["left.other"]),
+    ("a line for a name that its file lacks", "use Rattle.made.specs.Left.{other}\n", ["Rattle.made.specs.Left.other"]),
+    ("a line for a file that is not there", "use Rattle.made.specs.Middle as middle\n", ["Rattle.made.specs.Middle"]),
+    ("types of the code", "use Rattle.made.specs.declared.Kind.TheVariants as kind\npub sum : Type 0\nsum = kind.One\n", []),
+]
+
+
+def names_that_mean_nothing(cases):
+    for name, text, want in NAMED:
+        with tempfile.TemporaryDirectory() as folder:
+            known = made(folder, {"Left.antt": MADE["Left.antt"], "Named.antt": text})
+        file = ("made", "specs/Named.antt")
+        found = [word for of in known.texts[file] for word in known.unknown_in(file, of)] + known.lost(known.files[file].used)
+        cases.report(f"what means nothing: {name}", [] if sorted({*found}) == want else [str(found)])
 
 
 def decisions(cases):
@@ -476,7 +536,8 @@ def main():
     cases = Cases(None)
     for test in [
         picture, style, links, lengths_of_lines, heads_of_tables, named_files, wrong_bodies, tried_by_the_gate, definitions, citations, calls_of_the_kit,
-        named_clauses, printed_clauses, printed_formulas, texts_of_clauses, taken_away, bodies_of_laws, names_of_two_definitions, decisions, searched_words, lines_of_faults, version_of_the_source, lower_proofs, symbolic_links,
+        named_clauses, printed_clauses, printed_formulas, texts_of_clauses, taken_away, bodies_of_laws, names_of_definitions, names_that_mean_nothing,
+        decisions, searched_words, lines_of_faults, version_of_the_source, lower_proofs, symbolic_links,
     ]:
         test(cases)
     cases.end()
