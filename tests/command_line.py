@@ -49,104 +49,9 @@ ESCAPED = [
 # The most bytes of a path, with the one that ends it.
 PATH_MAX = 4096
 
-# Words that ask for help, and lines of it, of which the first one begins it.
-FAILED_DEVICE = b"4 a file can't be opened, or reading or writing failed, 5 out of memory"
-NOT_CLEAN = b"6 with `--strict`: it was done, and the log is not clean."
-PROGRAM_HELP = [
-    b"Compares recorded UDS sessions of an ECU (ISO 14229 over ISO-TP), from candump logs",
-    b"Usage: udsnorm <COMMAND>",
-    b"  -V, --version  Print version",
-    b"  0  done, even if a log holds neither identifier; of two logs: they mean the same",
-    b"  1  two logs differ",
-    b"  2  the command line asks for something that there is not, or both logs are one stream",
-    b"  4  a file can't be opened, or reading or writing failed",
-    b"  6  with `--strict`: a log is not clean",
-    b"Example: udsnorm compare yesterday.log today.log",
-]
-LIST_HELP = [
-    b"Writes the exchanges and stray messages",
-    b"Usage: udsnorm list [OPTIONS] [LOG]",
-    b"  [LOG]  The recorded log; without it standard input is read",
-    b"A log that holds neither identifier has no such line, and the status is 0. The last line of",
-    b"`udsnorm explain` then says `frames 0`.",
-    FAILED_DEVICE + b",",
-    NOT_CLEAN,
-    b"Example: udsnorm list --tester 7E1 --unit 7E9 recorded.log",
-]
-NORMALISE_HELP = [
-    b"Writes the canonical log",
-    b"Usage: udsnorm normalise [OPTIONS] [LOG]",
-    b"A log that holds neither identifier has an empty canonical log, and the status is 0. The last",
-    b"line of `udsnorm explain` then says `frames 0`.",
-    FAILED_DEVICE + b",",
-    NOT_CLEAN,
-    b"Example: udsnorm normalise recorded.log > canonical.log",
-]
-WATCH_HELP = [
-    b"Writes the lines of `list` while the session runs",
-    b"Usage: udsnorm watch [OPTIONS] [LOG]",
-    FAILED_DEVICE + b",",
-    NOT_CLEAN,
-    b"Example: candump -L can0 | udsnorm watch",
-]
-EXPLAIN_HELP = [
-    b"Writes which frames were dropped and which receptions ended early, and why",
-    b"Usage: udsnorm explain [OPTIONS] [LOG]",
-    b"Where it says `frames 0`, the log holds neither identifier: `normalise` and `list` write",
-    b"nothing of it, with status 0.",
-    FAILED_DEVICE + b",",
-    NOT_CLEAN,
-    b"Example: udsnorm explain recorded.log",
-]
-MESSAGES_HELP = [
-    b"Writes each message with its lines and time stamps",
-    b"Usage: udsnorm messages [OPTIONS] [LOG]",
-    FAILED_DEVICE + b",",
-    NOT_CLEAN,
-    b"Example: udsnorm messages recorded.log | grep '^12 '",
-]
-REPORT_HELP = [
-    b"Writes the session as a page of HTML, to look at",
-    b"Usage: udsnorm report [OPTIONS] [LOG] [OTHER]",
-    b"  [LOG]    The recorded log; without it standard input is read",
-    b"  [OTHER]  A second log: the page shows where the two differ",
-    b"Exit status: 0 done, and two logs are the same, 1 two logs differ, 2 wrong words,",
-    b"3 a log is refused, " + FAILED_DEVICE + b",",
-    b"6 with `--strict`: it was done, and a log is not clean.",
-    b"Example: udsnorm report recorded.log > recorded.html",
-]
-FIND_HELP = [
-    b"Writes which identifiers ask and which answer, for a log whose identifiers nobody told",
-    b"Usage: udsnorm find [OPTIONS] [LOG]",
-    b"A log in which nothing is answered has no line, and the status is 0.",
-    FAILED_DEVICE + b".",
-    b"Example: udsnorm find recorded.log",
-]
-COMPARE_HELP = [
-    b"Says whether two logs have the same exchanges and stray messages",
-    b"Usage: udsnorm compare [OPTIONS] <A> <B>",
-    b"  <A>  The left log",
-    b"  <B>  The right log",
-    b"      --show           Shows the items at which the logs differ",
-    b"Two logs that hold neither identifier mean the same. The last line of `udsnorm explain` says",
-    b"`frames 0` of each.",
-    FAILED_DEVICE + b",",
-    b"6 with `--strict`: a log is not clean, and nothing is printed.",
-    b"Example: udsnorm compare --show yesterday.log today.log",
-]
-HELPS = [
-    (["--help"], PROGRAM_HELP),
-    (["-h"], PROGRAM_HELP),
-    (["normalise", "--help"], NORMALISE_HELP),
-    (["list", "--help"], LIST_HELP),
-    (["watch", "--help"], WATCH_HELP),
-    (["explain", "-h"], EXPLAIN_HELP),
-    (["messages", "--help"], MESSAGES_HELP),
-    (["report", "--help"], REPORT_HELP),
-    (["find", "--help"], FIND_HELP),
-    (["compare", "--help"], COMPARE_HELP),
-    (["list", "--tester", "7E", "-h"], LIST_HELP),
-]
+# The help texts, whole: the program's by its name, and that of each command. They are read beside what they tell of.
+HELPS = {path.stem: path.read_bytes() for path in Path(__file__).with_name("help").glob("*.txt")}
+OF_PROGRAM = "udsnorm"
 
 
 def text_of(job, file=None):
@@ -352,31 +257,42 @@ def words_of_each_size(cases):
             cases.case(f"a limit of {size} digits", cases.run(["list", "--limit", "46".zfill(size), "a.log"]), DONE, LIST)
 
 
-def helps(cases):
-    """Words that ask for help, and lines of it. The help of each command begins as the program's has it, and ends with an example."""
-    of_program = commands.help_of(cases.program)
-    yield from HELPS
-    for command in commands.all_commands(cases.program):
-        about = re.search(rf"^  {command} +(.*)$", of_program, re.M)[1]
-        example = re.search(rf"^Example: .*udsnorm {command}\b.*\Z", commands.help_of(cases.program, command).rstrip("\n"), re.M)
-        yield [command, "--help"], [about.encode(), example[0].encode() if example else b"Example: .."]
+def helps(program):
+    """Words that ask for help, and whose it is."""
+    yield from [(["--help"], OF_PROGRAM), (["-h"], OF_PROGRAM), (["list", "--tester", "7E", "-h"], "list")]
+    yield from [([command, option], command) for command in commands.all_commands(program) for option in ("--help", "-h")]
 
 
 def help_texts(cases):
-    """Each help begins with what the program or the command does, and fits on a screen, the list of the commands aside."""
-    listed = len(commands.all_commands(cases.program))
-    for words, lines in helps(cases):
-        status, output, error = cases.run(words)
-        told = output.split(b"\n")
-        most = 23 + listed if b"\nCommands:" in output else 31
-        wrong = [] if status == DONE and not error else [f"status {status}, error output {error!r}"]
-        wrong += [f"no line {line!r}" for line in lines if line not in told]
-        wrong += [] if told[0] == lines[0] else [f"begins with {told[0]!r}"]
-        wrong += [] if output.endswith(b"\n") and not output.endswith(b"\n\n") else ["no line feed at the end"]
-        wrong += [] if len(told) <= most and max(map(len, told)) <= 100 else ["more than a screen"]
-        cases.report(f"help by {words}", wrong)
+    """Each help is that of its file, and is told whatever the log is."""
+    for words, name in helps(cases.program):
+        found = cases.run(words, NO_LOG_LINE)
+        cases.report(f"help by {words}", help_differs(found, HELPS.get(name, b"")))
     with open("/dev/full", "wb") as full:
         cases.case("help on a full disk", cases.run(["--help"], stdout=full), DEVICE, None, WRITE_FAILED)
+
+
+def help_differs(found, want):
+    """How a run that asks for help differs from its text, line by line."""
+    wrong = [] if found.status == DONE and not found.error else [f"status {found.status}, error output {found.error!r}"]
+    lines = difflib.ndiff(want.decode().splitlines(keepends=True), found.output.decode().splitlines(keepends=True))
+    return wrong + [repr(line) for line in lines if line[0] in "+-"]
+
+
+def files_of_helps(cases):
+    """There is a file for the program and for each command. It begins with what the command does, as the program's has it, ends with an
+    example, and fits on a screen, the list of the commands aside."""
+    names = commands.all_commands(cases.program)
+    cases.report("the files of help are those of the commands", [] if sorted(HELPS) == sorted([OF_PROGRAM, *names]) else [str(sorted(HELPS))])
+    listed = re.search(r"^Commands:\n((?:  .*\n)+)", HELPS[OF_PROGRAM].decode(), re.M)[1]
+    about = dict(re.findall(r"^  (\w+) +(.*)$", listed, re.M))
+    for name, text in HELPS.items():
+        lines = text.decode().splitlines()
+        wrong = [] if name == OF_PROGRAM or lines[0] == about.get(name) else [f"it begins with {lines[0]!r}"]
+        wrong += [] if re.match(rf"Example: .*udsnorm {'' if name == OF_PROGRAM else name}\b", lines[-1]) else [f"it ends with {lines[-1]!r}"]
+        most = 22 + len(names) if name == OF_PROGRAM else 30
+        wrong += [] if len(lines) <= most and max(map(len, lines)) <= 100 else ["more than a screen"]
+        cases.report(f"the file of the help of {name}", wrong)
 
 
 def version(cases):
@@ -464,7 +380,7 @@ def main():
         os.chdir(folder)
         for test in [
             jobs, options, strict_runs, strict_comparisons, shown_comparisons, lists_without_numbers, extended_identifiers, comparisons,
-            files_that_fail, paths_of_each_size, words_of_each_size, help_texts, version, wrong_words, wrong_values,
+            files_that_fail, paths_of_each_size, words_of_each_size, help_texts, files_of_helps, version, wrong_words, wrong_values,
         ]:
             test(cases)
         os.chdir("/")
