@@ -18,7 +18,7 @@ use Rattle.trace_log.specs.declared.summary.Summary.{Summary}
 use Rattle.trace_log.proofs.Promises.{clean_log_is_recording, clean_summary_is_certificate}
 use Rattle.trace_report.specs.Front.{page_title}
 use Rattle.trace_report.specs.InMemory.{IsPageWith, NeedsMemoryForPage}
-use Rattle.trace_text.specs.declared.item_lines.ItemStyle.{ItemStyle}
+use Rattle.trace_text.specs.declared.item_style.ItemStyle.{ItemStyle}
 use Rattle.trace_text.specs.declared.notation.Notation.{Notation}
 use Rattle.uds_exchange.specs.Meaning.{ItemValue}
 use Rattle.udsnorm_c.specs.declared.answer.UdsnormAnswer.{UdsnormAnswer}
