@@ -18,7 +18,7 @@ from contextlib import contextmanager
 from pathlib import Path
 
 from cases import Cases
-from making import OUTERMOST, TOP, make
+from making import OUTERMOST, TOP, make, stays
 
 # What is built, and what no step here reads.
 NOT_COPIED = [".git", "out", "__pycache__", "proofs", "must-fail", "attacks", "docs"]
@@ -227,23 +227,10 @@ def has_several_trees(cases, tree):
     cases.report("make check after other changes", failed if status else wrong)
 
 
-def is_there(process):
-    """Whether a process runs. One that has ended, and that nobody asked for that, has no words."""
-    try:
-        return Path(f"/proc/{process}/cmdline").read_bytes() != b""
-    except OSError:
-        return False
-
-
-def stays(tree, crate):
-    """Whether the `rt` that stayed in a crate still does a second later: its end may take a moment."""
+def rt_stays(tree, crate):
+    """Whether the `rt` that stayed in a crate still does."""
     told = told_in(tree) / crate
-    process = told.read_text().strip() if told.exists() else "none"
-    for _ in range(20):
-        if not is_there(process):
-            return False
-        time.sleep(0.05)
-    return True
+    return stays(told.read_text().strip() if told.exists() else "none")
 
 
 def ends_the_other_proof(cases, tree):
@@ -253,7 +240,7 @@ def ends_the_other_proof(cases, tree):
         actions = {staying: STAY, failing: f"{AWAIT % (other, other)}\n{FAIL}"}
         status, told, failed = check_told(tree, "uds_message", actions)
         wrong = [] if status and failed[:1] == [f"{name}: proofs failed after "] else [f"status {status}, {told}, {failed}"]
-        wrong += [f"{other} stays"] if stays(tree, other) else []
+        wrong += [f"{other} stays"] if rt_stays(tree, other) else []
         cases.report(f"make check where {name} fails beside {other}", wrong)
 
 
@@ -271,7 +258,7 @@ def is_ended(cases, tree):
     running.terminate()
     _, error = running.communicate(timeout=60)
     wrong = [] if running.returncode == 1 and error == b"" else [f"status {running.returncode}, {error}"]
-    wrong += [f"{crate} stays" for crate in last if stays(tree, crate)]
+    wrong += [f"{crate} stays" for crate in last if rt_stays(tree, crate)]
     cases.report("make check that is ended", wrong)
     refused = (other.returncode, other.stdout, other.stderr) == (1, "", "Another check runs in this tree\n")
     cases.report("make check beside another one", [] if refused else [str(other)])
