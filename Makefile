@@ -109,12 +109,12 @@ deb: build lib
 
 # What other tools make of canonical logs, and the program of theirs. No part of `test`, since it needs these tools.
 interop: build
-	@python3 tests/interop.py $(PROGRAM)
+	@python3 tests/program/interop.py $(PROGRAM)
 
 # The pages of `udsnorm report` in the browsers that are here. No part of `test`, since it needs them; .ci/run has it too. What
 # Debian packages for Python is for Debian's own, where another one comes first.
 browser: build
-	@$(or $(wildcard /usr/bin/python3),python3) tests/browser.py $(PROGRAM)
+	@$(or $(wildcard /usr/bin/python3),python3) tests/pages/browser.py $(PROGRAM)
 
 # The Python package as a wheel, with library and program inside: prints its path.
 wheel: build lib
@@ -126,4 +126,4 @@ bench: build
 
 # The yardstick of bench/rival, built by cargo, writes what the program writes. No part of `test`, since it needs cargo.
 rival: build
-	@python3 tests/rival.py $(PROGRAM)
+	@python3 tests/program/rival.py $(PROGRAM)
