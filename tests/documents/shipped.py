@@ -3,7 +3,7 @@
 names, and its completions offer them, `make install` and `make uninstall` know the same files, a release has program and
 library, and `make run` and `make build` tell what they do.
 
-    tests/documents/shipped.py crates/udsnorm/out/udsnorm
+    tests/documents/shipped.py crates/udsnorm/out/udsnorm [TEST..]
 
 Prints a line for each case and ends with `N passed, M failed`; its status is 1 where a case failed.
 """
@@ -186,14 +186,13 @@ def make_build_tells_its_begin_and_end(cases):
 
 
 def main():
-    if len(sys.argv) != 2:
+    if len(sys.argv) < 2:
         sys.exit(__doc__)
-    cases = Cases(os.path.abspath(sys.argv[1]))
-    for test in [
+    cases = Cases(os.path.abspath(sys.argv[1]), sys.argv[2:])
+    cases.each([
         names_are_complete, manual_is_well_formed, shells_complete, install_is_undone, releases_have_program_and_library,
         make_run_tells_what_the_program_says, make_build_tells_its_begin_and_end,
-    ]:
-        test(cases)
+    ])
     cases.end()
 
 

@@ -3,11 +3,12 @@ step by step."""
 
 import os
 import re
+import shlex
 import subprocess
 import tempfile
 import time
 import tty
-from collections import namedtuple
+from collections import deque, namedtuple
 from contextlib import contextmanager
 from pathlib import Path
 
@@ -21,11 +22,27 @@ PROGRAM_BYTES = 2_500_000
 
 PIPES = {"stdout": subprocess.PIPE, "stderr": subprocess.PIPE}
 
+# What was asked of programs last, so that a failure can say it.
+Asked = namedtuple("Asked", "words size begin environment")
+asked = deque(maxlen=3)
+
+
+def ask(program, words, log=b"", env=None, **_):
+    asked.append(Asked([program, *words], len(log), log[:300], env or {}))
+
+
+def spelled(one):
+    """What was asked once: the words as a shell reads them, and how the log begins."""
+    variables = [f"{name}={value}" for name, value in one.environment.items() if os.environ.get(name) != value]
+    words = shlex.join([*variables, *map(os.fsdecode, one.words)])
+    return words + (f" < {one.size} bytes, {one.begin!r}{' ..' if one.size > len(one.begin) else ''}" if one.size else "")
+
 
 def run(program, words=(), log=b"", **options):
     """How a program ends with these words over a log on standard input. Options are those of a process, as other ends of its
     pipes; what it writes to such an end is None."""
     given = {} if "stdin" in options else {"input": log}
+    ask(program, words, log, **options)
     done = subprocess.run([program, *words], timeout=60, **(PIPES | given | options))
     return Ended(done.returncode, done.stdout, done.stderr)
 
@@ -35,6 +52,7 @@ def told_by(program, words, folder, log=b"", **options):
     ours, theirs = os.openpty()
     tty.setraw(theirs)
     given = options if "stdin" in options else {"input": log, **options}
+    ask(program, words, log, **options)
     done = subprocess.run([program, *words], stdout=subprocess.PIPE, stderr=theirs, cwd=folder, timeout=60, **given)
     os.close(theirs)
     told = b""
@@ -53,6 +71,7 @@ def told_by(program, words, folder, log=b"", **options):
 
 def start(program, words=(), **options):
     """A program that runs, with a pipe for each of its ends where nothing else is said."""
+    ask(program, words, **options)
     return subprocess.Popen([program, *words], **({"stdin": subprocess.PIPE} | PIPES | options))
 
 

@@ -1,7 +1,7 @@
 #!/usr/bin/env python3
 """Tests of the Python package as a tool: what it reads, what it says of what it leaves out, and the program over it.
 
-    tests/library/formats.py crates/udsnorm/out/udsnorm out/lib
+    tests/library/formats.py crates/udsnorm/out/udsnorm out/lib [TEST..]
 
 Files are built by `format_samples.py`, and made by log2asc and log2long of can-utils, python-can and tshark where these
 are. What is missing is named. The status is 1 where a test failed.
@@ -37,6 +37,7 @@ import format_samples as samples
 from cases import DEVICE, DIFFERENT, DONE, REFUSAL, WORDS
 from format_samples import SAMPLES
 from runs import end, run, start, told_by
+from unit_tests import run_tests
 
 TOP = Path(__file__).resolve().parents[2]
 EXAMPLES = TOP / "examples"
@@ -1228,12 +1229,7 @@ def main():
     udsnorm = importlib.import_module("udsnorm")
     formats = importlib.import_module("udsnorm._formats")
     testing = importlib.import_module("udsnorm.testing")
-    ended = unittest.main(argv=[sys.argv[0], *given.tests], exit=False, verbosity=1).result
-    for test, reason in ended.skipped:
-        print(f"skipped {test.id().rpartition('.')[2]}: {reason}", flush=True)
-    failed = len(ended.failures) + len(ended.errors)
-    print(f"{ended.testsRun - failed - len(ended.skipped)} passed, {failed} failed")
-    sys.exit(1 if failed else 0)
+    run_tests(given.tests)
 
 
 main()

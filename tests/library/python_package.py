@@ -1,7 +1,7 @@
 #!/usr/bin/env python3
 """Tests of the Python package udsnorm beside the program.
 
-    tests/library/python_package.py crates/udsnorm/out/udsnorm out/lib [--logs NUMBER] [--seed NUMBER]
+    tests/library/python_package.py crates/udsnorm/out/udsnorm out/lib [TEST..] [--logs NUMBER] [--seed NUMBER]
 
 Where `python3 -m pip` is there, the wheel is installed into a fresh environment and used there; where mypy is, the
 package and typed code that uses it are checked. What is missing is named. The status is 1 where a test failed.
@@ -34,6 +34,7 @@ import tables
 from cases import DIFFERENT, DONE, REFUSAL
 from random_logs import limit_for, mutated, random_logs
 from runs import files, run
+from unit_tests import run_tests
 
 TOP = Path(__file__).resolve().parents[2]
 PACKAGE = TOP / "python"
@@ -590,18 +591,14 @@ def main():
     words = argparse.ArgumentParser(description=__doc__, formatter_class=argparse.RawDescriptionHelpFormatter)
     words.add_argument("program", type=os.path.abspath)
     words.add_argument("library", type=Path)
+    words.add_argument("tests", nargs="*")
     words.add_argument("--logs", type=int, default=200)
     words.add_argument("--seed", type=int, default=1)
     words.parse_args(namespace=given)
     global udsnorm, testing
     udsnorm = imported(given.library.resolve())
     testing = importlib.import_module("udsnorm.testing")
-    ended = unittest.main(argv=[sys.argv[0]], exit=False, verbosity=1).result
-    for test, reason in ended.skipped:
-        print(f"skipped {test.id().rpartition('.')[2]}: {reason}", flush=True)
-    failed = len(ended.failures) + len(ended.errors)
-    print(f"{ended.testsRun - failed - len(ended.skipped)} passed, {failed} failed")
-    sys.exit(1 if failed else 0)
+    run_tests(given.tests)
 
 
 main()

@@ -1,7 +1,7 @@
 #!/usr/bin/env python3
 """With ample memory neither the built program nor the library says that memory was refused, whatever sizes a log has.
 
-    tests/memory/ample_memory.py crates/udsnorm/out/udsnorm out/lib
+    tests/memory/ample_memory.py crates/udsnorm/out/udsnorm out/lib [TEST..]
 
 Memory may be refused at any time that some is needed, so no clause can rule out a body that gives up from some size on.
 Here each buffer gets to every size at which it may have to grow: one that grows as a log goes on, in one long log; one that
@@ -345,14 +345,13 @@ def many_words(cases, loaded):
 
 
 def main():
-    if len(sys.argv) != 3:
+    if len(sys.argv) < 3:
         sys.exit(__doc__)
-    cases = Cases(os.path.abspath(sys.argv[1]))
+    cases = Cases(os.path.abspath(sys.argv[1]), sys.argv[3:])
     loaded = Loaded(Path(sys.argv[2]).resolve() / "libudsnorm.so")
     with tempfile.TemporaryDirectory() as folder:
         os.chdir(folder)
-        for test in [messages_of_each_size, many_messages, much_held, many_pairs, many_words]:
-            test(cases, loaded)
+        cases.each([messages_of_each_size, many_messages, much_held, many_pairs, many_words], loaded)
         os.chdir("/")
     cases.end()
 

@@ -1,7 +1,7 @@
 #!/usr/bin/env python3
 """How much a log can make the built program write, keep and do: the numbers of docs/hostile-input.md.
 
-    tests/memory/hostile_input.py crates/udsnorm/out/udsnorm
+    tests/memory/hostile_input.py crates/udsnorm/out/udsnorm [TEST..]
 
 Prints a line for each case, with what was measured, and ends with `N passed, M failed`; its status is 1 where a case failed.
 """
@@ -482,14 +482,13 @@ def work(cases):
 
 
 def main():
-    if len(sys.argv) != 2:
+    if len(sys.argv) < 2:
         sys.exit(__doc__)
-    cases = Cases(os.path.abspath(sys.argv[1]))
-    for test in [
+    cases = Cases(os.path.abspath(sys.argv[1]), sys.argv[2:])
+    cases.each([
         canonical_growth, longest_texts, page_growth, pair_page_growth, drops, places, longest_lines, one_line_of_error, memory, memory_of_logs,
         address_space, work,
-    ]:
-        test(cases)
+    ])
     cases.end()
 
 

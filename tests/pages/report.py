@@ -1,7 +1,7 @@
 #!/usr/bin/env python3
 """Tests of the page that the built program writes of a session: its text, and what its reader may rely on.
 
-    tests/pages/report.py crates/udsnorm/out/udsnorm
+    tests/pages/report.py crates/udsnorm/out/udsnorm [TEST..]
 
 Of the sample logs, the logs of rows/, logs made for one thing each and 300 random ones the page is the oracle's, byte for byte,
 and its rows alone tell what `list` and `explain` write. Then come names of files, options, refused logs, devices, sizes and
@@ -387,11 +387,10 @@ def memory(cases):
 
 
 def main():
-    if len(sys.argv) != 2:
+    if len(sys.argv) < 2:
         sys.exit(__doc__)
-    cases = Cases(os.path.abspath(sys.argv[1]))
-    for test in [pages, names, options, strict_runs, refused_logs, growing_page, devices, sizes, memory]:
-        test(cases)
+    cases = Cases(os.path.abspath(sys.argv[1]), sys.argv[2:])
+    cases.each([pages, names, options, strict_runs, refused_logs, growing_page, devices, sizes, memory])
     cases.end()
 
 

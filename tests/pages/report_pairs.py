@@ -1,7 +1,7 @@
 #!/usr/bin/env python3
 """Tests of the page that the built program writes of two sessions: its text, and what its reader may rely on.
 
-    tests/pages/report_pairs.py crates/udsnorm/out/udsnorm
+    tests/pages/report_pairs.py crates/udsnorm/out/udsnorm [TEST..]
 
 Of the sample logs, the logs that tests/rows compares, logs made for one difference each and 300 random ones, each beside a changed
 copy, the page is the oracle's, byte for byte, and says what `compare` says. Then come names of files, options, streams, devices
@@ -581,11 +581,10 @@ def peak_of_page(program, words):
 
 
 def main():
-    if len(sys.argv) != 2:
+    if len(sys.argv) < 2:
         sys.exit(__doc__)
-    cases = Cases(os.path.abspath(sys.argv[1]))
-    for test in [pages, told_differences, known_texts, refused_logs, refused_by_compare, names, options, strict_runs, streams, devices, memory]:
-        test(cases)
+    cases = Cases(os.path.abspath(sys.argv[1]), sys.argv[2:])
+    cases.each([pages, told_differences, known_texts, refused_logs, refused_by_compare, names, options, strict_runs, streams, devices, memory])
     cases.end()
 
 

@@ -1,7 +1,7 @@
 #!/usr/bin/env python3
 """Tests of the built program's words: commands, options and files, help, and what is told of words that don't fit.
 
-    tests/program/command_line.py crates/udsnorm/out/udsnorm
+    tests/program/command_line.py crates/udsnorm/out/udsnorm [TEST..]
 
 Prints a line for each case and ends with `N passed, M failed`; its status is 1 where a case failed.
 """
@@ -452,9 +452,9 @@ def wrong_values(cases):
 
 
 def main():
-    if len(sys.argv) != 2:
+    if len(sys.argv) < 2:
         sys.exit(__doc__)
-    cases = Cases(os.path.abspath(sys.argv[1]))
+    cases = Cases(os.path.abspath(sys.argv[1]), sys.argv[2:])
     files = {
         "a.log": LOG, "-": LOG, "--limit": LOG, "größe.log": LOG, "empty.log": b"",
         "other.log": LOG.replace(b"7E0", b"7e2"), "-b": LOG + LOG.replace(b"7E0", b"7e2"), "refused.log": NO_LOG_LINE,
@@ -464,11 +464,10 @@ def main():
         for name, log in files.items():
             Path(folder, name).write_bytes(log)
         os.chdir(folder)
-        for test in [
+        cases.each([
             jobs, options, strict_runs, strict_comparisons, shown_comparisons, lists_without_numbers, extended_identifiers, comparisons,
             files_that_fail, paths_of_each_size, words_of_each_size, help_texts, version, wrong_words, wrong_values,
-        ]:
-            test(cases)
+        ])
         os.chdir("/")
     cases.end()
 

@@ -2,7 +2,7 @@
 """Tests of the hints of the built program: a terminal as standard error is told a line more, and nothing else is without
 `--hints`.
 
-    tests/program/hints.py crates/udsnorm/out/udsnorm
+    tests/program/hints.py crates/udsnorm/out/udsnorm [TEST..]
 
 Prints a line for each case and ends with `N passed, M failed`; its status is 1 where a case failed.
 """
@@ -375,12 +375,11 @@ def silent(cases, folder):
 
 
 def main():
-    if len(sys.argv) != 2:
+    if len(sys.argv) < 2:
         sys.exit(__doc__)
-    cases = Cases(os.path.abspath(sys.argv[1]))
+    cases = Cases(os.path.abspath(sys.argv[1]), sys.argv[2:])
     with tempfile.TemporaryDirectory() as folder:
-        for test in [files, denied, limits, names, words, values, awaited, pairs, foreign, looks, compressed, cut, drops, silent]:
-            test(cases, folder)
+        cases.each([files, denied, limits, names, words, values, awaited, pairs, foreign, looks, compressed, cut, drops, silent], folder)
     cases.end()
 
 

@@ -1,7 +1,7 @@
 #!/usr/bin/env python3
 """Tests of the built program over logs and devices, what only a process can show.
 
-    tests/program/program.py crates/udsnorm/out/udsnorm
+    tests/program/program.py crates/udsnorm/out/udsnorm [TEST..]
 
 Prints a line for each case and ends with `N passed, M failed`; its status is 1 where a case failed.
 """
@@ -522,13 +522,12 @@ def memory(cases):
 
 
 def main():
-    if len(sys.argv) != 2:
+    if len(sys.argv) < 2:
         sys.exit(__doc__)
-    cases = Cases(os.path.abspath(sys.argv[1]))
+    cases = Cases(os.path.abspath(sys.argv[1]), sys.argv[2:])
     # What a shell starts in the background ignores interrupts, and so would each program that is started here.
     signal.signal(signal.SIGINT, signal.default_int_handler)
-    for test in [logs, default_limit, the_longest_message, examples, places, watched, devices, prompt, messages_one_by_one, watched_one_by_one, device_calls, whole_lines, full_writes, memory]:
-        test(cases)
+    cases.each([logs, default_limit, the_longest_message, examples, places, watched, devices, prompt, messages_one_by_one, watched_one_by_one, device_calls, whole_lines, full_writes, memory])
     cases.end()
 
 

@@ -1,7 +1,7 @@
 #!/usr/bin/env python3
 """Whole logs through the built program: the tables of rows/, one message in many recordings, and devices that fail.
 
-    tests/program/sessions.py crates/udsnorm/out/udsnorm
+    tests/program/sessions.py crates/udsnorm/out/udsnorm [TEST..]
 
 Prints a line for each case and ends with `N passed, M failed`; its status is 1 where a case failed.
 """
@@ -30,7 +30,7 @@ from devices import devices
 from objects import in_objects
 from recordings import CANONICAL, SIZES, Style, message_of, recorded
 from refuser import Refuser
-from runs import Ended, Program, differences, files, how, pipe
+from runs import Ended, Program, asked, differences, files, how, pipe
 from tables import CANONICAL_LINE, VIN, VIN_PLACED, Row
 from told import LONG_CANONICAL, LONG_LOG, OVERSIZE, place
 
@@ -618,26 +618,30 @@ def thousands_of_exchanges(program):
 
 
 def answer_of(check):
-    """What is wrong by a check. An answer that it can't read is wrong, too."""
+    """What is wrong by a check, and what it asked last. An answer that it can't read is wrong, too."""
+    asked.clear()
     try:
-        return check()
+        wrong = check()
     except (LookupError, ValueError) as error:
-        return [f"an answer that can't be read: {error!r}"]
+        wrong = [f"an answer that can't be read: {error!r}"]
+    return wrong, [*asked] if wrong else []
 
 
 def main():
-    if len(sys.argv) != 2:
+    if len(sys.argv) < 2:
         sys.exit(__doc__)
-    cases = Cases(os.path.abspath(sys.argv[1]))
+    cases = Cases(os.path.abspath(sys.argv[1]), sys.argv[2:])
     with tempfile.TemporaryDirectory() as folder, ProcessPoolExecutor() as workers:
         program = Program(cases.program, Refuser(folder))
-        kinds = [
+        tests = cases.chosen([
             sessions, places, pages, commands_of_rows, decided_items, pairs_found, logs_without_message, frames_without_part, refused_lines, recording_that_breaks_off, names_listed,
             limits, strict_runs, configurations, comparisons, recordings, long_logs, devices,
-        ]
-        names, checks = zip(*(case for kind in kinds for case in kind(program)))
-        cases.report("each table of rows/ is taken", [f"{name} is not" for name in tables.left()])
-        for name, wrong in zip(names, workers.map(answer_of, checks)):
+        ])
+        names, checks = zip(*(case for test in tests for case in test(program)))
+        if not cases.named:
+            cases.report("each table of rows/ is taken", [f"{name} is not" for name in tables.left()])
+        for name, (wrong, last) in zip(names, workers.map(answer_of, checks)):
+            asked.extend(last)
             cases.report(name, wrong)
     cases.end()
 
