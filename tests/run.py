@@ -137,16 +137,27 @@ def run(tests, given, room):
 
 
 def end(running):
-    """Ends those that run, each with its group. The number of a group is no other's until its first process is waited for."""
-    has_ended = os.WEXITED | os.WNOHANG | os.WNOWAIT
+    """Ends those that run, each with its group."""
     for one in running:
-        os.killpg(one.process.pid, signal.SIGTERM)
+        if is_left(one):
+            os.killpg(one.process.pid, signal.SIGTERM)
     until = time.monotonic() + PATIENCE
-    while time.monotonic() < until and not all(os.waitid(os.P_PID, one.process.pid, has_ended) for one in running):
+    while any(map(is_left, running)) and time.monotonic() < until:
         time.sleep(0.02)
     for one in running:
-        os.killpg(one.process.pid, signal.SIGKILL)
-        one.process.wait()
+        if is_left(one):
+            os.killpg(one.process.pid, signal.SIGKILL)
+            one.process.wait()
+
+
+def is_left(one):
+    """Whether there is a process of its group."""
+    one.process.poll()
+    try:
+        os.killpg(one.process.pid, 0)
+    except ProcessLookupError:
+        return False
+    return True
 
 
 def main(tests=LIST):
@@ -154,6 +165,8 @@ def main(tests=LIST):
         sys.exit(__doc__)
     given = {"PROGRAM": sys.argv[1], "LIBRARY": sys.argv[2]}
     tests = [test for test in tests if any(word in test.file for word in sys.argv[3:] or [""])]
+    if not tests:
+        sys.exit("no file of tests has such a path")
     # What a shell starts in the background ignores some of them.
     for kind in SIGNALS:
         if signal.getsignal(kind) != signal.SIG_IGN:

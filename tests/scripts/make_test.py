@@ -28,6 +28,7 @@ from pathlib import Path
 run.TESTS = run.TOP = Path({folder!r})
 run.OUTPUTS = run.TOP / "printed"
 run.PROCESSORS = 2
+run.PATIENCE = 0.5
 run.main([run.Test(*row) for row in {rows!r}])
 """
 
