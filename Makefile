@@ -20,7 +20,7 @@ BASH := $(PREFIX)/share/bash-completion/completions/udsnorm
 ZSH := $(PREFIX)/share/zsh/site-functions/_udsnorm
 FISH := $(PREFIX)/share/fish/vendor_completions.d/udsnorm.fish
 
-.PHONY: build lib run check attack test install install-built install-lib install-built-lib uninstall dist deb wheel interop browser bench rival
+.PHONY: build lib run check attack test gate install install-built install-lib install-built-lib uninstall dist deb wheel interop browser bench rival
 
 # Proves the program and what it stands on, and builds it. It says when it starts and when it ends on standard error; what
 # `rt` says is in a file, and shown where the build fails.
@@ -55,32 +55,16 @@ check:
 	@scripts/check $(CRATE)
 
 # Tries the wrong bodies of attacks/, those of CRATE alone where it is given: the prover has to refuse each. Some 100
-# minutes of one processor in all, and no part of `test`, which tries those of must-fail/.
+# minutes of one processor in all, and no part of `gate`, which tries those of must-fail/.
 attack:
 	@scripts/attack $(CRATE)
 
-# The tests of the built program, of the documents and of `make check`, random and hostile logs through it, memory that is ample
-# and each growth of it refused in turn, and then the gate: every proof from nothing, every test, every wrong body refused.
+# The tests of what is built and of the documents, side by side: tests/run.py has their list.
 test: build lib
-	@python3 tests/command_line.py $(PROGRAM)
-	@python3 tests/program.py $(PROGRAM)
-	@python3 tests/hints.py $(PROGRAM)
-	@python3 tests/sessions.py $(PROGRAM)
-	@python3 tests/report.py $(PROGRAM)
-	@python3 tests/report_pairs.py $(PROGRAM)
-	@python3 tests/documents.py
-	@python3 tests/make_check.py
-	@python3 tests/shipped.py $(PROGRAM)
-	@python3 tests/recipes.py $(PROGRAM) $(LIBRARY)
-	@python3 tests/release.py $(PROGRAM) $(LIBRARY)
-	@python3 tests/differential.py $(PROGRAM)
-	@python3 tests/library.py $(PROGRAM) $(LIBRARY)
-	@python3 tests/python_package.py $(PROGRAM) $(LIBRARY)
-	@python3 tests/formats.py $(PROGRAM) $(LIBRARY)
-	@python3 tests/many_sessions.py $(PROGRAM) $(LIBRARY)
-	@python3 tests/hostile_input.py $(PROGRAM)
-	@python3 tests/ample_memory.py $(PROGRAM) $(LIBRARY)
-	@python3 tests/refused_memory.py $(PROGRAM)
+	@python3 tests/run.py $(PROGRAM) $(LIBRARY)
+
+# Every proof from nothing, every test of a crate, every wrong body refused.
+gate:
 	@rt ci
 
 # The program with its manual page and its completions for bash, zsh and fish, and the library for C. DESTDIR is put in
@@ -125,12 +109,12 @@ deb: build lib
 
 # What other tools make of canonical logs, and the program of theirs. No part of `test`, since it needs these tools.
 interop: build
-	@python3 tests/interop.py $(PROGRAM)
+	@python3 tests/program/interop.py $(PROGRAM)
 
-# The pages of `udsnorm report` in the browsers that are here. No part of `test`, since it needs them; .ci/run has both. What
+# The pages of `udsnorm report` in the browsers that are here. No part of `test`, since it needs them; .ci/run has it too. What
 # Debian packages for Python is for Debian's own, where another one comes first.
 browser: build
-	@$(or $(wildcard /usr/bin/python3),python3) tests/browser.py $(PROGRAM)
+	@$(or $(wildcard /usr/bin/python3),python3) tests/pages/browser.py $(PROGRAM)
 
 # The Python package as a wheel, with library and program inside: prints its path.
 wheel: build lib
@@ -142,4 +126,4 @@ bench: build
 
 # The yardstick of bench/rival, built by cargo, writes what the program writes. No part of `test`, since it needs cargo.
 rival: build
-	@python3 tests/rival.py $(PROGRAM)
+	@python3 tests/program/rival.py $(PROGRAM)

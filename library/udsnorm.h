@@ -8,7 +8,7 @@
  * call at once.
  * What the texts are is said in docs/formats.md, what is proved of the calls in docs/library.md.
  *
- * Written by hand. tests/library.py compares it with the crate udsnorm_c.
+ * Written by hand. tests/library/library.py compares it with the crate udsnorm_c.
  */
 #ifndef UDSNORM_H
 #define UDSNORM_H

@@ -1,5 +1,5 @@
 //! A session through each call of `trace_canon`, over devices that only a test has. What whole logs become is tested over the
-//! built program, by `tests/sessions.py`.
+//! built program, by `tests/program/sessions.py`.
 
 use crate::pairings::items_text;
 use crate::rows::{assert_front, assert_text, repeated};

@@ -9,7 +9,8 @@
 //! `message_frames` also tries the lengths at which a message has a frame more, and `sizes` those at which a buffer may grow.
 //!
 //! `calls` takes a session through each call of the engine, over devices that only a test has, and `pages` through each call that
-//! makes a page. What whole logs become is tested over the built program, by `tests/sessions.py` and `tests/report.py`.
+//! makes a page. What whole logs become is tested over the built program, by `tests/program/sessions.py` and
+//! `tests/pages/report.py`.
 #![tactic(auto)]
 
 #[cfg(test)]

@@ -1,5 +1,5 @@
 //! A session through each call of `trace_report`, over devices that only a test has. What whole pages are is tested over the built
-//! program, by `tests/report.py` and `tests/report_pairs.py`.
+//! program, by `tests/pages/report.py` and `tests/pages/report_pairs.py`.
 
 use crate::calls::{CANONICAL, LOG, assert_session, byte_by_byte, failing, full, sides};
 use crate::rows::{assert_front, assert_text, shown};

@@ -1,6 +1,6 @@
 //! Calls that keep messages, with ample memory, at each size at which a buffer may have to grow: none of them gives up. The
 //! sizes are the powers of two up to 2^20, with one byte less and one more. One byte less than 2^20 is the longest message that
-//! a log can have. What a log can have, `tests/ample_memory.py` takes through the built program, which is faster by far.
+//! a log can have. What a log can have, `tests/memory/ample_memory.py` takes through the built program, which is faster by far.
 
 use direction::Dir::{self, Tester, Unit};
 use std::alloc::{AllocError, Global};

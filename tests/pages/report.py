@@ -1,0 +1,398 @@
+#!/usr/bin/env python3
+"""Tests of the page that the built program writes of a session: its text, and what its reader may rely on.
+
+    tests/pages/report.py crates/udsnorm/out/udsnorm [TEST..]
+
+Of the sample logs, the logs of rows/, logs made for one thing each and 300 random ones the page is the oracle's, byte for byte,
+and its rows alone tell what `list` and `explain` write. Then come names of files, options, refused logs, devices, sizes and
+memory. Prints a line for each case and ends with `N passed, M failed`; its status is 1 where a case failed.
+"""
+
+import itertools
+import os
+import re
+import select
+import sys
+import tempfile
+from collections import Counter
+from pathlib import Path
+
+sys.path.insert(0, str(Path(__file__).resolve().parents[1] / "helpers"))
+
+import oracle
+import report_oracle
+import tables
+from cases import DEVICE, DONE, REFUSAL, UNCLEAN, Cases
+from oracle import TESTER, UNIT
+from random_logs import random_logs
+from recordings import message_of
+from report_reader import counts_in, counts_of_rows, counts_told, explanation_told, has_brief_rows, list_told, rows_in, shortened
+from runs import PROGRAM_BYTES, differences, end, give, peak, start
+from tables import EXAMPLES, VIN
+from told import LONG_LOG, READ_FAILED, WRITE_FAILED, place
+
+EXTENDED = {TESTER: "18DA10F1", UNIT: "18DAF110"}
+
+RANDOM_LOGS, SEED = 300, 1
+
+# Frames of one item each, or of none.
+REQUEST, ANSWER, REFUSED = "7E0#0322F190", "7E8#0462F19041", "7E8#037F2231"
+STRAY, UNKNOWN = "7E8#0141", "7E8#40"
+FIRST, OUT_OF_ORDER = "7E8#101462F190574241", "7E8#2333413543353045"
+
+# The lengths of messages about those at which a page shows less of one.
+LENGTHS = (1, 7, 8, 31, 32, 33, 63, 64, 65, 66, 96, 97, 511, 512, 513, 4095, 4096)
+
+# What no page has, and what every page has.
+FORBIDDEN = (b"<script", b"src=", b"url(", b"http:", b"https:")
+POLICY = b"<meta http-equiv=\"Content-Security-Policy\" content=\"default-src 'none';"
+
+# Names of files, and how a page calls them.
+NAMES = {
+    "a.log": "a.log",
+    "<b>&\"'.log": "&lt;b&gt;&amp;&quot;&#39;.log",
+    "<script src=http:x>": "&lt;script src=http:x&gt;",
+    "&amp;": "&amp;amp;",
+    "größe.log": "gr%C3%B6%C3%9Fe.log",
+    "monday #1, \\ ~ %41?.log": "monday #1, \\ ~ %41?.log",
+    "\x01\x1b[2J\t\r\n\x7f": "%01%1B[2J%09%0D%0A%7F",
+    " ": " ",
+    "-": "-",
+    "--limit": "--limit",
+    "folder/inner/a.log": "a.log",
+    "./a.log": "a.log",
+    "folder//inner/../a.log": "a.log",
+    '"' * 255: "&quot;" * 255,
+}
+
+# Words of options, with the sides and the limit that they stand for.
+OPTIONS = [
+    (["--tester", "7E0", "--unit=7e8"], oracle.SIDES, oracle.GIBIBYTE),
+    (["--tester", "7E8", "--unit", "7E0"], {TESTER: "7E8", UNIT: "7E0"}, oracle.GIBIBYTE),
+    (["--tester", "18da10f1"], {TESTER: "18DA10F1", UNIT: "7E8"}, oracle.GIBIBYTE),
+    (["--tester=000007E0", "--unit=000007E8"], {TESTER: "000007E0", UNIT: "000007E8"}, oracle.GIBIBYTE),
+    ([f"--limit={len(VIN)}"], oracle.SIDES, len(VIN)),
+    (["--limit", f"{len(VIN) - 1}"], oracle.SIDES, len(VIN) - 1),
+    (["--limit", "1"], oracle.SIDES, 1),
+]
+WRONG_VALUES = [["--limit", "0"], ["--tester", "7E"], ["--tester", "800"], ["--unit=7E0"]]
+
+# The most bytes that a page of 1,000 items has, and those of an item more, which are two rows.
+THOUSAND_ITEMS = 600_000
+ITEM_MORE = 550
+
+# The number of items of the logs for which memory is measured.
+MEASURED_ITEMS = 100_000
+
+
+def log_of(*frames):
+    """The log of these frames, a millisecond apart."""
+    return b"".join(tables.stamped(number, frame) for number, frame in enumerate(frames))
+
+
+# --- Pages beside the oracle --------------------------------------------------------------------------------------------
+
+
+def pages(cases):
+    """Each log has its page, of which the rows alone tell the texts of the other jobs."""
+    for name, log, sides in itertools.chain(sample_logs(), table_logs(), made_logs(), some_random_logs()):
+        wrong = page_faults(cases, log, sides)
+        cases.report(name, wrong + ([f"the log {log!r}"] if wrong and len(log) < 2000 else []))
+
+
+def page_faults(cases, log, sides):
+    options = [word for side in (TESTER, UNIT) for word in (f"--{side}", sides[side])]
+    found = cases.run(["report", *options], log)
+    wrong = page_differences(found, report_oracle.reported(log, sides=sides)) + text_faults(found.output)
+    try:
+        return wrong + retold_otherwise(cases, found.output.decode(), log, options)
+    except (LookupError, ValueError) as error:
+        return [*wrong, f"a page that can't be read: {error!r}"]
+
+
+def page_differences(found, came, status=None, told=None):
+    """How a run of the program differs from what the oracle says; of a page the first line that does. Another status and what
+    is told then can be said."""
+    fault = f"{came.fault}\n".encode() if came.fault else b""
+    lines = itertools.zip_longest(found.output.splitlines(keepends=True), came.written.splitlines(keepends=True))
+    differing = next(([number, *both] for number, both in enumerate(lines, 1) if both[0] != both[1]), None)
+    return [
+        *differences("status", found.status, came.status if status is None else status),
+        *differences("error output", found.error, fault if told is None else told),
+        *(differences(f"line {differing[0]} of the page", *differing[1:]) if differing else []),
+    ]
+
+
+def text_faults(page):
+    """What is wrong with the text of any page: it is ASCII, nothing is fetched or run by it, each identifier stands once, and each
+    link leads to one."""
+    identifiers = Counter(re.findall(rb' id="([^"]*)"', page))
+    links = re.findall(rb' (?:href="#|for=")([^"]*)"', page)
+    addresses = re.findall(rb' href="([^#][^"]*)"', page)
+    return [
+        *([] if page.isascii() else ["it is not ASCII"]),
+        *([] if POLICY in page else ["it may fetch something"]),
+        *(f"it has {text.decode()}" for text in FORBIDDEN if text in page),
+        *(f"the identifier {name.decode()} stands {number} times" for name, number in identifiers.items() if number > 1),
+        *(f"nothing is called {name.decode()}" for name in links if name not in identifiers),
+        *(f"a link leads to {address!r}" for address in addresses),
+    ]
+
+
+def retold_otherwise(cases, page, log, options):
+    """How what the rows alone tell differs from what `list` writes, or `watch` where that is refused, and `explain`; and what the
+    page counts from how many rows there are."""
+    rows, is_brief = rows_in(page), has_brief_rows(page)
+    listed = cases.run(["list", *options], log)
+    if listed.status != DONE:
+        listed = cases.run(["watch", *options], log)
+    explained = cases.run(["explain", *options], log)
+    counts = counts_told(page, rows) if explained.status == DONE else ""
+    return [
+        *differences("the list by the rows", shortened(list_told(rows), is_brief), shortened(listed.output.decode(), is_brief)),
+        *differences("the explanation by the rows", explanation_told(rows) + counts, explained.output.decode()),
+        *differences("the counts", counts_in(page), counts_of_rows(rows)),
+    ]
+
+
+def sample_logs():
+    for path in sorted(EXAMPLES.glob("*.log")):
+        yield f"examples/{path.name}", path.read_bytes(), oracle.SIDES
+    path = EXAMPLES / "extended-identifiers.log"
+    yield f"examples/{path.name} by its identifiers", path.read_bytes(), EXTENDED
+
+
+def table_logs():
+    """The logs of all tables, those of comparisons, too."""
+    for table in sorted(path.stem for path in tables.ROWS.iterdir()):
+        for row in tables.table(table):
+            sides = dict(zip((TESTER, UNIT), row.sides()))
+            for log in filter(None, [row.log(), row.side("left"), row.side("right")]):
+                yield f"{table}: {row.name}", log, sides
+    for table in ("refused_lines", "unfinished_lines"):
+        for row in tables.lines(table):
+            line = row.partition(" ")[2].encode()
+            yield f"{table}: {row!r}", log_of(REQUEST, FIRST) + line + (b"\n" if table == "refused_lines" else b""), oracle.SIDES
+
+
+def made_logs():
+    """Logs that are made for one thing each."""
+    for name, log in [
+        ("nothing", b""),
+        ("blank lines", b"\n\r\n"),
+        ("foreign frames alone", log_of("123#00", "000007E0#0322F190")),
+        ("frames of the tester alone", log_of(REQUEST)),
+        ("frames of the unit alone, some of them dropped", log_of(STRAY, UNKNOWN)),
+        ("a last line without a line feed", VIN.removesuffix(b"\n")),
+        ("lines that end in a carriage return", VIN.replace(b"\n", b"\r\n")),
+        ("a clock that goes back", b"".join(reversed(log_of(REQUEST, *[ANSWER] * 3).splitlines(keepends=True)))),
+        ("no room, behind the first frame and behind another", log_of(FIRST, "7E0#320000", FIRST, "7E8#2133413543353045", "7E0#320000")),
+        ("a request whose answer may be left out, and none", log_of("7E0#023E81", "7E0#021083", "7E0#023E80", "7E0#023E00")),
+        *((f"a message of {length} bytes", log_of_messages(message_of(length))) for length in LENGTHS),
+        *((f"{length} bytes of text", log_of_messages(text_of(length))) for length in LENGTHS if length < 4095),
+        *((f"text from byte {at} on", log_of_messages(bytes(at) + b"a-Z9" + bytes(60))) for at in (0, 28, 29, 31, 32)),
+        ("a text that ends in each byte", log_of_messages(*(b"WBA" + bytes([byte]) for byte in range(256)))),
+        ("each byte behind a text", log_of_messages(*(b"WBA3" + bytes([byte]) for byte in range(256)))),
+        *((f"{number} of each thing that needs a look", log_of(*number * needing_a_look())) for number in (1, 10, 11, 12)),
+        *block_logs(),
+    ]:
+        yield name, log, oracle.SIDES
+
+
+def log_of_messages(*messages):
+    """The log of these messages of the unit."""
+    return "".join(oracle.canonical_lines([(UNIT, message) for message in messages])).encode()
+
+
+def text_of(length):
+    return (b"WBA3A5C50 EF/123456:7.8-9_z<&>" * (1 + length // 30))[:length]
+
+
+def needing_a_look():
+    """A stray, a frame that is dropped, a message that ends early, and requests without a positive answer; the last message is
+    unfinished in the end."""
+    return [STRAY, UNKNOWN, REQUEST, REFUSED, REQUEST, FIRST, OUT_OF_ORDER, FIRST]
+
+
+def block_logs():
+    """Sessions of several blocks. A full one has 200 rows, and the largest 1,000."""
+    for number in (99, 100, 101, 1000, 1001):
+        yield f"{number} exchanges", log_of(*number * [REQUEST, ANSWER])
+    for name, frames in [
+        ("a message", [STRAY]),
+        ("a request", [REQUEST, ANSWER]),
+        ("an answer", [REQUEST, STRAY, ANSWER]),
+        ("a missing answer", [REQUEST]),
+        ("a frame that ends a message", [FIRST, OUT_OF_ORDER]),
+        ("a frame that is dropped", [UNKNOWN]),
+        ("the end of the log", [FIRST]),
+    ]:
+        for before in (998, 999, 1000):
+            yield f"{before} strays before {name}", log_of(*before * [STRAY], *frames)
+    for behind in (998, 999, 1000):
+        yield f"a request, {behind} strays, and a request", log_of(REQUEST, *behind * [STRAY], REQUEST)
+
+
+def some_random_logs():
+    for number, log in enumerate(itertools.islice(random_logs(SEED), RANDOM_LOGS), 1):
+        yield f"random log {number}", log, oracle.SIDES
+
+
+# --- Names and options --------------------------------------------------------------------------------------------------
+
+
+def names(cases):
+    """Whatever a file is called, its name stands on the page as a text."""
+    with tempfile.TemporaryDirectory() as folder:
+        for path, shown in NAMES.items():
+            file = Path(folder, path)
+            file.parent.joinpath("inner").mkdir(parents=True, exist_ok=True)
+            file.write_bytes(VIN)
+            cases.report(f"a log in the file {path[:40]!r}", name_faults(cases, ["--", path], shown, cwd=folder))
+            cases.report("the same by its whole path", name_faults(cases, [file], shown))
+    cases.report("standard input", name_faults(cases, [], "standard input"))
+
+
+def name_faults(cases, words, shown, **options):
+    found = cases.run(["report", *words], VIN, **options)
+    name = report_oracle.last_part(os.fsencode(words[-1])) if words else report_oracle.STANDARD_INPUT
+    wrong = page_differences(found, report_oracle.reported(VIN, name=name))
+    for text in (f"<title>{shown} - udsnorm report</title>\n", f"<h1>{shown}</h1>\n"):
+        wrong += [] if text.encode() in found.output else [f"{text!r} is not there"]
+    return wrong + ([] if b"<script" not in found.output else ["it has a script"])
+
+
+def options(cases):
+    """Options are those of `messages`, which ends in the same way; and the page is for them."""
+    for words, sides, limit in OPTIONS:
+        found = cases.run(["report", *words], VIN)
+        wrong = page_differences(found, report_oracle.reported(VIN, limit, sides))
+        cases.report(f"report {' '.join(words)}", wrong + ends_otherwise(cases, words, VIN, found))
+    for words in WRONG_VALUES:
+        found = cases.run(["report", *words], VIN)
+        wrong = ends_otherwise(cases, words, VIN, found) + differences("output", found.output, b"")
+        cases.report(f"report {' '.join(words)}", wrong)
+
+
+def ends_otherwise(cases, words, log, found):
+    placed = cases.run(["messages", *words], log)
+    return differences("how it ends", (found.status, found.error), (placed.status, placed.error))
+
+
+def strict_runs(cases):
+    """A log that has to be clean has the same page, and then it is told what it lacks."""
+    for name, log in [
+        ("a clean log", VIN),
+        ("a log without its last line feed", VIN.removesuffix(b"\n")),
+        ("a log with dropped frames", log_of(*needing_a_look())),
+        ("a log without a line", b""),
+        ("a log of a blank line", b"\n"),
+        ("a log that lacks a side, a frame and its last line feed", log_of(UNKNOWN).removesuffix(b"\n")),
+        ("a refused log", VIN + b"x\n"),
+    ]:
+        found = cases.run(["report", "--strict"], log)
+        came = report_oracle.reported(log)
+        told = oracle.unclean(log) if came.status == DONE else None
+        wrong = page_differences(found, came, *([UNCLEAN, f"{told}\n".encode()] if told else []))
+        shown = f"<p><em>{told.removeprefix('not clean: ')}.</em>" if told else ""
+        wrong += [] if shown.encode() in found.output else [f"its page does not say {shown}"]
+        cases.report(f"report --strict of {name}", wrong + ends_otherwise(cases, ["--strict"], log, found))
+
+
+# --- Refused logs and devices -------------------------------------------------------------------------------------------
+
+
+def refused_logs(cases):
+    """A refused log has a page that says where and why, and calls nothing that is open unanswered or unfinished."""
+    for name, log, limit, told, rows in [
+        ("in its first line", b"x\n" + VIN, None, place(1, 1), []),
+        ("behind a foreign frame", log_of("123#00") + b"x\n", None, place(2, 1), []),
+        ("behind a whole session", VIN + b"(x\n", None, place(6, 2), ["request", "positive"]),
+        ("behind a request", log_of(REQUEST) + b"x\n", None, place(2, 1), ["request"]),
+        ("behind another request", log_of(REQUEST, REQUEST) + b"x\n", None, place(3, 1), ["request", "no answer", "request"]),
+        ("inside an answer", log_of(REQUEST, FIRST) + b"x\n", None, place(3, 1), ["request"]),
+        ("behind what ends a message", log_of(FIRST, OUT_OF_ORDER) + b"x\n", None, place(3, 1), ["ended", "dropped"]),
+        ("inside its last line", log_of(REQUEST) + b"(1.000000) can0 7E0#0", None, place(2, 22), ["request"]),
+        ("by its limit", VIN, 40, LONG_LOG, ["request"]),
+        ("by a limit of a byte", VIN, 1, LONG_LOG, []),
+    ]:
+        found = cases.run(["report", *(["--limit", str(limit)] if limit else [])], log)
+        wrong = page_differences(found, report_oracle.reported(log, limit or oracle.GIBIBYTE), REFUSAL, told)
+        cases.report(f"a log that is refused {name}", wrong + refusal_faults(found, told, rows))
+
+
+def refusal_faults(found, told, rows):
+    """What is wrong with the page of a refused log with these kinds of rows."""
+    page, reason = found.output.decode(), told.decode().removesuffix("\n")
+    stop = f'<p class="stop"><b>Refused here:</b> {reason}.</p>\n</main>\n<section id="verdict" class="bad">\n'
+    heading = "The log is refused</h2>\n<p><em>" + reason + ".</em> Below is what the lines before that say;"
+    return [
+        *(f"{text!r} is not there" for text in (stop, heading, '<p id="end">') if text not in page),
+        *differences("the kinds of its rows", [row.kind for row in rows_in(page)], rows),
+        *text_faults(found.output),
+    ]
+
+
+def growing_page(cases):
+    """Each row can be read before the frame behind it is given: a page is written while the session is recorded."""
+    log, running, came, wrong = log_of("123#00", *needing_a_look(), ANSWER), start(cases.program, ["report"]), b"", []
+    lines = log.splitlines(keepends=True)
+    for number, line in enumerate(lines, 1):
+        give(running, line)
+        want = report_oracle.begun(b"".join(lines[:number]))
+        while len(came) < len(want) and select.select([running.stdout], [], [], 30)[0]:
+            came += os.read(running.stdout.fileno(), 65_536)
+        wrong += differences(f"behind line {number}", came, want)
+    rest = end(running)
+    wrong += page_differences(rest._replace(output=came + rest.output), report_oracle.reported(log))
+    cases.report("a page of a log that comes line by line", wrong)
+
+
+def devices(cases):
+    """An output that takes nothing, and a log that can't be read."""
+    with open("/dev/full", "wb") as full:
+        for name, log in [("a session", VIN), ("no log", b""), ("a refused log", b"x\n"), ("a long log", log_of(*1000 * [REQUEST]))]:
+            cases.case(f"a page of {name} that nothing takes", cases.run(["report"], log, stdout=full), DEVICE, None, WRITE_FAILED)
+    for name, path in [("that is not there", "missing"), ("that is a folder", EXAMPLES), ("without a name", "")]:
+        cases.case(f"a file {name}", cases.run(["report", path]), DEVICE, b"", READ_FAILED)
+
+
+# --- Sizes and memory ---------------------------------------------------------------------------------------------------
+
+
+def sizes(cases):
+    """A page grows with its items alone, and by the same for each."""
+    lengths = {}
+    for number in (0, 1000, MEASURED_ITEMS):
+        found = cases.run(["report"], number * log_of(REQUEST, ANSWER))
+        lengths[number] = len(found.output)
+        wrong = differences("status", found.status, DONE)
+        most = lengths[0] + ITEM_MORE * number
+        wrong += [] if len(found.output) <= most else [f"more than {most}"]
+        cases.report(f"a page of {number} items has {len(found.output)} bytes", wrong)
+    wrong = [] if lengths[1000] < THOUSAND_ITEMS else [f"{lengths[1000]} bytes"]
+    cases.report(f"a page of 1000 items is below {THOUSAND_ITEMS} bytes", wrong)
+
+
+def memory(cases):
+    """No page is held, nor any of its rows or items: whatever the log, the program has no more than without one."""
+    for name, frames in [("exchanges", [REQUEST, ANSWER]), ("requests", [REQUEST]), ("strays", [STRAY]), ("dropped frames", [UNKNOWN])]:
+        found = peak(cases.program, ["report"], MEASURED_ITEMS * log_of(*frames))
+        wrong = differences("status", found.status, DONE)
+        if found.kilobytes is None:
+            wrong.append("it ended before its log")
+        elif found.kilobytes > PROGRAM_BYTES // 1024:
+            wrong.append(f"more than {PROGRAM_BYTES // 1024} kB")
+        cases.report(f"a page of {MEASURED_ITEMS} {name}: {found.kilobytes} kB", wrong)
+
+
+def main():
+    if len(sys.argv) < 2:
+        sys.exit(__doc__)
+    cases = Cases(os.path.abspath(sys.argv[1]), sys.argv[2:])
+    cases.each([pages, names, options, strict_runs, refused_logs, growing_page, devices, sizes, memory])
+    cases.end()
+
+
+if __name__ == "__main__":
+    main()
