@@ -52,7 +52,7 @@ ESCAPED = [
 PATH_MAX = 4096
 
 # The help texts, whole: the program's by its name, and that of each command. They are read beside what they tell of.
-HELPS = {path.stem: path.read_bytes() for path in Path(__file__).with_name("help").glob("*.txt")}
+HELPS = {path.stem: path.read_bytes() for path in Path(__file__).resolve().parents[1].joinpath("help").glob("*.txt")}
 OF_PROGRAM = "udsnorm"
 
 
