@@ -130,6 +130,8 @@ def is_ended(cases, folder):
 def main():
     if len(sys.argv) != 1:
         sys.exit(__doc__)
+    # What a shell starts in the background ignores it, and so would what this starts.
+    signal.signal(signal.SIGINT, signal.default_int_handler)
     cases = Cases(None)
     for test in [side_by_side, all_go_on, is_ended]:
         with tempfile.TemporaryDirectory() as folder:
