@@ -30,33 +30,35 @@ PROCESSORS = len(os.sched_getaffinity(0))
 # What a test is given, by the names of the two words that come with each run.
 NOTHING, OF_PROGRAM, OF_LIBRARY = "", "PROGRAM", "PROGRAM LIBRARY"
 
-# How many processors a test takes that has to be alone: it has a process for each of them, or most of the memory.
+# How many processors a test takes that has to be alone.
 ALL = 1 << 10
 
-# A file of tests; what it is given; its seconds, alone on a quiet processor; and how many processors it takes.
+# A file of tests; what it is given; the seconds of a processor that it takes; and how many processors at once.
 Test = namedtuple("Test", "file given seconds takes", defaults=[1])
 
+# `sessions` has a process for each processor; `ample_memory` takes two gigabytes, and runs two programs at once. What measures
+# memory measures that of one process, and no test fails by its time but where a minute or more goes by: they run beside others.
 LIST = [
-    Test("program/command_line.py", OF_PROGRAM, 10),
-    Test("program/program.py", OF_PROGRAM, 10),
-    Test("program/hints.py", OF_PROGRAM, 10),
-    Test("program/sessions.py", OF_PROGRAM, 10, takes=ALL),
-    Test("pages/report.py", OF_PROGRAM, 10),
-    Test("pages/report_pairs.py", OF_PROGRAM, 10),
-    Test("documents/documents.py", NOTHING, 10),
-    Test("scripts/make_check.py", NOTHING, 10),
-    Test("scripts/make_test.py", NOTHING, 10),
-    Test("documents/shipped.py", OF_PROGRAM, 10),
-    Test("documents/recipes.py", OF_LIBRARY, 10),
-    Test("documents/release.py", OF_LIBRARY, 10),
-    Test("program/differential.py", OF_PROGRAM, 10),
-    Test("library/library.py", OF_LIBRARY, 10),
-    Test("library/python_package.py", OF_LIBRARY, 10),
-    Test("library/formats.py", OF_LIBRARY, 10),
-    Test("library/many_sessions.py", OF_LIBRARY, 10),
-    Test("memory/hostile_input.py", OF_PROGRAM, 10),
-    Test("memory/ample_memory.py", OF_LIBRARY, 10),
-    Test("memory/refused_memory.py", OF_PROGRAM, 10),
+    Test("program/sessions.py", OF_PROGRAM, 36, takes=ALL),
+    Test("memory/ample_memory.py", OF_LIBRARY, 67, takes=2),
+    Test("library/formats.py", OF_LIBRARY, 91),
+    Test("memory/refused_memory.py", OF_PROGRAM, 60),
+    Test("pages/report_pairs.py", OF_PROGRAM, 41),
+    Test("library/library.py", OF_LIBRARY, 41),
+    Test("memory/hostile_input.py", OF_PROGRAM, 32),
+    Test("documents/documents.py", NOTHING, 23),
+    Test("program/differential.py", OF_PROGRAM, 22),
+    Test("library/python_package.py", OF_LIBRARY, 17),
+    Test("pages/report.py", OF_PROGRAM, 14),
+    Test("program/program.py", OF_PROGRAM, 7),
+    Test("documents/release.py", OF_LIBRARY, 6),
+    Test("scripts/make_check.py", NOTHING, 5),
+    Test("library/many_sessions.py", OF_LIBRARY, 2),
+    Test("documents/recipes.py", OF_LIBRARY, 2),
+    Test("program/command_line.py", OF_PROGRAM, 1),
+    Test("program/hints.py", OF_PROGRAM, 1),
+    Test("documents/shipped.py", OF_PROGRAM, 1),
+    Test("scripts/make_test.py", NOTHING, 1),
 ]
 
 # One that runs: its process, where it prints, and when it began.

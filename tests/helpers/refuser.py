@@ -23,7 +23,8 @@ class Refuser:
     """The library that refuses a call to the process that loads it."""
 
     def __init__(self, folder):
-        self.library = Path(folder) / "refuse_call.so"
+        self.folder = Path(folder)
+        self.library = self.folder / "refuse_call.so"
         subprocess.run(["cc", "-O1", "-fPIC", "-shared", "-o", self.library, SOURCE], check=True)
 
     def run(self, program, words, kind, call, error=errno.EIO, for_good=False, **options):

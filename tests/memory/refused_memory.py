@@ -1,7 +1,7 @@
 #!/usr/bin/env python3
 """Refuses each growth of memory in turn, and counts them.
 
-    tests/memory/refused_memory.py crates/udsnorm/out/udsnorm
+    tests/memory/refused_memory.py crates/udsnorm/out/udsnorm [TEST..]
 
 The built program, by each of its jobs over each log of examples/, two small sessions and a long log, and with words that
 it only answers: whichever growth is refused, it ends with status 5 and has written a front of what it writes otherwise. Of
@@ -163,10 +163,10 @@ def told_of_job(job, growths):
     return [OUT_OF_MEMORY] * sum(growths)
 
 
-def the_program(cases, refuser, folder):
+def the_program(cases, refuser):
     logs = {path.stem: path for path in sorted(EXAMPLES.glob("*.log"))}
     for name, log in LOGS.items():
-        logs[name] = folder / f"{name}.log"
+        logs[name] = refuser.folder / f"{name}.log"
         logs[name].write_bytes(log)
     for words in WORDS:
         words_refused(cases, refuser, words.split())
@@ -234,14 +234,11 @@ def the_libraries(cases, refuser):
 
 
 def main():
-    if len(sys.argv) != 2:
+    if len(sys.argv) < 2:
         sys.exit(__doc__)
-    cases = Cases(os.path.abspath(sys.argv[1]))
+    cases = Cases(os.path.abspath(sys.argv[1]), sys.argv[2:])
     with tempfile.TemporaryDirectory() as folder:
-        refuser = Refuser(folder)
-        the_program(cases, refuser, Path(folder))
-        the_other_commands(cases, refuser)
-        the_libraries(cases, refuser)
+        cases.each([the_program, the_other_commands, the_libraries], Refuser(folder))
     cases.end()
 
 
