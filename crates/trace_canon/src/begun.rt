@@ -1,8 +1,9 @@
 //! Where the receptions that stand began.
-ghost use Rattle.std.specs.Prelude.{◌≡◌, None, true};
+ghost use Rattle.std.specs.Prelude.{◌≡◌, None, if◌then◌else◌};
 ghost use Rattle.direction.specs.declared.Dir.TheVariants.{Tester, Unit};
-ghost use Rattle.isotp_receive.specs.EventSeen.{seen_event, seen_verdict};
-ghost use Rattle.trace_canon.specs.Begun.{began_at, begun_after, left_by, moved_by};
+ghost use Rattle.isotp_receive.specs.EventSeen.{seen_event};
+ghost use Rattle.isotp_receive.specs.Trace.{same_direction};
+ghost use Rattle.trace_canon.specs.Begun.{began_at, begun_after, left_by};
 
 use direction::Dir;
 use isotp_receive::{Ended, Event, Verdict};
@@ -53,19 +54,27 @@ impl Begun {
         ensures tester_first { dir ≡ Tester → result ≡ began_at dir (seen_event event.entry) here self.old.tester }
         ensures unit_first { dir ≡ Unit → result ≡ began_at dir (seen_event event.entry) here self.old.unit }
     {
-        let tester = still_begun(Dir::Tester, event.ended, self.tester);
-        let unit = still_begun(Dir::Unit, event.ended, self.unit);
+        if let Some(ended) = event.ended {
+            self.put(ended.dir, None);
+        }
+        let begun = self.of(dir);
+        match event.verdict {
+            Verdict::Message(_) => self.put(dir, None),
+            Verdict::Began => self.put(dir, Some(here)),
+            Verdict::Stored | Verdict::Flow | Verdict::Dropped(_) => {}
+        }
+        begun.unwrap_or(here)
+    }
+
+    /// Where the reception of a direction began is this now.
+    #[inline(always)]
+    fn put(&mut self, dir: Dir, begun: Option<FramePlace>)
+        ensures tester { self.new.tester ≡ (if same_direction Tester dir then begun else self.old.tester) }
+        ensures unit { self.new.unit ≡ (if same_direction Unit dir then begun else self.old.unit) }
+    {
         match dir {
-            Dir::Tester => {
-                self.tester = moved(event.verdict, here, tester);
-                self.unit = unit;
-                tester.unwrap_or(here)
-            }
-            Dir::Unit => {
-                self.tester = tester;
-                self.unit = moved(event.verdict, here, unit);
-                unit.unwrap_or(here)
-            }
+            Dir::Tester => self.tester = begun,
+            Dir::Unit => self.unit = begun,
         }
     }
 }
@@ -87,16 +96,5 @@ pub fn still_begun(dir: Dir, ended: Option<Ended>, begun: Option<FramePlace>) ->
         ) => None,
         (Some(Ended { dir: Dir::Unit, .. }), Dir::Unit) => None,
         (Some(_), _) => begun,
-    }
-}
-
-/// The same after what became of a frame of the direction.
-fn moved(verdict: Verdict<'_>, here: FramePlace, begun: Option<FramePlace>) -> Option<FramePlace>
-    ensures { result ≡ moved_by true (seen_verdict verdict.entry) here begun }
-{
-    match verdict {
-        Verdict::Message(_) => None,
-        Verdict::Began => Some(here),
-        Verdict::Stored | Verdict::Flow | Verdict::Dropped(_) => begun,
     }
 }

@@ -11,12 +11,12 @@ use uds_exchange::Judged;
 
 /// Says the line of a message that has its first frame and its last one in these places, as an object.
 pub(crate) fn say_message_object<S: TextSink>(
-    message: Judged<'_>,
+    message: &Judged<'_>,
     first: FramePlace,
     last: FramePlace,
     out: &mut S,
 )
-    ensures { S.says out.old (object_line (placed_members (judged_at message.entry first last))) out.new }
+    ensures { S.says out.old (object_line (placed_members (judged_at message.now first last))) out.new }
 {
     say_text(out, "{\"item\":");
     say_number(out, message.item);

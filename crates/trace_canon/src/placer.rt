@@ -79,7 +79,7 @@ impl Machine for Placer {
         };
         let first = self.begun.take(here, seen.dir, seen.event);
         if let Some(message) = seen.message {
-            say_message(self.notation, message, first, here, out);
+            say_message(self.notation, &message, first, here, out);
         }
         Ok(())
     }
@@ -99,12 +99,12 @@ impl Machine for Placer {
 /// Says the line of a message that has its first frame and its last one in these places.
 fn say_message<S: TextSink>(
     notation: Notation,
-    message: Judged<'_>,
+    message: &Judged<'_>,
     first: FramePlace,
     last: FramePlace,
     out: &mut S,
 )
-    ensures { S.says out.old (placed_text notation (judged_at message.entry first last)) out.new }
+    ensures { S.says out.old (placed_text notation (judged_at message.now first last)) out.new }
 {
     match notation {
         Notation::Text => say_message_line(message, first, last, out),
@@ -114,12 +114,12 @@ fn say_message<S: TextSink>(
 
 /// Says it in words.
 fn say_message_line<S: TextSink>(
-    message: Judged<'_>,
+    message: &Judged<'_>,
     first: FramePlace,
     last: FramePlace,
     out: &mut S,
 )
-    ensures { S.says out.old (placed_line (judged_at message.entry first last)) out.new }
+    ensures { S.says out.old (placed_line (judged_at message.now first last)) out.new }
 {
     say_number(out, message.item);
     say_text(out, " ");

@@ -8,7 +8,7 @@ pub returns : goal.returns
 returns g c =
     let role = subst (λ text. g.S.TextSink.says c.say_text-2.new.out text c.say_text-3.new.out) c.role_name.ensures c.say_text-3.ensures in
     subst (λ text. g.S.TextSink.says c.args.out.now text c.say_text-10.new.out)
-    (object_parts c.args.message.item c.args.message.step (sent c.args.message) c.args.first c.args.last (role_text c.args.message.step) refl)
+    (object_parts c.args.message.now.item c.args.message.now.step (sent c.args.message.now) c.args.first c.args.last (role_text c.args.message.now.step) refl)
     (g.met.S.TextSink.onward _ _ _ _ _ c.say_text.ensures
     (g.met.S.TextSink.onward _ _ _ _ _ c.say_number.ensures
     (g.met.S.TextSink.onward _ _ _ _ _ c.say_text-2.ensures
