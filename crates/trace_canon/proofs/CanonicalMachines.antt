@@ -16,7 +16,7 @@ use Rattle.trace_canon.specs.Keeping.{CompletesMessage, CompletesHeld}
 use Rattle.trace_canon.specs.CanonicalScript.{place_behind, lines_due, StandsCanonical}
 use Rattle.trace_canon.specs.proving.Saying.{SaysDue}
 use Rattle.trace_log.specs.Settings.{Settings}
-use Rattle.trace_canon.specs.proving.Writing.{Place, start_of, text_from, place_after}
+use Rattle.trace_canon.specs.proving.Writing.{Progress, start_of, text_from, progress_after}
 use Rattle.trace_canon.proofs.CanonicalWriting.{text_none, place_append}
 use Rattle.trace_log.proofs.Promises.{messages_more, all_frames-append}
 
@@ -37,12 +37,12 @@ completes_held T e judged completes held =
 
 -- a message: what is due with it was said
 pub says_next : {S : Type 0} (says : S → List ℕ → S → Type 0) (settings config : Settings) (T : List Entry) (e : Entry) (message : Message)
-    (orderer orderer_now : JudgedOrdererValue) (place place_now : Place) (out out_now : S) → messages MESSAGE_LIMIT (T ++ e ∷ []) ≡ messages MESSAGE_LIMIT T ++ message ∷ []
-    → StandsCanonical settings T orderer config place → orderer_now ≡ orders_after (messages MESSAGE_LIMIT T ++ message ∷ [])
-    → SaysDue says config (messages MESSAGE_LIMIT T) message place out place_now out_now
-    → StandsCanonical settings (T ++ e ∷ []) orderer_now config place_now
+    (orderer orderer_now : JudgedOrdererValue) (progress progress_now : Progress) (out out_now : S) → messages MESSAGE_LIMIT (T ++ e ∷ []) ≡ messages MESSAGE_LIMIT T ++ message ∷ []
+    → StandsCanonical settings T orderer config progress → orderer_now ≡ orders_after (messages MESSAGE_LIMIT T ++ message ∷ [])
+    → SaysDue says config (messages MESSAGE_LIMIT T) message progress out progress_now out_now
+    → StandsCanonical settings (T ++ e ∷ []) orderer_now config progress_now
     × says out (lines_due settings (messages MESSAGE_LIMIT T) (messages MESSAGE_LIMIT (T ++ e ∷ []))) out_now
-says_next says settings config T e message orderer orderer_now place place_now out out_now next stood ordered (due, is_due, at, said) =
+says_next says settings config T e message orderer orderer_now progress progress_now out out_now next stood ordered (due, is_due, at, said) =
     let M = messages MESSAGE_LIMIT T in
     let longer : early (messages MESSAGE_LIMIT (T ++ e ∷ [])) ≡ early M ++ due = ap early next ∙ is_due in
     let left : drop (length (early M)) (early (messages MESSAGE_LIMIT (T ++ e ∷ []))) ≡ due = ap (drop (length (early M))) longer ∙ drop-append_seam (early M) due in
@@ -51,22 +51,22 @@ says_next says settings config T e message orderer orderer_now place place_now o
       record {
         ordered = ordered ∙ ap orders_after (sym next);
         same = same;
-        at = at ∙ ap (λ c. place_after c place (all_frames MESSAGE_LIMIT due)) same ∙ ap (λ p. place_after settings p (all_frames MESSAGE_LIMIT due)) stood_at
+        at = at ∙ ap (λ c. progress_after c progress (all_frames MESSAGE_LIMIT due)) same ∙ ap (λ p. progress_after settings p (all_frames MESSAGE_LIMIT due)) stood_at
             ∙ sym (place_append settings (start_of settings.max_bytes) (all_frames MESSAGE_LIMIT (early M)) (all_frames MESSAGE_LIMIT due))
-            ∙ ap (place_after settings (start_of settings.max_bytes)) (sym (all_frames-append MESSAGE_LIMIT (early M) due)) ∙ ap (place_behind settings) (sym longer);
+            ∙ ap (progress_after settings (start_of settings.max_bytes)) (sym (all_frames-append MESSAGE_LIMIT (early M) due)) ∙ ap (place_behind settings) (sym longer);
       },
       subst (λ text. says out text out_now)
-          (ap (λ c. text_from c place (all_frames MESSAGE_LIMIT due)) same ∙ ap (λ p. text_from settings p (all_frames MESSAGE_LIMIT due)) stood_at
+          (ap (λ c. text_from c progress (all_frames MESSAGE_LIMIT due)) same ∙ ap (λ p. text_from settings p (all_frames MESSAGE_LIMIT due)) stood_at
           ∙ ap (λ x. text_from settings (place_behind settings (early M)) (all_frames MESSAGE_LIMIT x)) (sym left)) said,
     )
 
 -- no message: nothing is
 pub says_nothing_more : {S : Type 0} (says : S → List ℕ → S → Type 0) (nothing : (s : S) → says s [] s) (settings config : Settings) (T : List Entry) (e : Entry)
-    (orderer : JudgedOrdererValue) (place : Place) (out : S) → messages MESSAGE_LIMIT (T ++ e ∷ []) ≡ messages MESSAGE_LIMIT T
-    → StandsCanonical settings T orderer config place
-    → StandsCanonical settings (T ++ e ∷ []) orderer config place
+    (orderer : JudgedOrdererValue) (progress : Progress) (out : S) → messages MESSAGE_LIMIT (T ++ e ∷ []) ≡ messages MESSAGE_LIMIT T
+    → StandsCanonical settings T orderer config progress
+    → StandsCanonical settings (T ++ e ∷ []) orderer config progress
     × says out (lines_due settings (messages MESSAGE_LIMIT T) (messages MESSAGE_LIMIT (T ++ e ∷ []))) out
-says_nothing_more says nothing settings config T e orderer place out next stood =
+says_nothing_more says nothing settings config T e orderer progress out next stood =
     let M = messages MESSAGE_LIMIT T in
     let same : messages MESSAGE_LIMIT (T ++ e ∷ []) ≡ M = next in
     let none : drop (length (early M)) (early (messages MESSAGE_LIMIT (T ++ e ∷ []))) ≡ [] =

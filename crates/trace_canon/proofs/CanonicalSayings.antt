@@ -9,7 +9,7 @@ use Rattle.uds_exchange.specs.Orderer.{StopsHeld, StopsDue}
 use Rattle.uds_exchange.specs.Sink.{AfterOk, Fails, Puts}
 use Rattle.uds_exchange.specs.declared.order_fault.OrderFault.{OrderFault}
 use Rattle.uds_exchange.specs.declared.order_fault.OrderFault.TheVariants as order_fault
-use Rattle.trace_canon.specs.proving.Writing.{text_from, place_after}
+use Rattle.trace_canon.specs.proving.Writing.{text_from, progress_after}
 use Rattle.trace_canon.specs.declared.canonical_sink.CanonicalSink.{CanonicalSink}
 use Rattle.trace_canon.proofs.CanonicalWriting.{text_none, place_none, text_append, place_append}
 
@@ -18,25 +18,25 @@ module _ {S : Type 0} (says : S → List ℕ → S → Type 0) (nothing : (s : S
   -- the lines of a message were said
   abbrev pub SaysOne : CanonicalSink S → Dir → List ℕ → CanonicalSink S → Type 0
   SaysOne s d m t =
-      (t.out.ghost_name ≡ s.out.ghost_name) × (t.place.ghost_name ≡ s.place.ghost_name) × (t.config ≡ s.config)
-      × (t.place.now ≡ place_after s.config s.place.now (canonical_frames MESSAGE_LIMIT d m))
-      × says s.out.now (text_from s.config s.place.now (canonical_frames MESSAGE_LIMIT d m)) t.out.now
+      (t.out.ghost_name ≡ s.out.ghost_name) × (t.progress.ghost_name ≡ s.progress.ghost_name) × (t.config ≡ s.config)
+      × (t.progress.now ≡ progress_after s.config s.progress.now (canonical_frames MESSAGE_LIMIT d m))
+      × says s.out.now (text_from s.config s.progress.now (canonical_frames MESSAGE_LIMIT d m)) t.out.now
 
   -- the lines of messages were said
   pub record SaidAll (s : CanonicalSink S) (put : List Message) (t : CanonicalSink S) : Type 0 where
     pub same_out : t.out.ghost_name ≡ s.out.ghost_name
-    pub same_place : t.place.ghost_name ≡ s.place.ghost_name
+    pub same_progress : t.progress.ghost_name ≡ s.progress.ghost_name
     pub settings : t.config ≡ s.config
-    pub place : t.place.now ≡ place_after s.config s.place.now (all_frames MESSAGE_LIMIT put)
-    pub said : says s.out.now (text_from s.config s.place.now (all_frames MESSAGE_LIMIT put)) t.out.now
+    pub progress : t.progress.now ≡ progress_after s.config s.progress.now (all_frames MESSAGE_LIMIT put)
+    pub said : says s.out.now (text_from s.config s.progress.now (all_frames MESSAGE_LIMIT put)) t.out.now
 
   pub said_all : (put : List Message) (s t : CanonicalSink S) → Puts SaysOne s put t → SaidAll s put t
   said_all [] s t is = subst (SaidAll s []) (sym is) (record {
     same_out = refl;
-    same_place = refl;
+    same_progress = refl;
     settings = refl;
-    place = sym (place_none s.config s.place.now);
-    said = subst (λ x. says s.out.now x s.out.now) (sym (text_none s.config s.place.now)) (nothing s.out.now);
+    progress = sym (place_none s.config s.progress.now);
+    said = subst (λ x. says s.out.now x s.out.now) (sym (text_none s.config s.progress.now)) (nothing s.out.now);
   })
   said_all (message ∷ later) s t (between, one, rest) =
       let after = said_all later between t rest in
@@ -44,16 +44,16 @@ module _ {S : Type 0} (says : S → List ℕ → S → Type 0) (nothing : (s : S
       let more = all_frames MESSAGE_LIMIT later in
       let same = one.2 in
       let at = one.3 in
-      let here : text_from between.config between.place.now more ≡ text_from s.config (place_after s.config s.place.now first) more =
-      ap (λ c. text_from c between.place.now more) same ∙ ap (λ p. text_from s.config p more) at in
+      let here : text_from between.config between.progress.now more ≡ text_from s.config (progress_after s.config s.progress.now first) more =
+      ap (λ c. text_from c between.progress.now more) same ∙ ap (λ p. text_from s.config p more) at in
       record {
         same_out = after.same_out ∙ one.0;
-        same_place = after.same_place ∙ one.1;
+        same_progress = after.same_progress ∙ one.1;
         settings = after.settings ∙ same;
-        place = after.place ∙ ap (λ c. place_after c between.place.now more) same ∙ ap (λ p. place_after s.config p more) at
-            ∙ sym (place_append s.config s.place.now first more);
-        said = subst (λ x. says s.out.now x t.out.now) (sym (text_append s.config s.place.now first more))
-            (onward s.out.now between.out.now t.out.now (text_from s.config s.place.now first) (text_from s.config (place_after s.config s.place.now first) more) one.4
+        progress = after.progress ∙ ap (λ c. progress_after c between.progress.now more) same ∙ ap (λ p. progress_after s.config p more) at
+            ∙ sym (place_append s.config s.progress.now first more);
+        said = subst (λ x. says s.out.now x t.out.now) (sym (text_append s.config s.progress.now first more))
+            (onward s.out.now between.out.now t.out.now (text_from s.config s.progress.now first) (text_from s.config (progress_after s.config s.progress.now first) more) one.4
             (subst (λ x. says between.out.now x t.out.now) here after.said));
       }
 

@@ -19,7 +19,7 @@ use Rattle.uds_exchange.proofs.Promises.{early_grows, early_then_held}
 use Rattle.trace_canon.specs.CanonicalScript.{StandsCanonical, is_too_long, answers_canonical, CanonicalTellsTheSame, canonical_script, place_behind, lines_due, text_of_early, CanonicalTellsEarly}
 use Rattle.trace_canon.specs.Keeping.{HasTextOf}
 use Rattle.trace_run.specs.Told.{told_after, told, told_of_lines, whole_of_lines, AnswersTold, EndsWith, FailsToTell, WritesTold, WritesRefused, WritesFrontOfTold, TellsEagerly}
-use Rattle.trace_canon.specs.proving.Writing.{Place, start_of, text_from, place_after}
+use Rattle.trace_canon.specs.proving.Writing.{Progress, start_of, text_from, progress_after}
 use Rattle.trace_canon.proofs.CanonicalWriting.{text_none, text_append, place_append}
 use Rattle.trace_canon.proofs.Answered.{answers_accepted, answers_output_limit}
 use Rattle.trace_canon.proofs.Hearings.{all_begin}
@@ -74,19 +74,19 @@ canonical_tells_early settings T =
 
 -- where the text stands at the end
 pub place_at_end : (settings : Settings) (M : List Message)
-    → place_after settings (place_behind settings (early M)) (all_frames MESSAGE_LIMIT (held M)) ≡ place_behind settings (flattened (meaning M))
+    → progress_after settings (place_behind settings (early M)) (all_frames MESSAGE_LIMIT (held M)) ≡ place_behind settings (flattened (meaning M))
 place_at_end settings M =
     let begin = start_of settings.max_bytes in
     sym (place_append settings begin (all_frames MESSAGE_LIMIT (early M)) (all_frames MESSAGE_LIMIT (held M)))
-    ∙ ap (place_after settings begin) (sym (all_frames-append MESSAGE_LIMIT (early M) (held M))) ∙ ap (place_behind settings) (early_then_held M)
+    ∙ ap (progress_after settings begin) (sym (all_frames-append MESSAGE_LIMIT (early M) (held M))) ∙ ap (place_behind settings) (early_then_held M)
 
 -- a line did not fit
-pub over_at_end : (settings config : Settings) (T : List Entry) (orderer : JudgedOrdererValue) (place after : Place) → StandsCanonical settings T orderer config place
-    → after ≡ place_after config place (all_frames MESSAGE_LIMIT (held (messages MESSAGE_LIMIT T))) → after.is_over ≡ is_too_long settings T
-over_at_end settings config T orderer place after stands at =
+pub over_at_end : (settings config : Settings) (T : List Entry) (orderer : JudgedOrdererValue) (progress after : Progress) → StandsCanonical settings T orderer config progress
+    → after ≡ progress_after config progress (all_frames MESSAGE_LIMIT (held (messages MESSAGE_LIMIT T))) → after.is_over ≡ is_too_long settings T
+over_at_end settings config T orderer progress after stands at =
     let frames = all_frames MESSAGE_LIMIT (held (messages MESSAGE_LIMIT T)) in
-    ap (λ (p : Place). p.is_over)
-    (at ∙ ap (λ s. place_after s place frames) stands.same ∙ ap (λ p. place_after settings p frames) stands.at ∙ place_at_end settings (messages MESSAGE_LIMIT T))
+    ap (λ (p : Progress). p.is_over)
+    (at ∙ ap (λ s. progress_after s progress frames) stands.same ∙ ap (λ p. progress_after settings p frames) stands.at ∙ place_at_end settings (messages MESSAGE_LIMIT T))
 
 -- what was said of messages is what fits of their canonical log
 said_fits : (settings : Settings) (put : List Message) → text_from settings (start_of settings.max_bytes) (all_frames MESSAGE_LIMIT put) ≡ fitting settings (canonical_log MESSAGE_LIMIT settings put)

@@ -14,11 +14,11 @@ use Rattle.trace_log.specs.declared.fault.Fault.{Fault}
 use Rattle.trace_run.specs.declared.machine.Stop.TheVariants as stop
 use Rattle.trace_log.specs.declared.summary.Summary.{Summary}
 use Rattle.uds_exchange.specs.Meaning.{meaning, flattened}
-use Rattle.trace_canon.specs.proving.Writing.{Place, start_of, text_from, place_after}
+use Rattle.trace_canon.specs.proving.Writing.{Progress, start_of, text_from, progress_after}
 
 -- where the canonical log stands after these messages
-abbrev pub place_behind : Settings → List Message → Place
-place_behind settings put = place_after settings (start_of settings.max_bytes) (all_frames MESSAGE_LIMIT put)
+abbrev pub place_behind : Settings → List Message → Progress
+place_behind settings put = progress_after settings (start_of settings.max_bytes) (all_frames MESSAGE_LIMIT put)
 
 -- the lines of the messages that are early of these, and were not of those
 abbrev pub lines_due : Settings → List Message → List Message → List ℕ
@@ -35,10 +35,10 @@ canonical_script settings = record {
 }
 
 -- The orderer stands after the messages of the trace, and the text after those that are early.
-pub record StandsCanonical (settings : Settings) (T : List Entry) (orderer : JudgedOrdererValue) (config : Settings) (place : Place) : Type 0 where
+pub record StandsCanonical (settings : Settings) (T : List Entry) (orderer : JudgedOrdererValue) (config : Settings) (progress : Progress) : Type 0 where
   pub ordered : orderer ≡ orders_after (messages MESSAGE_LIMIT T)
   pub same : config ≡ settings
-  pub at : place ≡ place_behind settings (early (messages MESSAGE_LIMIT T))
+  pub at : progress ≡ place_behind settings (early (messages MESSAGE_LIMIT T))
 
 -- the lines of the messages of a trace whose place is known, as far as there is room
 abbrev pub text_of_early : Settings → List Entry → List ℕ

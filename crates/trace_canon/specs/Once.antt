@@ -1,6 +1,5 @@
 -- A text of a log that is written by itself, once all of it is known.
 use Rattle.std.specs.Prelude.{◌≡◌, ◌≢◌, ◌-◌, ◌<◌, List, ℕ, ◌++◌, length, Result, Ok, Err, IfErr}
-use Rattle.trace_io.specs.Stream.{Agrees}
 use Rattle.trace_io.specs.Written.{HasFront}
 use Rattle.trace_io.specs.declared.device.Source.{Ghosts as SourceGhosts}
 use Rattle.trace_io.specs.declared.device.Target.{Ghosts}
@@ -8,7 +7,7 @@ use Rattle.trace_log.specs.declared.fault.Fault.{Fault}
 use Rattle.trace_log.specs.declared.fault.Fault.TheVariants.{BadLine, Oversize, LogLimit, OutputLimit, Read, Write, Memory}
 use Rattle.trace_log.specs.declared.summary.Summary.{Summary}
 use Rattle.trace_log.specs.Answers.{ReadsWhile}
-use Rattle.trace_log.specs.Devices.{ReadFrom, WroteTo}
+use Rattle.trace_log.specs.Devices.{AgreesWith, bytes_given, ReadFrom, WroteTo}
 
 -- What is written after `old` where a log has no such text: a front of one, which has bytes, where writing failed, and
 -- else nothing. `Is` says of what a text is made, with the counts of the log.
@@ -33,15 +32,15 @@ WritesOnce text Is IsFault (Err fault) old new = IsFault fault × LeavesOnce tex
 pub record RanOnce {V R W : Type 0} (source : SourceGhosts R) (target : Ghosts W) (text : V → List ℕ) (Is : List ℕ → V → Summary → Type 0) (IsFault : List ℕ → Fault → Type 0) (IsUnrefused : List ℕ → ℕ → Type 0)
     (NeedsMemory : List ℕ → Type 0) (max_bytes : ℕ) (before : R) (old : W) (result : Result Summary Fault) (after : R) (new : W) : Type 0 where
   -- what is answered and written, for each log with which the bytes that were read agree
-  pub answer : (log : List ℕ) → Agrees (source.given before) (source.given after) (source.is_over after) log
+  pub answer : (log : List ℕ) → AgreesWith source before after log
       → WritesOnce text (Is log) (IsFault log) result (target.taken old) (target.taken new)
   -- where there is no such text, the target is left alone
   pub unwritten : IfErr result (λ fault. fault ≢ Write → new ≡ old)
   -- reading stops within one piece
-  pub near : (log : List ℕ) → Agrees (source.given before) (source.given after) (source.is_over after) log
-      → ReadsWhile (IsUnrefused log) (length (source.given after) - length (source.given before)) (source.failures before) (source.failures after)
+  pub near : (log : List ℕ) → AgreesWith source before after log
+      → ReadsWhile (IsUnrefused log) (bytes_given source before after) (source.failures before) (source.failures after)
   -- memory is refused only for a log that needs it
-  pub memory : (log : List ℕ) → Agrees (source.given before) (source.given after) (source.is_over after) log → result ≡ Err Memory → NeedsMemory log
+  pub memory : (log : List ℕ) → AgreesWith source before after log → result ≡ Err Memory → NeedsMemory log
   -- what it did with its devices
   pub read : ReadFrom source Read max_bytes result before after
   pub wrote : WroteTo target Write result old new

@@ -1,11 +1,15 @@
 -- What is answered of a log by a call that writes nothing.
 use Rattle.std.specs.Prelude.{◌≡◌, ℕ, List, Result, Ok, Err}
+use Rattle.trace_io.specs.declared.device.Source.{Ghosts as SourceGhosts}
+use Rattle.trace_canon.specs.Keeping.{NeedsMemoryToCollect}
+use Rattle.trace_canon.specs.Read.{RanToRead}
 use Rattle.trace_canon.specs.declared.collector.Session.{Session}
 use Rattle.trace_log.specs.declared.fault.Fault.{Fault}
 use Rattle.uds_exchange.specs.Meaning.{ItemValue}
 use Rattle.trace_log.specs.Settings.{Settings}
 use Rattle.trace_log.specs.Messages.{HasMeaning}
 use Rattle.trace_log.specs.Outcome.{Accepted, IsOutcome}
+use Rattle.trace_log.specs.Refusal.{IsNotRefusedWithin}
 use Rattle.trace_log.specs.Answers.{TellsOutcome}
 use Rattle.trace_log.specs.declared.summary.Summary.{Summary}
 
@@ -25,3 +29,8 @@ GivesSession limit settings log (Err fault) = TellsOutcome limit settings log fa
 abbrev pub GivesMeaning : ℕ → Settings → List ℕ → Result (List ItemValue) Fault → Type 0
 GivesMeaning limit settings log (Ok items) = ((accepted : Accepted) × IsOutcome limit settings log (Ok accepted)) × HasMeaning limit settings log items
 GivesMeaning limit settings log (Err fault) = TellsOutcome limit settings log fault
+
+-- the run that answers so, which needs memory for a message of several frames, or for one that is complete
+abbrev pub RanToCollect : {R A : Type 0} → SourceGhosts R → (ℕ → Settings → List ℕ → Result A Fault → Type 0) → ℕ → Settings → R → Result A Fault → R → Type 0
+RanToCollect source Gives limit settings =
+    RanToRead source (Gives limit settings) (IsNotRefusedWithin limit settings) (NeedsMemoryToCollect limit settings) settings.max_bytes

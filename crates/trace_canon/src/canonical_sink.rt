@@ -12,10 +12,10 @@ ghost use Rattle.uds_exchange.specs.Order.{held as held_after};
 ghost use Rattle.uds_exchange.specs.Orderer.{IsHeld, orders_after};
 ghost use Rattle.trace_log.specs.Settings.{id_of};
 ghost use Rattle.trace_canon.specs.proving.Saying.{SaysDue, SaysFront};
-ghost use Rattle.trace_canon.specs.proving.Writing.{filled_up, text_from, place_after};
+ghost use Rattle.trace_canon.specs.proving.Writing.{filled_up, text_from, progress_after};
 
 use crate::length::has_frames;
-use crate::place::Place;
+use crate::progress::Progress;
 use can_log::{
     BASE_LINE, BASE_NAME, EXTENDED_NAME, Id, LineClock, base_line, base_name, extended_line,
     extended_name, line_end, line_length,
@@ -34,7 +34,7 @@ const NAMELESS: usize = BASE_LINE - BASE_NAME;
 #[derive(Drop)]
 pub(crate) struct CanonicalSink<'a, S> {
     pub out: &'a mut S,
-    pub place: &'a mut Place,
+    pub progress: &'a mut Progress,
     pub config: Config,
 }
 
@@ -42,18 +42,18 @@ impl<'a, S: TextSink> MessageSink for CanonicalSink<'a, S> {
     ghost use Rattle.std.specs.Prelude.{◌≡◌};
     ghost use Rattle.isotp_receive.specs.declared.TheConstants.{MESSAGE_LIMIT};
     ghost use Rattle.isotp_segment.specs.CanonicalFrames.{canonical_frames};
-    ghost use Rattle.trace_canon.specs.proving.Writing.{text_from, place_after};
+    ghost use Rattle.trace_canon.specs.proving.Writing.{text_from, progress_after};
 
     type Fault = NoFault;
 
-    ghost after_ok = { λ s d m t. (t.out.ghost_name ≡ s.out.ghost_name) × (t.place.ghost_name ≡ s.place.ghost_name) × (t.config ≡ s.config)
-        × (t.place.now ≡ place_after s.config s.place.now (canonical_frames MESSAGE_LIMIT d m))
-        × S.says s.out.now (text_from s.config s.place.now (canonical_frames MESSAGE_LIMIT d m)) t.out.now };
+    ghost after_ok = { λ s d m t. (t.out.ghost_name ≡ s.out.ghost_name) × (t.progress.ghost_name ≡ s.progress.ghost_name) × (t.config ≡ s.config)
+        × (t.progress.now ≡ progress_after s.config s.progress.now (canonical_frames MESSAGE_LIMIT d m))
+        × S.says s.out.now (text_from s.config s.progress.now (canonical_frames MESSAGE_LIMIT d m)) t.out.now };
 
     ghost after_err = { λ s d m e t. ⊥ };
 
     fn put(&mut self, dir: Dir, message: &[u8]) -> Result<(), NoFault> {
-        say_message(self.out, &self.config, self.place, dir, message);
+        say_message(self.out, &self.config, self.progress, dir, message);
         Ok(())
     }
 }
@@ -62,18 +62,18 @@ impl<'a, S: TextSink> MessageSink for CanonicalSink<'a, S> {
 fn say_message<S: TextSink>(
     out: &mut S,
     config: &Config,
-    place: &mut Place,
+    progress: &mut Progress,
     dir: Dir,
     message: &[u8],
 )
-    ensures says { S.says out.old (text_from config.now place.old (canonical_frames MESSAGE_LIMIT dir message.now)) out.new }
-    ensures place { place.new ≡ place_after config.now place.old (canonical_frames MESSAGE_LIMIT dir message.now) }
+    ensures says { S.says out.old (text_from config.now progress.old (canonical_frames MESSAGE_LIMIT dir message.now)) out.new }
+    ensures progress { progress.new ≡ progress_after config.now progress.old (canonical_frames MESSAGE_LIMIT dir message.now) }
 {
     if has_frames(message) {
         if message.len() <= SINGLE_LIMIT {
-            say_frame(out, config, place, dir, &single_frame(message));
+            say_frame(out, config, progress, dir, &single_frame(message));
         } else {
-            say_frames(out, config, place, dir, Segments::new(dir, message));
+            say_frames(out, config, progress, dir, Segments::new(dir, message));
         }
     }
 }
@@ -83,22 +83,22 @@ fn say_message<S: TextSink>(
 fn say_frames<S: TextSink>(
     out: &mut S,
     config: &Config,
-    place: &mut Place,
+    progress: &mut Progress,
     dir: Dir,
     frames: Segments<'_>,
 )
-    ensures says { S.says out.old (text_from config.now place.old frames.entry) out.new }
-    ensures place { place.new ≡ place_after config.now place.old frames.entry }
+    ensures says { S.says out.old (text_from config.now progress.old frames.entry) out.new }
+    ensures progress { progress.new ≡ progress_after config.now progress.old frames.entry }
 {
     let mut rest = frames;
     'frames: while let Some(next) = rest.next() {
         let sender = next.0;
         let frame = next.1;
-        if !say_frame(out, config, place, sender, &frame) {
+        if !say_frame(out, config, progress, sender, &frame) {
             return;
         }
         if sender != dir {
-            rest = say_full_frames(out, config, place, dir, rest);
+            rest = say_full_frames(out, config, progress, dir, rest);
         }
     }
 }
@@ -108,20 +108,20 @@ fn say_frames<S: TextSink>(
 fn say_frame<S: TextSink>(
     out: &mut S,
     config: &Config,
-    place: &mut Place,
+    progress: &mut Progress,
     sender: Dir,
     frame: &[u8; 8],
 ) -> bool
-    ensures says { (later : List (DirValue × List ℕ)) → SaysFront S.says config.now place.old out.old ((sender, frame.now) ∷ later) place.new out.new later }
-    ensures over { result ≡ false → place.new ≡ filled_up place.old }
+    ensures says { (later : List (DirValue × List ℕ)) → SaysFront S.says config.now progress.old out.old ((sender, frame.now) ∷ later) progress.new out.new later }
+    ensures over { result ≡ false → progress.new ≡ filled_up progress.old }
 {
     let id = config.id_of(sender);
     let length = line_length(id);
-    if !place.admit(length) {
+    if !progress.admit(length) {
         return false;
     }
-    say_line(out, place.clock(), id, frame);
-    place.pass(length);
+    say_line(out, progress.clock(), id, frame);
+    progress.pass(length);
     true
 }
 
@@ -142,22 +142,22 @@ fn say_line<S: TextSink>(out: &mut S, clock: &LineClock, id: Id, frame: &[u8; 8]
 fn say_full_frames<'a, S: TextSink>(
     out: &mut S,
     config: &Config,
-    place: &mut Place,
+    progress: &mut Progress,
     sender: Dir,
     frames: Segments<'a>,
 ) -> Segments<'a>
-    ensures says { SaysFront S.says config.now place.old out.old frames.entry place.new out.new result }
+    ensures says { SaysFront S.says config.now progress.old out.old frames.entry progress.new out.new result }
     ensures fewer { length result ≤ length frames.entry }
-    ensures misses_none { IsFullNext sender result → place.new.room ≡ 0 }
+    ensures misses_none { IsFullNext sender result → progress.new.room ≡ 0 }
 {
     match config.id_of(sender) {
         Id::Std(number) => {
             let name = lasting_base_name(number);
-            say_stretch(out, config, place, sender, name, frames)
+            say_stretch(out, config, progress, sender, name, frames)
         }
         Id::Ext(number) => {
             let name = lasting_extended_name(number);
-            say_stretch(out, config, place, sender, name, frames)
+            say_stretch(out, config, progress, sender, name, frames)
         }
     }
 }
@@ -185,24 +185,24 @@ fn lasting_extended_name(number: u32) -> [u8; EXTENDED_NAME]
 fn say_stretch<'a, S: TextSink, const NAME: usize>(
     out: &mut S,
     config: &Config,
-    place: &mut Place,
+    progress: &mut Progress,
     sender: Dir,
     name: [u8; NAME],
     frames: Segments<'a>,
 ) -> Segments<'a>
     requires name { name ≡ canonical_name (id_of config.now sender) }
     requires short { NAME ≤ EXTENDED_NAME }
-    ensures says { SaysFront S.says config.now place.old out.old frames.entry place.new out.new result }
+    ensures says { SaysFront S.says config.now progress.old out.old frames.entry progress.new out.new result }
     ensures fewer { length result ≤ length frames.entry }
-    ensures misses_none { IsFullNext sender result → place.new.room ≡ 0 }
+    ensures misses_none { IsFullNext sender result → progress.new.room ≡ 0 }
 {
     let mut rest = frames;
     'stretch: while let Some(frame) = rest.next_full(sender) {
-        if !place.admit(NAMELESS + NAME) {
+        if !progress.admit(NAMELESS + NAME) {
             return rest;
         }
-        out.put_three(place.clock().stamp(), &name, &line_end(&frame));
-        place.pass(NAMELESS + NAME);
+        out.put_three(progress.clock().stamp(), &name, &line_end(&frame));
+        progress.pass(NAMELESS + NAME);
     }
     rest
 }
@@ -211,19 +211,19 @@ fn say_stretch<'a, S: TextSink, const NAME: usize>(
 pub(crate) fn order_to<S: TextSink>(
     orderer: &mut JudgedOrderer,
     config: &Config,
-    place: &mut Place,
+    progress: &mut Progress,
     out: &mut S,
     message: Judged<'_>,
 ) -> Result<(), AllocError>
     ensures stands { OnOk result ((M : List Message) → orderer.old ≡ orders_after M → IsJudgedAfter M message.entry → orderer.new ≡ orders_after (M ++ sent message.entry ∷ [])) }
     ensures says { OnOk result ((M : List Message) → orderer.old ≡ orders_after M → IsJudgedAfter M message.entry
-        → SaysDue S.says config.now M (sent message.entry) place.old out.old place.new out.new) }
+        → SaysDue S.says config.now M (sent message.entry) progress.old out.old progress.new out.new) }
     ensures held { OnErr result ((M : List Message) → orderer.old ≡ orders_after M → IsJudgedAfter M message.entry → IsHeld M (sent message.entry)) }
-    ensures refused { OnErr result ((place.new ≡ place.old) × S.says out.old [] out.new) }
+    ensures refused { OnErr result ((progress.new ≡ progress.old) × S.says out.old [] out.new) }
 {
     let mut sink = CanonicalSink {
         out,
-        place,
+        progress,
         config: *config,
     };
     match orderer.take(message, &mut sink) {
@@ -236,17 +236,17 @@ pub(crate) fn order_to<S: TextSink>(
 pub(crate) fn finish_to<S: TextSink>(
     orderer: JudgedOrderer,
     config: &Config,
-    place: &mut Place,
+    progress: &mut Progress,
     out: &mut S,
 )
-    ensures place { (M : List Message) → orderer ≡ orders_after M
-        → place.new ≡ place_after config.now place.old (all_frames MESSAGE_LIMIT (held_after M)) }
+    ensures progress { (M : List Message) → orderer ≡ orders_after M
+        → progress.new ≡ progress_after config.now progress.old (all_frames MESSAGE_LIMIT (held_after M)) }
     ensures says { (M : List Message) → orderer ≡ orders_after M
-        → S.says out.old (text_from config.now place.old (all_frames MESSAGE_LIMIT (held_after M))) out.new }
+        → S.says out.old (text_from config.now progress.old (all_frames MESSAGE_LIMIT (held_after M))) out.new }
 {
     let mut sink = CanonicalSink {
         out,
-        place,
+        progress,
         config: *config,
     };
     if let Err(_fault) = orderer.finish(&mut sink) {

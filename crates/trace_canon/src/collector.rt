@@ -3,16 +3,11 @@
 //!
 //! It lets go of all that it holds once the canonical log is certainly longer than the limit, and takes no more: what
 //! refuses the log earlier may still come, and is told first.
-ghost use Rattle.std.specs.Prelude.{◌≡◌, ◌≢◌, ◌-◌, ℕ, List, [], length, IfErr, Err};
+ghost use Rattle.std.specs.Prelude.{◌≡◌};
 ghost use Rattle.isotp_receive.specs.declared.TheConstants.{MESSAGE_LIMIT};
-ghost use Rattle.trace_canon.specs.SessionScript.{Collects, has_place};
-ghost use Rattle.trace_log.specs.Answers.{ReadsWhile};
-ghost use Rattle.trace_canon.specs.Sessions.{GivesMeaning, GivesSession};
-ghost use Rattle.trace_log.specs.Devices.{ReadFrom};
-ghost use Rattle.trace_canon.specs.Keeping.{NeedsMemoryToCollect};
-ghost use Rattle.trace_log.specs.Refusal.{IsNotRefusedWithin};
-ghost use Rattle.trace_io.specs.Counted.{AreLowCounts};
-ghost use Rattle.trace_io.specs.Stream.{Agrees};
+ghost use Rattle.trace_canon.specs.SessionScript.{has_place};
+ghost use Rattle.trace_canon.specs.Sessions.{GivesMeaning, GivesSession, RanToCollect};
+ghost use Rattle.trace_log.specs.Devices.{HasLowCounts};
 
 use crate::length::message_length;
 use direction::Dir;
@@ -37,23 +32,8 @@ pub fn meaning_of<R: Source>(
     config: &Config,
     reader: &mut R,
 ) -> Result<Meaning, Fault>
-    requires reader { AreLowCounts (R.reads reader.old) (length (R.given reader.old)) (R.failures reader.old) }
-
-    // What is answered, for each log with which the bytes that were read agree.
-    ensures answer { (log : List ℕ) → Agrees (R.given reader.old) (R.given reader.new) (R.is_over reader.new) log → GivesMeaning MESSAGE_LIMIT config.now log result }
-
-    // Reading stops within one piece: of all bytes given but the last 4,096 none refuses the log, and of all where a read
-    // failed.
-    ensures near { (log : List ℕ) → Agrees (R.given reader.old) (R.given reader.new) (R.is_over reader.new) log
-        → ReadsWhile (IsNotRefusedWithin MESSAGE_LIMIT config.now log) (length (R.given reader.new) - length (R.given reader.old)) (R.failures reader.old) (R.failures reader.new) }
-
-    // Memory is refused only for a log that needs it: for a message of several frames, or for one that is complete.
-    ensures memory { (log : List ℕ) → Agrees (R.given reader.old) (R.given reader.new) (R.is_over reader.new) log
-        → result ≡ Err Fault.Memory → NeedsMemoryToCollect MESSAGE_LIMIT config.now log }
-
-    // What it did with the source. Nothing is written.
-    ensures read { ReadFrom R.Source Fault.Read config.now.max_bytes result reader.old reader.new }
-    ensures never_write { IfErr result (λ fault. fault ≢ Fault.Write) }
+    requires reader { HasLowCounts R.Source reader.old }
+    ensures ran { RanToCollect R.Source GivesMeaning MESSAGE_LIMIT config.now reader.old result reader.new }
 {
     match session_of(alloc, config, reader) {
         Ok(session) => {
@@ -70,14 +50,8 @@ pub(crate) fn session_of<R: Source>(
     config: &Config,
     reader: &mut R,
 ) -> Result<Session, Fault>
-    requires reader { AreLowCounts (R.reads reader.old) (length (R.given reader.old)) (R.failures reader.old) }
-    ensures answer { (log : List ℕ) → Agrees (R.given reader.old) (R.given reader.new) (R.is_over reader.new) log → GivesSession MESSAGE_LIMIT config.now log result }
-    ensures near { (log : List ℕ) → Agrees (R.given reader.old) (R.given reader.new) (R.is_over reader.new) log
-        → ReadsWhile (IsNotRefusedWithin MESSAGE_LIMIT config.now log) (length (R.given reader.new) - length (R.given reader.old)) (R.failures reader.old) (R.failures reader.new) }
-    ensures memory { (log : List ℕ) → Agrees (R.given reader.old) (R.given reader.new) (R.is_over reader.new) log
-        → result ≡ Err Fault.Memory → NeedsMemoryToCollect MESSAGE_LIMIT config.now log }
-    ensures read { ReadFrom R.Source Fault.Read config.now.max_bytes result reader.old reader.new }
-    ensures never_write { IfErr result (λ fault. fault ≢ Fault.Write) }
+    requires reader { HasLowCounts R.Source reader.old }
+    ensures ran { RanToCollect R.Source GivesSession MESSAGE_LIMIT config.now reader.old result reader.new }
 {
     let machine = Collector {
         alloc,
@@ -131,7 +105,8 @@ impl Collector {
         }
     }
 
-    /// Whether the canonical log is above the limit, and so with this message, too.
+    /// Whether the canonical log is above the limit, and so with this message, too: it is handed in for the contract, which
+    /// speaks of its bytes.
     #[inline(always)]
     fn is_over(&self, _dir: Dir, _bytes: &[u8]) -> bool
         ensures stays { result ≡ true → (settings : Settings) (M : List Message) → Collects settings M self.now.pairing self.now.length self.now.config

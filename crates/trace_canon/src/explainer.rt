@@ -1,13 +1,13 @@
 //! `explain`: a machine that says what became of each frame.
-ghost use Rattle.std.specs.Prelude.{ℕ, List, length, IfOk};
+ghost use Rattle.std.specs.Prelude.{ℕ, List, IfOk};
 ghost use Rattle.isotp_receive.specs.EventSeen.{seen_event, seen_verdict};
 ghost use Rattle.isotp_receive.specs.declared.TheConstants.{MESSAGE_LIMIT};
 ghost use Rattle.trace_canon.specs.ExplainScript.{dropped_text, end_text, ended_text, event_text, unfinished_line};
 ghost use Rattle.trace_canon.specs.ExplainScript.{explain_script};
 ghost use Rattle.trace_log.specs.Laws.{Certifies};
 ghost use Rattle.trace_run.specs.Told.{RanLenient, answers_counts, needs_none};
-ghost use Rattle.trace_io.specs.Stream.{Agrees};
-ghost use Rattle.trace_io.specs.Counted.{IsLowCount, AreLowCounts};
+ghost use Rattle.trace_io.specs.Counted.{IsLowCount};
+ghost use Rattle.trace_log.specs.Devices.{AgreesWith, HasLowCounts};
 
 use direction::Dir;
 use isotp_receive::{Ended, Event, Pair, Verdict};
@@ -28,14 +28,14 @@ pub fn explain<R: Source, W: Target>(
     reader: &mut R,
     writer: &mut W,
 ) -> Result<Summary, Fault>
-    requires reader { AreLowCounts (R.reads reader.old) (length (R.given reader.old)) (R.failures reader.old) }
+    requires reader { HasLowCounts R.Source reader.old }
     requires writer { IsLowCount (W.failures writer.old) }
 
     // What is answered and written; that it is written before more is read; and what was done with the devices.
     ensures ran { RanLenient R.Source W.Target (explain_script notation MESSAGE_LIMIT) answers_counts needs_none MESSAGE_LIMIT config.now reader.old writer.old result reader.new writer.new }
 
     // Where nothing was dropped, ended or left unfinished, the log is a recording.
-    ensures certificate { (log : List ℕ) → Agrees (R.given reader.old) (R.given reader.new) (R.is_over reader.new) log → IfOk result (Certifies MESSAGE_LIMIT config.now log) }
+    ensures certificate { (log : List ℕ) → AgreesWith R.Source reader.old reader.new log → IfOk result (Certifies MESSAGE_LIMIT config.now log) }
 {
     run_lenient(alloc, config, Explainer { notation }, reader, writer)
 }

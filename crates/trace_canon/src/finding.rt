@@ -1,7 +1,8 @@
 //! `find`: the pairs of identifiers that ask and answer, written once the log has ended.
-ghost use Rattle.std.specs.Prelude.{length, Err};
+ghost use Rattle.std.specs.Prelude.{Err};
 ghost use Rattle.trace_canon.specs.Found.{RanToFind};
-ghost use Rattle.trace_io.specs.Counted.{IsLowCount, AreLowCounts};
+ghost use Rattle.trace_io.specs.Counted.{IsLowCount};
+ghost use Rattle.trace_log.specs.Devices.{HasLowCounts};
 
 use crate::hearing::found_in;
 use crate::pair_lines::say_pairs;
@@ -23,7 +24,7 @@ pub fn find<R: Source, W: Target>(
     reader: &mut R,
     writer: &mut W,
 ) -> Result<Summary, Fault>
-    requires reader { AreLowCounts (R.reads reader.old) (length (R.given reader.old)) (R.failures reader.old) }
+    requires reader { HasLowCounts R.Source reader.old }
     requires writer { IsLowCount (W.failures writer.old) }
 
     ensures ran { RanToFind R.Source W.Target notation config.now reader.old writer.old result reader.new writer.new }

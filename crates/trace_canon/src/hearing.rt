@@ -1,15 +1,13 @@
 //! Which identifiers of a log ask, and which answer them. Every frame is heard, whatever its identifier: so this stands on
 //! the lines of a log, and no machine does it.
-ghost use Rattle.std.specs.Prelude.{◌≡◌, ◌≢◌, ◌-◌, ℕ, List, [], length, IfErr, IfOk, Err, Option};
+ghost use Rattle.std.specs.Prelude.{◌≡◌, List, ℕ, [], length, IfErr, IfOk, Option};
 ghost use Rattle.can_log.specs.declared.frame.Stamped.{Stamped as StampedValue};
-ghost use Rattle.trace_io.specs.Counted.{AreLowCounts};
-ghost use Rattle.trace_io.specs.Stream.{Agrees};
-ghost use Rattle.trace_log.specs.Answers.{ReadsWhile};
-ghost use Rattle.trace_log.specs.Devices.{ReadFrom};
 ghost use Rattle.trace_canon.specs.Found.{GivesFound, IsFoundOf, NeedsMemoryToFind, frames_in, summary_of_lines};
+ghost use Rattle.trace_canon.specs.Read.{RanToRead};
+ghost use Rattle.trace_canon.specs.proving.Hearing.{HasHeard};
+ghost use Rattle.trace_log.specs.Devices.{HasLowCounts};
 ghost use Rattle.trace_log.specs.Refusal.{HasNoBadPlaceWithin};
 ghost use Rattle.trace_log.specs.Summing.{ends_in_line_feed};
-ghost use Rattle.trace_canon.specs.proving.Hearing.{HasHeard};
 ghost use Rattle.uds_find.specs.Credit.{HasCredit};
 
 use can_log::{Stamped, Wanted};
@@ -31,13 +29,8 @@ pub(crate) fn found_in<R: Source>(
     config: &Config,
     reader: &mut R,
 ) -> Result<Found, Fault>
-    requires reader { AreLowCounts (R.reads reader.old) (length (R.given reader.old)) (R.failures reader.old) }
-    ensures answer { (log : List ℕ) → Agrees (R.given reader.old) (R.given reader.new) (R.is_over reader.new) log → GivesFound config.now log result }
-    ensures memory { (log : List ℕ) → Agrees (R.given reader.old) (R.given reader.new) (R.is_over reader.new) log → result ≡ Err Fault.Memory → NeedsMemoryToFind log }
-    ensures near { (log : List ℕ) → Agrees (R.given reader.old) (R.given reader.new) (R.is_over reader.new) log
-        → ReadsWhile (HasNoBadPlaceWithin log) (length (R.given reader.new) - length (R.given reader.old)) (R.failures reader.old) (R.failures reader.new) }
-    ensures read { ReadFrom R.Source Fault.Read config.now.max_bytes result reader.old reader.new }
-    ensures never_write { IfErr result (λ fault. fault ≢ Fault.Write) }
+    requires reader { HasLowCounts R.Source reader.old }
+    ensures ran { RanToRead R.Source (GivesFound config.now) HasNoBadPlaceWithin NeedsMemoryToFind config.now.max_bytes reader.old result reader.new }
 {
     let mut hearing = start(alloc);
     match feed_lines(config.max_bytes(), reader, &mut hearing, &mut ()) {

@@ -1,8 +1,9 @@
 //! A text of the items of a log, written once they are known: what a command says that needs the whole meaning.
-ghost use Rattle.std.specs.Prelude.{ℕ, length};
+ghost use Rattle.std.specs.Prelude.{ℕ};
 ghost use Rattle.isotp_receive.specs.declared.TheConstants.{MESSAGE_LIMIT};
 ghost use Rattle.trace_canon.specs.Listed.{RanOverItems};
-ghost use Rattle.trace_io.specs.Counted.{IsLowCount, AreLowCounts};
+ghost use Rattle.trace_io.specs.Counted.{IsLowCount};
+ghost use Rattle.trace_log.specs.Devices.{HasLowCounts};
 
 use crate::collector::session_of;
 use std::alloc::Global;
@@ -34,7 +35,7 @@ pub fn write_items<T: ItemText, R: Source, W: Target>(
     reader: &mut R,
     writer: &mut W,
 ) -> Result<Summary, Fault>
-    requires reader { AreLowCounts (R.reads reader.old) (length (R.given reader.old)) (R.failures reader.old) }
+    requires reader { HasLowCounts R.Source reader.old }
     requires writer { IsLowCount (W.failures writer.old) }
     ensures ran { RanOverItems R.Source W.Target (T.text text.now) MESSAGE_LIMIT config.now reader.old writer.old result reader.new writer.new }
 {

@@ -54,8 +54,8 @@ mod lister;
 mod message_objects;
 mod normaliser;
 mod pair_lines;
-mod place;
 mod placer;
+mod progress;
 mod stamp;
 mod watcher;
 

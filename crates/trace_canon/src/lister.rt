@@ -1,9 +1,9 @@
 //! `list`: the items of a log, written once they are known.
-ghost use Rattle.std.specs.Prelude.{length};
 ghost use Rattle.isotp_receive.specs.declared.TheConstants.{MESSAGE_LIMIT};
 ghost use Rattle.trace_text.specs.ListText.{list_text};
 ghost use Rattle.trace_canon.specs.Listed.{RanOverItems};
-ghost use Rattle.trace_io.specs.Counted.{IsLowCount, AreLowCounts};
+ghost use Rattle.trace_io.specs.Counted.{IsLowCount};
+ghost use Rattle.trace_log.specs.Devices.{HasLowCounts};
 
 use crate::item_text::{ItemText, write_items};
 use std::alloc::Global;
@@ -22,7 +22,7 @@ pub fn list<R: Source, W: Target>(
     reader: &mut R,
     writer: &mut W,
 ) -> Result<Summary, Fault>
-    requires reader { AreLowCounts (R.reads reader.old) (length (R.given reader.old)) (R.failures reader.old) }
+    requires reader { HasLowCounts R.Source reader.old }
     requires writer { IsLowCount (W.failures writer.old) }
     ensures ran { RanOverItems R.Source W.Target (list_text style) MESSAGE_LIMIT config.now reader.old writer.old result reader.new writer.new }
 {

@@ -1,21 +1,20 @@
 //! `normalise`: a machine that says the canonical log.
-ghost use Rattle.std.specs.Prelude.{◌≡◌, ◌-◌, ◌++◌, ℕ, List, length, OnOk, IfOk, Err};
+ghost use Rattle.std.specs.Prelude.{◌≡◌, ◌-◌, ◌++◌, ℕ, List, OnOk, IfOk, Err};
 ghost use Rattle.direction.specs.Dir.{Message};
 ghost use Rattle.isotp_receive.specs.declared.TheConstants.{MESSAGE_LIMIT};
 ghost use Rattle.uds_exchange.specs.Meaning.{meaning, flattened};
 ghost use Rattle.trace_log.specs.Answers.{Answers, ReadsWhile, WritesEagerly};
 ghost use Rattle.trace_log.specs.CanonicalLog.{canonical_log, canonical_log_of_lines};
 ghost use Rattle.trace_canon.specs.CanonicalScript.{StandsCanonical};
-ghost use Rattle.trace_log.specs.Devices.{ReadFrom, WroteTo};
+ghost use Rattle.trace_log.specs.Devices.{AgreesWith, bytes_given, ReadFrom, WroteTo, HasLowCounts};
 ghost use Rattle.trace_canon.specs.Keeping.{HasTextOf, NeedsMemoryToOrder};
 ghost use Rattle.trace_log.specs.declared.fault.Fault.TheVariants.{Memory, Write};
 ghost use Rattle.trace_log.specs.Laws.{IsCanonicalFor, Records, Certifies};
 ghost use Rattle.trace_log.specs.Refusal.{IsNotRefusedWithin};
-ghost use Rattle.trace_io.specs.Stream.{Agrees};
-ghost use Rattle.trace_io.specs.Counted.{IsLowCount, AreLowCounts};
+ghost use Rattle.trace_io.specs.Counted.{IsLowCount};
 
 use crate::canonical_sink::{finish_to, order_to};
-use crate::place::Place;
+use crate::progress::Progress;
 use isotp_receive::Pair;
 use std::alloc::{AllocError, Global};
 use trace_io::{Source, Target, TextSink};
@@ -32,47 +31,47 @@ pub fn normalise<R: Source, W: Target>(
     reader: &mut R,
     writer: &mut W,
 ) -> Result<Summary, Fault>
-    requires reader { AreLowCounts (R.reads reader.old) (length (R.given reader.old)) (R.failures reader.old) }
+    requires reader { HasLowCounts R.Source reader.old }
     requires writer { IsLowCount (W.failures writer.old) }
 
     // What is answered and written, for each log with which the bytes that were read agree.
-    ensures answer { (log : List ℕ) → Agrees (R.given reader.old) (R.given reader.new) (R.is_over reader.new) log
-        → Answers MESSAGE_LIMIT config.now log (length (R.given reader.new) - length (R.given reader.old)) result (W.taken writer.old) (W.taken writer.new) }
+    ensures answer { (log : List ℕ) → AgreesWith R.Source reader.old reader.new log
+        → Answers MESSAGE_LIMIT config.now log (bytes_given R.Source reader.old reader.new) result (W.taken writer.old) (W.taken writer.new) }
 
     // Before each read all is written whose place the lines so far decide.
-    ensures eager { (log : List ℕ) → Agrees (R.given reader.old) (R.given reader.new) (R.is_over reader.new) log
-        → WritesEagerly MESSAGE_LIMIT config.now log (length (R.given reader.new) - length (R.given reader.old)) (W.taken writer.old) (W.taken writer.new) }
+    ensures eager { (log : List ℕ) → AgreesWith R.Source reader.old reader.new log
+        → WritesEagerly MESSAGE_LIMIT config.now log (bytes_given R.Source reader.old reader.new) (W.taken writer.old) (W.taken writer.new) }
 
     // What is written is accepted, is its own canonical log, and has the meaning of the log.
-    ensures again { (log : List ℕ) → Agrees (R.given reader.old) (R.given reader.new) (R.is_over reader.new) log
+    ensures again { (log : List ℕ) → AgreesWith R.Source reader.old reader.new log
         → OnOk result ((text : List ℕ) → W.taken writer.new ≡ W.taken writer.old ++ text → IsCanonicalFor MESSAGE_LIMIT config.now log text) }
 
     // For a recording of messages their meaning's canonical log is written; and a summary that counts nothing dropped,
     // ended or unfinished certifies that the log is one.
-    ensures recording { (log : List ℕ) → Agrees (R.given reader.old) (R.given reader.new) (R.is_over reader.new) log → OnOk result ((M : List Message) → Records MESSAGE_LIMIT config.now log M
+    ensures recording { (log : List ℕ) → AgreesWith R.Source reader.old reader.new log → OnOk result ((M : List Message) → Records MESSAGE_LIMIT config.now log M
         → W.taken writer.new ≡ W.taken writer.old ++ canonical_log MESSAGE_LIMIT config.now (flattened (meaning M))) }
-    ensures certificate { (log : List ℕ) → Agrees (R.given reader.old) (R.given reader.new) (R.is_over reader.new) log → IfOk result (λ summary. Certifies MESSAGE_LIMIT config.now log summary) }
+    ensures certificate { (log : List ℕ) → AgreesWith R.Source reader.old reader.new log → IfOk result (λ summary. Certifies MESSAGE_LIMIT config.now log summary) }
 
     // Reading stops within one piece: of all bytes given but the last 4,096 none refuses the log, and of all where a read
     // failed.
-    ensures near { (log : List ℕ) → Agrees (R.given reader.old) (R.given reader.new) (R.is_over reader.new) log
-        → ReadsWhile (IsNotRefusedWithin MESSAGE_LIMIT config.now log) (length (R.given reader.new) - length (R.given reader.old)) (R.failures reader.old) (R.failures reader.new) }
+    ensures near { (log : List ℕ) → AgreesWith R.Source reader.old reader.new log
+        → ReadsWhile (IsNotRefusedWithin MESSAGE_LIMIT config.now log) (bytes_given R.Source reader.old reader.new) (R.failures reader.old) (R.failures reader.new) }
 
     // Memory is refused only for a log that needs it: for a message of several frames, or for one that is held.
-    ensures memory { (log : List ℕ) → Agrees (R.given reader.old) (R.given reader.new) (R.is_over reader.new) log
+    ensures memory { (log : List ℕ) → AgreesWith R.Source reader.old reader.new log
         → result ≡ Err Memory → NeedsMemoryToOrder MESSAGE_LIMIT config.now log }
 
     // Writing fails only where the lines read have a canonical line.
-    ensures some { (log : List ℕ) → Agrees (R.given reader.old) (R.given reader.new) (R.is_over reader.new) log
+    ensures some { (log : List ℕ) → AgreesWith R.Source reader.old reader.new log
         → result ≡ Err Write → HasTextOf (canonical_log_of_lines MESSAGE_LIMIT config.now) log }
 
     // What it did with the devices.
     ensures read { ReadFrom R.Source Fault.Read config.now.max_bytes result reader.old reader.new }
     ensures wrote { WroteTo W.Target Fault.Write result writer.old writer.new }
 {
-    let machine = Canonical {
+    let machine = Normaliser {
         orderer: JudgedOrderer::new(alloc),
-        place: Place::start(config),
+        progress: Progress::start(config),
         config: *config,
     };
     run(alloc, config, machine, reader, writer)
@@ -80,20 +79,20 @@ pub fn normalise<R: Source, W: Target>(
 
 /// Says the canonical lines of the messages, each as soon as its place is known.
 #[derive(Drop)]
-pub(crate) struct Canonical {
+pub(crate) struct Normaliser {
     pub orderer: JudgedOrderer,
-    pub place: Place,
+    pub progress: Progress,
     pub config: Config,
 }
 
-impl Machine for Canonical {
+impl Machine for Normaliser {
     ghost use Rattle.isotp_receive.specs.declared.TheConstants.{MESSAGE_LIMIT};
     ghost use Rattle.trace_canon.specs.Keeping.{CompletesHeld};
     ghost use Rattle.trace_canon.specs.CanonicalScript.{StandsCanonical, answers_canonical, canonical_script};
 
     type Answer = Summary;
 
-    ghost stands = { λ start T now. StandsCanonical start.config T now.orderer now.config now.place };
+    ghost stands = { λ start T now. StandsCanonical start.config T now.orderer now.config now.progress };
 
     ghost script = { λ start. canonical_script start.config };
 
@@ -114,7 +113,7 @@ impl Machine for Canonical {
         match order_to(
             &mut self.orderer,
             &self.config,
-            &mut self.place,
+            &mut self.progress,
             out,
             message,
         ) {
@@ -129,13 +128,13 @@ impl Machine for Canonical {
         summary: &Summary,
         out: &mut S,
     ) -> Result<Summary, Stop> {
-        let Canonical {
+        let Normaliser {
             orderer,
-            mut place,
+            mut progress,
             config,
         } = self;
-        finish_to(orderer, &config, &mut place, out);
-        if place.is_over() {
+        finish_to(orderer, &config, &mut progress, out);
+        if progress.is_over() {
             return Err(Stop::OutputLimit);
         }
         Ok(*summary)

@@ -1,9 +1,9 @@
 //! `messages`: a machine that says each message with its place in the log, as it is delivered.
-ghost use Rattle.std.specs.Prelude.{length};
 ghost use Rattle.isotp_receive.specs.declared.TheConstants.{MESSAGE_LIMIT};
 ghost use Rattle.trace_canon.specs.MessageLines.{extent_text, judged_at, placed_line, placed_text, placing_script};
 ghost use Rattle.trace_run.specs.Told.{RanLenient, answers_counts, needs_none};
-ghost use Rattle.trace_io.specs.Counted.{IsLowCount, AreLowCounts};
+ghost use Rattle.trace_io.specs.Counted.{IsLowCount};
+ghost use Rattle.trace_log.specs.Devices.{HasLowCounts};
 
 use crate::begun::{Begun, FramePlace};
 use crate::message_objects::say_message_object;
@@ -30,7 +30,7 @@ pub fn messages<R: Source, W: Target>(
     reader: &mut R,
     writer: &mut W,
 ) -> Result<Summary, Fault>
-    requires reader { AreLowCounts (R.reads reader.old) (length (R.given reader.old)) (R.failures reader.old) }
+    requires reader { HasLowCounts R.Source reader.old }
     requires writer { IsLowCount (W.failures writer.old) }
 
     // What is answered and written; that it is written before more is read; and what was done with the devices.

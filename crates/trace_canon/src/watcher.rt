@@ -1,5 +1,5 @@
 //! `watch`: a machine that says the line of each item as soon as it is decided.
-ghost use Rattle.std.specs.Prelude.{◌≡◌, ℕ, List, [], ◌∷◌, ◌++◌, length, OnOk, OnErr, Err};
+ghost use Rattle.std.specs.Prelude.{◌≡◌, ℕ, List, [], ◌∷◌, ◌++◌, OnOk, OnErr, Err};
 ghost use Rattle.direction.specs.Dir.{Message};
 ghost use Rattle.isotp_receive.specs.declared.TheConstants.{MESSAGE_LIMIT};
 ghost use Rattle.uds_exchange.specs.Judging.{IsJudgedAfter, sent};
@@ -9,8 +9,8 @@ ghost use Rattle.trace_canon.specs.Keeping.{CompletesKept};
 ghost use Rattle.trace_run.specs.Told.{RanLenient, answers_counts};
 ghost use Rattle.trace_canon.specs.WatchScript.{watching_script, WritesTheList};
 ghost use Rattle.trace_canon.specs.proving.Watching.{SaysDecided, SaysLines};
-ghost use Rattle.trace_io.specs.Stream.{Agrees};
-ghost use Rattle.trace_io.specs.Counted.{IsLowCount, AreLowCounts};
+ghost use Rattle.trace_io.specs.Counted.{IsLowCount};
+ghost use Rattle.trace_log.specs.Devices.{AgreesWith, HasLowCounts};
 
 use isotp_receive::Pair;
 use std::alloc::{AllocError, Global};
@@ -31,14 +31,14 @@ pub fn watch<R: Source, W: Target>(
     reader: &mut R,
     writer: &mut W,
 ) -> Result<Summary, Fault>
-    requires reader { AreLowCounts (R.reads reader.old) (length (R.given reader.old)) (R.failures reader.old) }
+    requires reader { HasLowCounts R.Source reader.old }
     requires writer { IsLowCount (W.failures writer.old) }
 
     // What is answered and written; that it is written before more is read; and what was done with the devices.
     ensures ran { RanLenient R.Source W.Target (watching_script style) answers_counts (CompletesKept MESSAGE_LIMIT) MESSAGE_LIMIT config.now reader.old writer.old result reader.new writer.new }
 
     // At the end of the log that is the list of its meaning.
-    ensures whole { (log : List ℕ) → Agrees (R.given reader.old) (R.given reader.new) (R.is_over reader.new) log
+    ensures whole { (log : List ℕ) → AgreesWith R.Source reader.old reader.new log
         → OnOk result (WritesTheList style MESSAGE_LIMIT config.now log (W.taken writer.old) (W.taken writer.new)) }
 {
     let machine = Watcher {

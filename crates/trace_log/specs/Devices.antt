@@ -1,10 +1,23 @@
 -- What a run does with the devices that it reads from and writes to.
-use Rattle.std.specs.Prelude.{◌≡◌, ◌≢◌, ℕ, ◌+◌, ◌-◌, ◌≤◌, length, true, Result, Err, OnOk}
+use Rattle.std.specs.Prelude.{◌≡◌, ◌≢◌, ℕ, ◌+◌, ◌-◌, ◌≤◌, List, length, true, Result, Err, OnOk}
 use Rattle.std.specs.Io.KnownBytes.{IsAtEnd}
-use Rattle.trace_io.specs.Stream.{Gave, Took}
+use Rattle.trace_io.specs.Counted.{AreLowCounts}
+use Rattle.trace_io.specs.Stream.{Agrees, Gave, Took}
 use Rattle.trace_io.specs.declared.device.Source.{Ghosts as SourceGhosts}
 use Rattle.trace_io.specs.declared.device.Target.{Ghosts as TargetGhosts}
 use Rattle.trace_log.specs.Failing.{FailedIf}
+
+-- a source whose counts are still far from where they would end
+abbrev pub HasLowCounts : {R : Type 0} → SourceGhosts R → R → Type 0
+HasLowCounts source now = AreLowCounts (source.reads now) (length (source.given now)) (source.failures now)
+
+-- what a source gave from one state of it on up to another agrees with this log
+abbrev pub AgreesWith : {R : Type 0} → SourceGhosts R → R → R → List ℕ → Type 0
+AgreesWith source before after log = Agrees (source.given before) (source.given after) (source.is_over after) log
+
+-- how many bytes it gave
+abbrev pub bytes_given : {R : Type 0} → SourceGhosts R → R → R → ℕ
+bytes_given source before after = length (source.given after) - length (source.given before)
 
 -- A source was read within a limit, up to this answer; `fault` is what a failed read is called.
 pub record ReadFrom {R A E : Type 0} (source : SourceGhosts R) (fault : E) (max_bytes : ℕ) (result : Result A E) (before after : R) : Type 0 where

@@ -1,10 +1,10 @@
 //! A log read piece by piece. What is due is written before each read.
 ghost use Rattle.std.specs.Prelude.{◌≡◌, ℕ, ◌+◌, ◌-◌, ◌^◌, ◌≤◌, List, [], length, OnOk, MatchResult, true};
 ghost use Rattle.std.specs.Io.KnownBytes.{IsAtEnd};
-ghost use Rattle.trace_io.specs.Counted.{AreLowCounts};
-ghost use Rattle.trace_io.specs.Stream.{Agrees, Gave};
+ghost use Rattle.trace_io.specs.Stream.{Gave};
 ghost use Rattle.trace_log.specs.Answers.{ReadsWhile};
 ghost use Rattle.trace_log.specs.Feeding.{TakesFront, FeedsLog, FeedsSome, CountsRead, WroteBefore};
+ghost use Rattle.trace_log.specs.Devices.{AgreesWith, bytes_given, HasLowCounts};
 
 use crate::fault::Fault;
 use crate::lines::{LineTaker, PIECE, take_last_line, take_lines};
@@ -24,20 +24,20 @@ pub fn feed_lines<R: Source, T: LineTaker>(
     device: &mut T::Device,
 ) -> Result<bool, Fault>
     requires limit { max_bytes ≤ 2 ^ 40 }
-    requires reader { AreLowCounts (R.reads reader.old) (length (R.given reader.old)) (R.failures reader.old) }
+    requires reader { HasLowCounts R.Source reader.old }
 
-    ensures lines { (log : List ℕ) → Agrees (R.given reader.old) (R.given reader.new) (R.is_over reader.new) log
+    ensures lines { (log : List ℕ) → AgreesWith R.Source reader.old reader.new log
         → (start : T × T.Device) → T.took start [] (taker.old, device.old)
-        → FeedsLog T.took T.rested T.broke T.stopped start max_bytes log (length (R.given reader.new) - length (R.given reader.old)) result (taker.new, device.new) }
+        → FeedsLog T.took T.rested T.broke T.stopped start max_bytes log (bytes_given R.Source reader.old reader.new) result (taker.new, device.new) }
 
-    ensures near { (log : List ℕ) → Agrees (R.given reader.old) (R.given reader.new) (R.is_over reader.new) log
+    ensures near { (log : List ℕ) → AgreesWith R.Source reader.old reader.new log
         → (start : T × T.Device) → T.took start [] (taker.old, device.old)
-        → ReadsWhile (TakesFront T.took start log) (length (R.given reader.new) - length (R.given reader.old)) (R.failures reader.old) (R.failures reader.new) }
+        → ReadsWhile (TakesFront T.took start log) (bytes_given R.Source reader.old reader.new) (R.failures reader.old) (R.failures reader.new) }
 
     // Before each read what was due was written: so the text of the lines that had ended before the last piece was.
-    ensures eager { (log : List ℕ) → Agrees (R.given reader.old) (R.given reader.new) (R.is_over reader.new) log
+    ensures eager { (log : List ℕ) → AgreesWith R.Source reader.old reader.new log
         → (start : T × T.Device) → T.took start [] (taker.old, device.old) → T.sure start [] (taker.old, device.old)
-        → WroteBefore T.sure start log (length (R.given reader.new) - length (R.given reader.old)) (taker.new, device.new) }
+        → WroteBefore T.sure start log (bytes_given R.Source reader.old reader.new) (taker.new, device.new) }
 
     ensures takes { (start : T × T.Device) → T.took start [] (taker.old, device.old)
         → FeedsSome T.took T.rested T.broke T.stopped start result (taker.new, device.new) }
@@ -47,7 +47,7 @@ pub fn feed_lines<R: Source, T: LineTaker>(
     ensures gave { Gave (R.given reader.old) (R.given reader.new) (R.remaining reader.old) (R.remaining reader.new) }
     ensures given { length (R.given reader.new) ≤ length (R.given reader.old) + max_bytes + 1 }
     ensures reads { R.reads reader.new ≤ R.reads reader.old + max_bytes + 1 }
-    ensures progress { R.reads reader.new ≤ R.reads reader.old + (length (R.given reader.new) - length (R.given reader.old)) + 1 }
+    ensures progress { R.reads reader.new ≤ R.reads reader.old + (bytes_given R.Source reader.old reader.new) + 1 }
     ensures failures { MatchResult result (λ _. R.failures reader.new ≡ R.failures reader.old)
         (λ fault. CountsRead fault (R.failures reader.old) (R.failures reader.new)) }
 {

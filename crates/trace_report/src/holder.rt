@@ -1,14 +1,12 @@
 //! Logs that are held as a whole: a machine that says nothing, and keeps the rows of a session.
-ghost use Rattle.std.specs.Prelude.{◌≡◌, ◌≢◌, ◌-◌, ℕ, List, [], ◌∷◌, ◌++◌, length, IfOk, IfErr, Err, OnOk, Some};
+ghost use Rattle.std.specs.Prelude.{◌≡◌, ◌≢◌, ◌-◌, ℕ, List, [], ◌∷◌, ◌++◌, IfOk, IfErr, Err, OnOk, Some};
 ghost use Rattle.isotp_receive.specs.declared.TheConstants.{MESSAGE_LIMIT};
 ghost use Rattle.isotp_receive.specs.Trace.{Entry};
 ghost use Rattle.trace_log.specs.Answers.{ReadsWhile};
 ghost use Rattle.trace_canon.specs.Compared.{fault_in};
 ghost use Rattle.trace_log.specs.declared.fault.Fault.{Fault as FaultValue};
-ghost use Rattle.trace_log.specs.Devices.{ReadFrom};
+ghost use Rattle.trace_log.specs.Devices.{AgreesWith, bytes_given, ReadFrom, HasLowCounts};
 ghost use Rattle.trace_log.specs.Refusal.{HasNoBadPlaceWithin};
-ghost use Rattle.trace_io.specs.Counted.{AreLowCounts};
-ghost use Rattle.trace_io.specs.Stream.{Agrees};
 ghost use Rattle.trace_report.specs.Held.{HoldsOne, HasOwnFrame, HoldsTwo};
 ghost use Rattle.trace_report.specs.proving.Following.{row_if, rows_in, times_of};
 ghost use Rattle.trace_report.specs.Session.{session_of};
@@ -34,12 +32,12 @@ pub fn hold_two<A: Source, B: Source>(
     left: &mut A,
     right: &mut B,
 ) -> Result<Held, CompareFault>
-    requires left { AreLowCounts (A.reads left.old) (length (A.given left.old)) (A.failures left.old) }
-    requires right { AreLowCounts (B.reads right.old) (length (B.given right.old)) (B.failures right.old) }
+    requires left { HasLowCounts A.Source left.old }
+    requires right { HasLowCounts B.Source right.old }
 
     // What is answered, for all logs with which the bytes that were read agree.
     ensures answer { (one other : List ℕ)
-        → Agrees (A.given left.old) (A.given left.new) (A.is_over left.new) one → Agrees (B.given right.old) (B.given right.new) (B.is_over right.new) other
+        → AgreesWith A.Source left.old left.new one → AgreesWith B.Source right.old right.new other
         → HoldsTwo MESSAGE_LIMIT config.now one other result }
 
     // After a fault of the first log nothing of the second was read.
@@ -47,15 +45,15 @@ pub fn hold_two<A: Source, B: Source>(
 
     // Reading stops within one piece: there is no refused place among all bytes given of a log but the last 4,096, and
     // none among all where a read of it failed.
-    ensures left_near { (one : List ℕ) → Agrees (A.given left.old) (A.given left.new) (A.is_over left.new) one
-        → ReadsWhile (HasNoBadPlaceWithin one) (length (A.given left.new) - length (A.given left.old)) (A.failures left.old) (A.failures left.new) }
-    ensures right_near { (other : List ℕ) → Agrees (B.given right.old) (B.given right.new) (B.is_over right.new) other
-        → ReadsWhile (HasNoBadPlaceWithin other) (length (B.given right.new) - length (B.given right.old)) (B.failures right.old) (B.failures right.new) }
+    ensures left_near { (one : List ℕ) → AgreesWith A.Source left.old left.new one
+        → ReadsWhile (HasNoBadPlaceWithin one) (bytes_given A.Source left.old left.new) (A.failures left.old) (A.failures left.new) }
+    ensures right_near { (other : List ℕ) → AgreesWith B.Source right.old right.new other
+        → ReadsWhile (HasNoBadPlaceWithin other) (bytes_given B.Source right.old right.new) (B.failures right.old) (B.failures right.new) }
 
     // Memory is refused only for a log that has a frame of one of the two sides.
-    ensures left_memory { (one : List ℕ) → Agrees (A.given left.old) (A.given left.new) (A.is_over left.new) one
+    ensures left_memory { (one : List ℕ) → AgreesWith A.Source left.old left.new one
         → result ≡ Err (CompareFault.Left Fault.Memory) → HasOwnFrame config.now one }
-    ensures right_memory { (other : List ℕ) → Agrees (B.given right.old) (B.given right.new) (B.is_over right.new) other
+    ensures right_memory { (other : List ℕ) → AgreesWith B.Source right.old right.new other
         → result ≡ Err (CompareFault.Right Fault.Memory) → HasOwnFrame config.now other }
 
     // What it did with the sources. Nothing is written.
@@ -76,11 +74,11 @@ pub fn hold_two<A: Source, B: Source>(
 
 /// Reads a log, and answers what it says.
 fn hold<R: Source>(alloc: Global, config: &Config, reader: &mut R) -> Result<HeldSession, Fault>
-    requires reader { AreLowCounts (R.reads reader.old) (length (R.given reader.old)) (R.failures reader.old) }
-    ensures answer { (log : List ℕ) → Agrees (R.given reader.old) (R.given reader.new) (R.is_over reader.new) log → HoldsOne MESSAGE_LIMIT config.now log result }
-    ensures near { (log : List ℕ) → Agrees (R.given reader.old) (R.given reader.new) (R.is_over reader.new) log
-        → ReadsWhile (HasNoBadPlaceWithin log) (length (R.given reader.new) - length (R.given reader.old)) (R.failures reader.old) (R.failures reader.new) }
-    ensures memory { (log : List ℕ) → Agrees (R.given reader.old) (R.given reader.new) (R.is_over reader.new) log → result ≡ Err Fault.Memory → HasOwnFrame config.now log }
+    requires reader { HasLowCounts R.Source reader.old }
+    ensures answer { (log : List ℕ) → AgreesWith R.Source reader.old reader.new log → HoldsOne MESSAGE_LIMIT config.now log result }
+    ensures near { (log : List ℕ) → AgreesWith R.Source reader.old reader.new log
+        → ReadsWhile (HasNoBadPlaceWithin log) (bytes_given R.Source reader.old reader.new) (R.failures reader.old) (R.failures reader.new) }
+    ensures memory { (log : List ℕ) → AgreesWith R.Source reader.old reader.new log → result ≡ Err Fault.Memory → HasOwnFrame config.now log }
     ensures read { ReadFrom R.Source Fault.Read config.now.max_bytes result reader.old reader.new }
     ensures never_write { IfErr result (λ fault. fault ≢ Fault.Write) }
 {

@@ -1,13 +1,14 @@
 //! `report`: a machine that says a session as a page, each row as its frame comes.
-ghost use Rattle.std.specs.Prelude.{◌≡◌, List, [], ◌∷◌, ◌++◌, length, Option};
+ghost use Rattle.std.specs.Prelude.{◌≡◌, List, [], ◌∷◌, ◌++◌, Option};
 ghost use Rattle.isotp_receive.specs.declared.TheConstants.{MESSAGE_LIMIT};
 ghost use Rattle.isotp_receive.specs.Trace.{Entry};
 ghost use Rattle.trace_run.specs.Told.{RanLenient, answers_counts, needs_none};
-ghost use Rattle.trace_io.specs.Counted.{IsLowCount, AreLowCounts};
+ghost use Rattle.trace_io.specs.Counted.{IsLowCount};
 ghost use Rattle.trace_report.specs.Front.{page_title};
 ghost use Rattle.trace_report.specs.Page.{first_time, front_before, last_time, page_end, refused_end, report_script};
 ghost use Rattle.trace_report.specs.proving.Following.{times_of};
 ghost use Rattle.trace_report.specs.proving.Pages.{title_of};
+ghost use Rattle.trace_log.specs.Devices.{HasLowCounts};
 
 use crate::blocks::say_block_end;
 use crate::chart::Chart;
@@ -34,7 +35,7 @@ pub fn report<R: Source, W: Target>(
     reader: &mut R,
     writer: &mut W,
 ) -> Result<Summary, Fault>
-    requires reader { AreLowCounts (R.reads reader.old) (length (R.given reader.old)) (R.failures reader.old) }
+    requires reader { HasLowCounts R.Source reader.old }
     requires writer { IsLowCount (W.failures writer.old) }
 
     // What is answered and written; that it is written before more is read; and what was done with the devices.

@@ -3,7 +3,6 @@
 use Rattle.std.specs.Prelude.{◌≡◌, ◌≢◌, ℕ, ◌-◌, ◌≤◌, List, [], ◌∷◌, ◌++◌, Option, Result, Ok, Err, IfErr, length, true, ◌⊎◌, ◌<◌, Bool, false, ⊤}
 use Rattle.can_log.specs.declared.frame.Stamped.{Stamped}
 use Rattle.isotp_receive.specs.Trace.{Entry}
-use Rattle.trace_io.specs.Stream.{Agrees}
 use Rattle.trace_io.specs.Written.{HasFront}
 use Rattle.trace_io.specs.declared.device.Source.{Ghosts as SourceGhosts}
 use Rattle.trace_io.specs.declared.device.Target.{Ghosts as TargetGhosts}
@@ -19,7 +18,7 @@ use Rattle.trace_log.specs.Trace.{trace}
 use Rattle.trace_log.specs.Summing.{summary_of}
 use Rattle.trace_log.specs.LinesRead.{AreReadBefore, WritesTextOfRead, WritesFrontOfRead}
 use Rattle.trace_log.specs.ReadAs.{no_line, too_long, takes_all, IsReadAs}
-use Rattle.trace_log.specs.Devices.{ReadFrom, WroteTo}
+use Rattle.trace_log.specs.Devices.{AgreesWith, bytes_given, ReadFrom, WroteTo}
 use Rattle.trace_log.specs.Needing.{HasFrame, IsKeptForMessage, NeedsMemoryToReceive}
 use Rattle.trace_log.specs.Refusal.{announces_within, HasNoBadPlaceWithin, IsNotRefusedWithin}
 
@@ -189,18 +188,18 @@ pub record TellsEagerly (script : Script) (limit : ℕ) (settings : Settings) (l
 pub record Ran {R W A : Type 0} (source : SourceGhosts R) (target : TargetGhosts W) (script : Script) (answers : Answering A) (needs : List Entry → Entry → Type 0) (limit : ℕ) (settings : Settings) (before : R) (old : W)
     (result : Result A Fault) (after : R) (new : W) : Type 0 where
   -- what is answered and written, for each log with which the bytes that were read agree
-  pub answer : (log : List ℕ) → Agrees (source.given before) (source.given after) (source.is_over after) log
-      → AnswersTold script answers limit settings log (length (source.given after) - length (source.given before)) result (target.taken old) (target.taken new)
+  pub answer : (log : List ℕ) → AgreesWith source before after log
+      → AnswersTold script answers limit settings log (bytes_given source before after) result (target.taken old) (target.taken new)
   -- before each read what was told was written
-  pub eager : (log : List ℕ) → Agrees (source.given before) (source.given after) (source.is_over after) log
-      → TellsEagerly script limit settings log (length (source.given after) - length (source.given before)) (target.taken old) (target.taken new)
+  pub eager : (log : List ℕ) → AgreesWith source before after log
+      → TellsEagerly script limit settings log (bytes_given source before after) (target.taken old) (target.taken new)
   -- memory is refused only for a log that needs it: for a message of several frames, or for a frame for which the
   -- machine needs some
-  pub memory : (log : List ℕ) → Agrees (source.given before) (source.given after) (source.is_over after) log
+  pub memory : (log : List ℕ) → AgreesWith source before after log
       → result ≡ Err Memory → HasFrame (λ T e. IsKeptForMessage limit T e ⊎ needs T e) settings log
   -- reading stops within one piece
-  pub near : (log : List ℕ) → Agrees (source.given before) (source.given after) (source.is_over after) log
-      → ReadsWhile (StopsNothingWithin script.strict limit settings log) (length (source.given after) - length (source.given before)) (source.failures before) (source.failures after)
+  pub near : (log : List ℕ) → AgreesWith source before after log
+      → ReadsWhile (StopsNothingWithin script.strict limit settings log) (bytes_given source before after) (source.failures before) (source.failures after)
   -- what it did with its devices
   pub read : ReadFrom source Read settings.max_bytes result before after
   pub wrote : WroteTo target Write result old new
@@ -214,11 +213,11 @@ pub record RanLenient {R W A : Type 0} (source : SourceGhosts R) (target : Targe
     (result : Result A Fault) (after : R) (new : W) : Type 0 where
   pub run : Ran source target script answers needs limit settings before old result after new
   -- reading stops within one piece of a refused place
-  pub near : (log : List ℕ) → Agrees (source.given before) (source.given after) (source.is_over after) log
-      → ReadsWhile (HasNoBadPlaceWithin log) (length (source.given after) - length (source.given before)) (source.failures before) (source.failures after)
+  pub near : (log : List ℕ) → AgreesWith source before after log
+      → ReadsWhile (HasNoBadPlaceWithin log) (bytes_given source before after) (source.failures before) (source.failures after)
   -- no announced length refuses a log, and no canonical log
   pub never_oversize : IfErr result (λ fault. (line announced : ℕ) → fault ≢ Oversize line announced)
   pub never_output_limit : IfErr result (λ fault. fault ≢ OutputLimit)
   -- where the machine needs no memory, it is refused only for a message of several frames
-  pub memory : ((T : List Entry) (e : Entry) → needs T e → ⊥) → (log : List ℕ) → Agrees (source.given before) (source.given after) (source.is_over after) log
+  pub memory : ((T : List Entry) (e : Entry) → needs T e → ⊥) → (log : List ℕ) → AgreesWith source before after log
       → result ≡ Err Memory → NeedsMemoryToReceive limit settings log

@@ -3,8 +3,9 @@ ghost use Rattle.std.specs.Prelude.{◌≡◌, ℕ, List, [], length, Err, Optio
 ghost use Rattle.can_log.specs.declared.frame.Stamped.{Stamped as StampedValue};
 ghost use Rattle.isotp_receive.specs.declared.TheConstants.{MESSAGE_LIMIT};
 ghost use Rattle.isotp_receive.specs.Trace.{Entry};
-ghost use Rattle.trace_io.specs.Counted.{IsLowCount, AreLowCounts};
-ghost use Rattle.trace_run.specs.proving.Carrying.{Begins, Carries, SettlesAs, Tells, EndsTelling, GivesUp, RefusesTelling};
+ghost use Rattle.trace_io.specs.Counted.{IsLowCount};
+ghost use Rattle.trace_run.specs.proving.Carrying.{Begins, CarriesPage, SettlesPageAs, EndsTelling, GivesUp, RefusesTelling};
+ghost use Rattle.trace_run.specs.proving.Telling.{HasTold};
 ghost use Rattle.trace_log.specs.proving.Receiving.{Receives};
 ghost use Rattle.trace_log.specs.Settings.{Settings};
 ghost use Rattle.trace_log.specs.Summing.{ends_in_line_feed};
@@ -12,6 +13,7 @@ ghost use Rattle.trace_run.specs.Told.{Ran, RanLenient};
 ghost use Rattle.trace_log.specs.Trace.{trace};
 ghost use Rattle.trace_run.specs.declared.machine.Stop.TheVariants.{OutputLimit};
 ghost use Rattle.trace_log.specs.declared.summary.Summary.{Summary as SummaryValue};
+ghost use Rattle.trace_log.specs.Devices.{HasLowCounts};
 
 use crate::machine::{Machine, Stop};
 use crate::page::{Page, settle};
@@ -34,7 +36,7 @@ pub fn run<M: Machine + Drop, R: Source, W: Target>(
     writer: &mut W,
 ) -> Result<M::Answer, Fault>
     requires machine { M.stands machine [] machine }
-    requires reader { AreLowCounts (R.reads reader.old) (length (R.given reader.old)) (R.failures reader.old) }
+    requires reader { HasLowCounts R.Source reader.old }
     requires writer { IsLowCount (W.failures writer.old) }
     ensures ran { Ran R.Source W.Target (M.script machine) (M.answers machine) (M.needs machine) MESSAGE_LIMIT config.now reader.old writer.old result reader.new writer.new }
 {
@@ -57,7 +59,7 @@ pub fn run_lenient<M: Machine + Drop, R: Source, W: Target>(
     requires machine { M.stands machine [] machine }
     requires lenient { (M.script machine).strict ≡ false }
     requires has_answer { (T : List Entry) (summary : SummaryValue) → M.answers machine T summary (Err OutputLimit) → ⊥ }
-    requires reader { AreLowCounts (R.reads reader.old) (length (R.given reader.old)) (R.failures reader.old) }
+    requires reader { HasLowCounts R.Source reader.old }
     requires writer { IsLowCount (W.failures writer.old) }
     ensures ran { RanLenient R.Source W.Target (M.script machine) (M.answers machine) (M.needs machine) MESSAGE_LIMIT config.now reader.old writer.old result reader.new writer.new }
 {
@@ -88,7 +90,7 @@ fn stop<M: Machine + Drop, W: Target>(
     receiver: Receiver<M, W>,
     target: &mut W,
 ) -> Fault
-    ensures { SettlesAs fault W.Target receiver.telling.page.failed receiver.telling.page.block target.old result target.new }
+    ensures { SettlesPageAs fault W.Target receiver.telling.page target.old result target.new }
 {
     let Receiver { telling, .. } = receiver;
     let Telling { mut page, .. } = telling;
@@ -119,7 +121,7 @@ fn refuse<M: Machine, W: Target>(why: Fault, receiver: Receiver<M, W>, target: &
 
 /// Writes what was said before a fault, and answers what that is called.
 fn settle_before<W: Target>(fault: Fault, target: &mut W, page: &mut Page) -> Fault
-    ensures { SettlesAs fault W.Target page.old.failed page.old.block target.old result target.new }
+    ensures { SettlesPageAs fault W.Target page.old target.old result target.new }
 {
     if settle(target, page) {
         fault
@@ -136,12 +138,11 @@ fn finish<M: Machine, W: Target>(
 ) -> Result<M::Answer, Fault>
     ensures ends { (start : W) (first : M) (settings : Settings) (log : List ℕ) (meanings : List (Option StampedValue))
         → Receives settings meanings receiver.pair receiver.lines receiver.counts → ended ≡ ends_in_line_feed log
-        → Tells (M.stands first) W.Target (M.script first) start (trace settings meanings) receiver.telling.machine receiver.telling.judge
-        receiver.telling.page.failed receiver.telling.page.block target.old
+        → HasTold M.stands M.script W.Target start first (trace settings meanings) receiver.telling target.old
         → EndsTelling W.Target (M.script first) (M.answers first) start settings log meanings result target.new }
     ensures more { (mid : W) (said : List ℕ) (first : M) (settings : Settings) (meanings : List (Option StampedValue))
         → Receives settings meanings receiver.pair receiver.lines receiver.counts → M.stands first (trace settings meanings) receiver.telling.machine
-        → Carries W.Target mid said receiver.telling.page.failed receiver.telling.page.block target.old → Begins (W.taken mid) (W.taken target.new) }
+        → CarriesPage W.Target mid said receiver.telling.page target.old → Begins (W.taken mid) (W.taken target.new) }
 {
     let Receiver {
         pair,

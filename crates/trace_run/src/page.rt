@@ -1,6 +1,6 @@
 //! The page that text is gathered on, between a machine and the target.
 ghost use Rattle.std.specs.Prelude.{◌≡◌, ◌<◌, [], ◌++◌, length, true, false};
-ghost use Rattle.trace_run.specs.proving.Carrying.{Speaks, Settles, SaysNoMore};
+ghost use Rattle.trace_run.specs.proving.Carrying.{SaysToPage, WritesPage, KeepsPage};
 
 use crate::block::{Block, gather};
 use trace_io::{MOST_FAILURES, Target, TextSink, write_all};
@@ -35,11 +35,11 @@ pub(crate) struct Drain<'a, W> {
 impl<'a, W: Target> TextSink for Drain<'a, W> {
     ghost use Rattle.std.specs.Prelude.{◌≡◌};
     ghost use Rattle.std.proofs.Common.{refl, ◌∙◌};
-    ghost use Rattle.trace_run.specs.proving.Carrying.{Speaks};
+    ghost use Rattle.trace_run.specs.proving.Carrying.{SaysToPage};
     ghost use Rattle.trace_run.specs.proving.Drains.{speaks_nothing, speaks_onward};
 
     ghost says = { λ s text t. (t.target.ghost_name ≡ s.target.ghost_name) × (t.page.ghost_name ≡ s.page.ghost_name)
-        × Speaks W.Target s.page.now.failed s.page.now.block s.target.now text t.page.now.failed t.page.now.block t.target.now };
+        × SaysToPage W.Target s.page.now s.target.now text t.page.now t.target.now };
 
     ghost nothing = { λ s. (refl, refl, speaks_nothing W.Target s.page.now.failed s.page.now.block s.target.now) };
 
@@ -69,7 +69,7 @@ impl<'a, W: Target> TextSink for Drain<'a, W> {
 /// stands apart.
 #[inline(always)]
 fn put_text<W: Target>(target: &mut W, page: &mut Page, text: &[u8])
-    ensures { Speaks W.Target page.old.failed page.old.block target.old text.now page.new.failed page.new.block target.new }
+    ensures { SaysToPage W.Target page.old target.old text.now page.new target.new }
 {
     if !page.block.take(text) {
         put_anew(target, page, text);
@@ -81,7 +81,7 @@ fn put_text<W: Target>(target: &mut W, page: &mut Page, text: &[u8])
 #[inline(never)]
 fn put_anew<W: Target>(target: &mut W, page: &mut Page, text: &[u8])
     requires { 0 < length text.now }
-    ensures { Speaks W.Target page.old.failed page.old.block target.old text.now page.new.failed page.new.block target.new }
+    ensures { SaysToPage W.Target page.old target.old text.now page.new target.new }
 {
     if page.failed {
         return;
@@ -97,7 +97,7 @@ fn put_anew<W: Target>(target: &mut W, page: &mut Page, text: &[u8])
 /// Puts a text on the page that no write is to end within.
 #[inline(always)]
 fn put_whole<W: Target>(target: &mut W, page: &mut Page, text: &[u8])
-    ensures { Speaks W.Target page.old.failed page.old.block target.old text.now page.new.failed page.new.block target.new }
+    ensures { SaysToPage W.Target page.old target.old text.now page.new target.new }
 {
     if !page.block.take(text) {
         put_whole_anew(target, page, text);
@@ -107,7 +107,7 @@ fn put_whole<W: Target>(target: &mut W, page: &mut Page, text: &[u8])
 /// Puts such a text on a page that has no room for it: what is on the page is written first.
 #[inline(never)]
 fn put_whole_anew<W: Target>(target: &mut W, page: &mut Page, text: &[u8])
-    ensures { Speaks W.Target page.old.failed page.old.block target.old text.now page.new.failed page.new.block target.new }
+    ensures { SaysToPage W.Target page.old target.old text.now page.new target.new }
 {
     let _ = settle(target, page);
     put_text(target, page, text);
@@ -117,8 +117,7 @@ fn put_whole_anew<W: Target>(target: &mut W, page: &mut Page, text: &[u8])
 /// by covering loads.
 #[inline(always)]
 fn put_three<W: Target>(target: &mut W, page: &mut Page, first: &[u8], second: &[u8], third: &[u8])
-    ensures { Speaks W.Target page.old.failed page.old.block target.old (first.now ++ second.now ++ third.now)
-        page.new.failed page.new.block target.new }
+    ensures { SaysToPage W.Target page.old target.old (first.now ++ second.now ++ third.now) page.new target.new }
 {
     if !page.block.take_three(first, second, third) {
         put_three_anew(target, page, first, second, third);
@@ -135,8 +134,7 @@ fn put_three_anew<W: Target>(
     second: &[u8],
     third: &[u8],
 )
-    ensures { Speaks W.Target page.old.failed page.old.block target.old (first.now ++ second.now ++ third.now)
-        page.new.failed page.new.block target.new }
+    ensures { SaysToPage W.Target page.old target.old (first.now ++ second.now ++ third.now) page.new target.new }
 {
     let _ = settle(target, page);
     if page.block.take_three(first, second, third) {
@@ -149,10 +147,10 @@ fn put_three_anew<W: Target>(
 
 /// Writes what is on the page. Answers whether all that was said is written.
 pub(crate) fn settle<W: Target>(target: &mut W, page: &mut Page) -> bool
-    ensures settled { Settles W.Target page.old.failed page.old.block target.old result target.new }
+    ensures settled { WritesPage W.Target page.old target.old result target.new }
     ensures well { result ≡ true → page.new.failed ≡ false }
     ensures blank { result ≡ true → page.new.block ≡ [] }
-    ensures no_more { SaysNoMore W.Target page.old.failed page.old.block target.old page.new.failed page.new.block target.new }
+    ensures no_more { KeepsPage W.Target page.old target.old page.new target.new }
 {
     if page.failed || target.failures() > MOST_FAILURES {
         return false;

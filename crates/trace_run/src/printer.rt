@@ -1,6 +1,6 @@
 //! A text that is known as a whole, written by way of a page of its own.
 ghost use Rattle.trace_run.specs.Printed.{Prints};
-ghost use Rattle.trace_run.specs.proving.Carrying.{Speaks};
+ghost use Rattle.trace_run.specs.proving.Carrying.{SaysToPage};
 ghost use Rattle.trace_io.specs.Counted.{IsLowCount};
 
 use crate::page::{Drain, Page, settle};
@@ -35,7 +35,7 @@ pub fn print<P: Printable, W: Target>(printable: &P, target: &mut W) -> Result<(
 
 /// Says it to a page.
 fn put<P: Printable, W: Target>(printable: &P, target: &mut W, page: &mut Page)
-    ensures { Speaks W.Target page.old.failed page.old.block target.old (P.text printable.now) page.new.failed page.new.block target.new }
+    ensures { SaysToPage W.Target page.old target.old (P.text printable.now) page.new target.new }
 {
     let mut out = Drain { target, page };
     printable.say(&mut out);

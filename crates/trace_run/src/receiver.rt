@@ -1,21 +1,14 @@
 //! The frames of a log received: what each does, and what is counted.
-ghost use Rattle.std.specs.Prelude.{◌≡◌, ◌^◌, ◌<◌, List, [], ◌∷◌, ◌++◌, length, OnOk, IfErr, Some, true, false};
-ghost use Rattle.can_log.specs.declared.frame.Stamped.{Stamped as StampedValue};
-ghost use Rattle.isotp_receive.specs.declared.TheConstants.{MESSAGE_LIMIT};
-ghost use Rattle.isotp_pdu.specs.Reading.{layout_of};
-ghost use Rattle.isotp_receive.specs.Capacities.{CapacitiesGrow};
+ghost use Rattle.std.specs.Prelude.{◌≡◌, List, IfErr};
 ghost use Rattle.isotp_receive.specs.EventSeen.{seen_event};
-ghost use Rattle.isotp_receive.specs.StandingReception.{receptions_after};
 ghost use Rattle.isotp_receive.specs.Trace.{Entry};
-ghost use Rattle.isotp_receive.specs.Verdict.{verdict};
-ghost use Rattle.trace_run.specs.Seen.{IsEventOf};
-ghost use Rattle.trace_run.specs.proving.Telling.{TellsFrame};
+ghost use Rattle.trace_run.specs.proving.Telling.{IsFrameEvent, TellsFrame};
 ghost use Rattle.trace_log.specs.Summing.{counted_more};
 ghost use Rattle.trace_log.specs.Feeding.{IsOfTaker};
 
 use crate::machine::Machine;
-use crate::telling::Telling;
-use can_log::{Frame, Stamped, Wanted};
+use crate::telling::{FrameEvent, Telling};
+use can_log::{Stamped, Wanted};
 use direction::Dir;
 use isotp_receive::{Event, Pair, Verdict};
 use trace_io::Target;
@@ -58,35 +51,28 @@ impl<M: Machine, W: Target> LineTaker for Receiver<M, W> {
     ghost use Rattle.can_log.specs.declared.frame.Stamped.{Stamped as StampedValue};
     ghost use Rattle.trace_log.specs.Settings.{direction_of};
     ghost use Rattle.trace_log.specs.Trace.{trace};
-    ghost use Rattle.std.specs.Prelude.{◌≤◌, ◌^◌, [], true, false};
-    ghost use Rattle.trace_run.specs.proving.Carrying.{Tells, StopsTelling, WroteTold};
-    ghost use Rattle.trace_run.specs.proving.Telling.{HasTold, HasToldNothing};
-    ghost use Rattle.trace_log.specs.proving.Receiving.{Receives, entry_in, IsStart};
+    ghost use Rattle.std.specs.Prelude.{◌≤◌, ◌^◌, true, false};
+    ghost use Rattle.trace_run.specs.proving.Telling.{HasReceived, HasStopped, HasTold, HasToldNothing, HasWritten, HasWrittenAtLeast};
+    ghost use Rattle.trace_log.specs.proving.Receiving.{entry_in, IsStart};
 
     type Device = W;
 
-    ghost took = { λ s meanings t. (t.0.config ≡ s.0.config)
-        × (IsStart s.0.pair s.0.lines s.0.counts
-        → Receives s.0.config meanings t.0.pair t.0.lines t.0.counts × (HasToldNothing M.stands s.0.telling → W.failures s.1 ≤ 2 ^ 62
-        → HasTold M.stands M.script W.Target s.1 s.0.telling.machine (trace s.0.config meanings) t.0.telling t.1)) };
+    ghost took = { λ s meanings t. HasReceived M.stands W.Target s.0 s.1 meanings t.0
+        (HasTold M.stands M.script W.Target s.1 s.0.telling.machine (trace s.0.config meanings) t.0.telling t.1) };
 
-    ghost rested = { λ s meanings t. (t.0.config ≡ s.0.config)
-        × (IsStart s.0.pair s.0.lines s.0.counts
-        → Receives s.0.config meanings t.0.pair t.0.lines t.0.counts × (HasToldNothing M.stands s.0.telling → W.failures s.1 ≤ 2 ^ 62
-        → Tells (M.stands s.0.telling.machine) W.Target (M.script s.0.telling.machine) s.1 (trace s.0.config meanings) t.0.telling.machine t.0.telling.judge false [] t.1)) };
+    ghost rested = { λ s meanings t. HasReceived M.stands W.Target s.0 s.1 meanings t.0
+        (HasWritten M.stands M.script W.Target s.1 s.0.telling.machine (trace s.0.config meanings) t.0.telling false t.1) };
 
-    ghost broke = { λ s meanings t. (t.0.config ≡ s.0.config)
-        × (IsStart s.0.pair s.0.lines s.0.counts
-        → Receives s.0.config meanings t.0.pair t.0.lines t.0.counts × (HasToldNothing M.stands s.0.telling → W.failures s.1 ≤ 2 ^ 62
-        → Tells (M.stands s.0.telling.machine) W.Target (M.script s.0.telling.machine) s.1 (trace s.0.config meanings) t.0.telling.machine t.0.telling.judge true [] t.1)) };
+    ghost broke = { λ s meanings t. HasReceived M.stands W.Target s.0 s.1 meanings t.0
+        (HasWritten M.stands M.script W.Target s.1 s.0.telling.machine (trace s.0.config meanings) t.0.telling true t.1) };
 
     ghost stopped = { λ s meanings what fault t. IsStart s.0.pair s.0.lines s.0.counts
         → (stamped : StampedValue) × (d : DirValue) × (what ≡ Some stamped) × (Some d ≡ direction_of s.0.config stamped.frame.id)
         × (HasToldNothing M.stands s.0.telling → W.failures s.1 ≤ 2 ^ 62
-        → StopsTelling W.Target (M.script s.0.telling.machine) (M.needs s.0.telling.machine) s.1 (trace s.0.config meanings) (entry_in meanings stamped d) fault t.0.telling.page.failed t.0.telling.page.block t.1) };
+        → HasStopped M.script M.needs W.Target s.1 s.0.telling.machine (trace s.0.config meanings) (entry_in meanings stamped d) fault t.0.telling t.1) };
 
     ghost sure = { λ s first t. IsStart s.0.pair s.0.lines s.0.counts → HasToldNothing M.stands s.0.telling → W.failures s.1 ≤ 2 ^ 62
-        → WroteTold W.Target (M.script s.0.telling.machine) s.1 (trace s.0.config first) t.0.telling.page.failed t.0.telling.page.block t.1 };
+        → HasWrittenAtLeast M.script W.Target s.1 s.0.telling.machine (trace s.0.config first) t.0.telling t.1 };
 
     ghost wants = { λ s first second. (first ≡ s.config.tester) × (second ≡ s.config.unit) };
 
@@ -112,43 +98,48 @@ impl<M: Machine, W: Target> LineTaker for Receiver<M, W> {
         let Some(dir) = self.config.direction_of(stamped.frame.id()) else {
             return Ok(());
         };
-        receive(
-            &mut self.pair,
-            &mut self.counts,
-            &mut self.telling,
-            device,
-            line,
-            stamped.micros,
-            dir,
-            &stamped.frame,
-        )
+        self.receive(device, line, dir, stamped)
     }
 }
 
-/// Takes one more frame of a direction. A pair asks for memory only where the frame's bytes are kept for a message of
-/// several frames.
-fn receive<M: Machine, W: Target>(
-    pair: &mut Pair,
-    counts: &mut Summary,
-    telling: &mut Telling<M, W>,
-    target: &mut W,
-    line: u64,
-    micros: u64,
-    dir: Dir,
-    frame: &Frame,
-) -> Result<(), Fault>
-    ensures fault { IfErr result IsOfTaker }
-    ensures pair { OnOk result ((T : List Entry) → pair.old.receptions ≡ receptions_after MESSAGE_LIMIT T
-        → pair.new.receptions ≡ receptions_after MESSAGE_LIMIT (T ++ record { line = line; micros = micros; dir = dir; frame = frame.now } ∷ [])) }
-    ensures grew { OnOk result (CapacitiesGrow MESSAGE_LIMIT dir (layout_of frame.now) pair.old pair.new) }
-    ensures counts { OnOk result ((T : List Entry) → pair.old.receptions ≡ receptions_after MESSAGE_LIMIT T
-        → counts.new ≡ counted_more dir (verdict MESSAGE_LIMIT T (record { line = line; micros = micros; dir = dir; frame = frame.now })) counts.old) }
-    ensures told { (T : List Entry) → pair.old.receptions ≡ receptions_after MESSAGE_LIMIT T → length T < 2 ^ 62
-        → TellsFrame M.stands M.script M.needs W.Target T (record { line = line; micros = micros; dir = dir; frame = frame.now }) telling.old target.old result telling.new target.new }
-{
-    match pair.accept(line, micros, dir, frame) {
-        Ok(event) => hand_on(counts, telling, target, line, micros, dir, event),
-        Err(_refused) => Err(Fault::Memory),
+impl<M: Machine, W: Target> Receiver<M, W> {
+    ghost use Rattle.std.specs.Prelude.{◌≡◌, ◌^◌, ◌<◌, List, [], ◌∷◌, ◌++◌, length, OnOk, IfErr};
+    ghost use Rattle.isotp_pdu.specs.Reading.{layout_of};
+    ghost use Rattle.isotp_receive.specs.Capacities.{CapacitiesGrow};
+    ghost use Rattle.isotp_receive.specs.StandingReception.{receptions_after};
+    ghost use Rattle.isotp_receive.specs.Trace.{Entry};
+    ghost use Rattle.isotp_receive.specs.Verdict.{verdict};
+    ghost use Rattle.isotp_receive.specs.declared.TheConstants.{MESSAGE_LIMIT};
+    ghost use Rattle.trace_log.specs.Feeding.{IsOfTaker};
+    ghost use Rattle.trace_log.specs.Summing.{counted_more};
+    ghost use Rattle.trace_log.specs.proving.Receiving.{entry_at};
+    ghost use Rattle.trace_run.specs.proving.Telling.{TellsFrame};
+
+    /// Takes one more frame of a direction. A pair asks for memory only where the frame's bytes are kept for a message of
+    /// several frames.
+    fn receive(&mut self, device: &mut W, line: u64, dir: Dir, stamped: &Stamped) -> Result<(), Fault>
+        ensures same { (self.new.config ≡ self.old.config) × (self.new.lines ≡ self.old.lines) }
+        ensures fault { IfErr result IsOfTaker }
+        ensures pair { OnOk result ((T : List Entry) → self.old.pair.receptions ≡ receptions_after MESSAGE_LIMIT T
+            → self.new.pair.receptions ≡ receptions_after MESSAGE_LIMIT (T ++ entry_at line stamped.now dir ∷ [])) }
+        ensures grew { OnOk result (CapacitiesGrow MESSAGE_LIMIT dir (layout_of stamped.now.frame) self.old.pair self.new.pair) }
+        ensures counts { OnOk result ((T : List Entry) → self.old.pair.receptions ≡ receptions_after MESSAGE_LIMIT T
+            → self.new.counts ≡ counted_more dir (verdict MESSAGE_LIMIT T (entry_at line stamped.now dir)) self.old.counts) }
+        ensures told { (T : List Entry) → self.old.pair.receptions ≡ receptions_after MESSAGE_LIMIT T → length T < 2 ^ 62
+            → TellsFrame M.stands M.script M.needs W.Target T (entry_at line stamped.now dir) self.old.telling device.old result self.new.telling device.new }
+    {
+        match self.pair.accept(line, stamped.micros, dir, &stamped.frame) {
+            Ok(event) => {
+                let frame = FrameEvent {
+                    line,
+                    micros: stamped.micros,
+                    dir,
+                    event,
+                };
+                hand_on(&mut self.counts, &mut self.telling, device, frame)
+            }
+            Err(_refused) => Err(Fault::Memory),
+        }
     }
 }
 
@@ -159,30 +150,27 @@ fn hand_on<M: Machine, W: Target>(
     counts: &mut Summary,
     telling: &mut Telling<M, W>,
     target: &mut W,
-    line: u64,
-    micros: u64,
-    dir: Dir,
-    event: Event<'_>,
+    frame: FrameEvent<'_>,
 ) -> Result<(), Fault>
     ensures fault { IfErr result IsOfTaker }
-    ensures counts { counts.new ≡ counted_more dir (seen_event event.entry) counts.old }
-    ensures told { (T : List Entry) (e : Entry) → IsEventOf T e line micros dir event.entry
+    ensures counts { counts.new ≡ counted_more frame.entry.dir (seen_event frame.entry.event) counts.old }
+    ensures told { (T : List Entry) (e : Entry) → IsFrameEvent T e frame.entry
         → TellsFrame M.stands M.script M.needs W.Target T e telling.old target.old result telling.new target.new }
 {
-    let ended = event.ended;
-    match event.verdict {
+    let ended = frame.event.ended;
+    match frame.event.verdict {
         Verdict::Message(message) => {
             let verdict = Verdict::Message(message);
             let event = Event { verdict, ended };
-            count_and_tell(counts, telling, target, line, micros, dir, event)
+            count_and_tell(counts, telling, target, FrameEvent { event, ..frame })
         }
         Verdict::Stored => {
             let verdict = Verdict::Stored;
             let event = Event { verdict, ended };
-            count_and_tell(counts, telling, target, line, micros, dir, event)
+            count_and_tell(counts, telling, target, FrameEvent { event, ..frame })
         }
         Verdict::Began | Verdict::Flow | Verdict::Dropped(_) => {
-            count_and_tell(counts, telling, target, line, micros, dir, event)
+            count_and_tell(counts, telling, target, frame)
         }
     }
 }
@@ -193,16 +181,13 @@ fn count_and_tell<M: Machine, W: Target>(
     counts: &mut Summary,
     telling: &mut Telling<M, W>,
     target: &mut W,
-    line: u64,
-    micros: u64,
-    dir: Dir,
-    event: Event<'_>,
+    frame: FrameEvent<'_>,
 ) -> Result<(), Fault>
     ensures fault { IfErr result IsOfTaker }
-    ensures counts { counts.new ≡ counted_more dir (seen_event event.entry) counts.old }
-    ensures told { (T : List Entry) (e : Entry) → IsEventOf T e line micros dir event.entry
+    ensures counts { counts.new ≡ counted_more frame.entry.dir (seen_event frame.entry.event) counts.old }
+    ensures told { (T : List Entry) (e : Entry) → IsFrameEvent T e frame.entry
         → TellsFrame M.stands M.script M.needs W.Target T e telling.old target.old result telling.new target.new }
 {
-    counts.count(dir, event);
-    telling.take(target, line, micros, dir, event)
+    counts.count(frame.dir, frame.event);
+    telling.take(target, frame)
 }

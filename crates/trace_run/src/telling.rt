@@ -10,7 +10,7 @@ ghost use Rattle.isotp_receive.specs.Trace.{Entry};
 ghost use Rattle.isotp_receive.specs.Verdict.{told_message};
 ghost use Rattle.uds_exchange.specs.Judging.{HasJudged, IsJudgedOf};
 ghost use Rattle.trace_run.specs.Seen.{IsSeen};
-ghost use Rattle.trace_run.specs.proving.Carrying.{Speaks, stops_for};
+ghost use Rattle.trace_run.specs.proving.Carrying.{SaysToPage, stops_for};
 
 use crate::machine::{Machine, Seen, Stop};
 use crate::page::{Drain, Page, settle};
@@ -22,12 +22,22 @@ use trace_io::Target;
 use trace_log::{Fault, Summary};
 use uds_exchange::{Judge, Judged};
 
+/// What a frame did, with its line, its time in microseconds and its direction.
+#[derive(Clone, Copy)]
+pub(crate) struct FrameEvent<'a> {
+    pub line: u64,
+    pub micros: u64,
+    pub dir: Dir,
+    pub event: Event<'a>,
+}
+
 /// A machine, the judge of the messages, and the page that the machine's text goes onto.
 #[derive(Drop)]
 pub(crate) struct Telling<M, W> {
     pub machine: M,
     pub judge: Judge,
     pub page: Page,
+    /// It has no target: each call is handed the same one.
     pub target: PhantomData<W>,
 }
 
@@ -52,45 +62,41 @@ impl<M, W> Telling<M, W> {
 }
 
 impl<M: Machine, W: Target> Telling<M, W> {
-    ghost use Rattle.std.specs.Prelude.{◌≡◌, List, [], IfErr, true, false};
+    ghost use Rattle.std.specs.Prelude.{◌≡◌, List, IfErr, true, false};
     ghost use Rattle.isotp_receive.specs.Trace.{Entry};
-    ghost use Rattle.trace_run.specs.Seen.{IsEventOf};
-    ghost use Rattle.trace_run.specs.proving.Carrying.{Tells, WroteTold};
-    ghost use Rattle.trace_run.specs.proving.Telling.{HasTold, TellsFrame};
+    ghost use Rattle.trace_run.specs.proving.Telling.{HasTold, HasWritten, HasWrittenAtLeast, IsFrameEvent, TellsFrame};
     ghost use Rattle.trace_log.specs.Feeding.{IsOfTaker};
 
     /// Writes what is due, before more is read. Answers whether it could.
     pub(crate) fn rest(&mut self, target: &mut W) -> bool
         ensures well { result ≡ true → (start : W) (first : M) (T : List Entry)
             → HasTold M.stands M.script W.Target start first T self.old target.old
-            → Tells (M.stands first) W.Target (M.script first) start T self.new.machine self.new.judge false [] target.new
-            × HasTold M.stands M.script W.Target start first T self.new target.new }
+            → HasWritten M.stands M.script W.Target start first T self.new false target.new × HasTold M.stands M.script W.Target start first T self.new target.new }
         ensures wrong { result ≡ false → (start : W) (first : M) (T : List Entry)
             → HasTold M.stands M.script W.Target start first T self.old target.old
-            → Tells (M.stands first) W.Target (M.script first) start T self.new.machine self.new.judge true [] target.new }
+            → HasWritten M.stands M.script W.Target start first T self.new true target.new }
         ensures sure { result ≡ true → (start : W) (first : M) (T : List Entry)
             → HasTold M.stands M.script W.Target start first T self.old target.old
-            → WroteTold W.Target (M.script first) start T self.new.page.failed self.new.page.block target.new }
-        ensures kept { (start : W) (first : M) (earlier : List Entry) → WroteTold W.Target (M.script first) start earlier self.old.page.failed self.old.page.block target.old
-            → WroteTold W.Target (M.script first) start earlier self.new.page.failed self.new.page.block target.new }
+            → HasWrittenAtLeast M.script W.Target start first T self.new target.new }
+        ensures kept { (start : W) (first : M) (earlier : List Entry) → HasWrittenAtLeast M.script W.Target start first earlier self.old target.old
+            → HasWrittenAtLeast M.script W.Target start first earlier self.new target.new }
     {
         settle(target, &mut self.page)
     }
 
-    /// Takes what the next frame of the trace did: one of this line, time and direction.
+    /// Takes what the next frame of the trace did.
     #[inline(always)]
-    pub(crate) fn take(
-        &mut self,
-        target: &mut W,
-        line: u64,
-        micros: u64,
-        dir: Dir,
-        event: Event<'_>,
-    ) -> Result<(), Fault>
+    pub(crate) fn take(&mut self, target: &mut W, frame: FrameEvent<'_>) -> Result<(), Fault>
         ensures fault { IfErr result IsOfTaker }
-        ensures told { (T : List Entry) (e : Entry) → IsEventOf T e line micros dir event.entry
+        ensures told { (T : List Entry) (e : Entry) → IsFrameEvent T e frame.entry
             → TellsFrame M.stands M.script M.needs W.Target T e self.old target.old result self.new target.new }
     {
+        let FrameEvent {
+            line,
+            micros,
+            dir,
+            event,
+        } = frame;
         let message = judged_message(&mut self.judge, dir, event.verdict);
         match refusal(self.machine.is_strict(), event.verdict) {
             Some(announced) => Err(Fault::Oversize { line, announced }),
@@ -164,9 +170,9 @@ fn tell<M: Machine, W: Target>(
 ) -> Result<(), AllocError>
     ensures ok { OnOk result ((start : M) (T : List Entry) (e : Entry) → IsSeen T e seen.entry → M.stands start T machine.old
         → M.stands start (T ++ e ∷ []) machine.new
-        × Speaks W.Target page.old.failed page.old.block target.old ((M.script start).word T e) page.new.failed page.new.block target.new) }
+        × SaysToPage W.Target page.old target.old ((M.script start).word T e) page.new target.new) }
     ensures err { OnErr result ((start : M) (T : List Entry) → M.stands start T machine.old
-        → Speaks W.Target page.old.failed page.old.block target.old [] page.new.failed page.new.block target.new) }
+        → SaysToPage W.Target page.old target.old [] page.new target.new) }
     ensures needs { OnErr result ((start : M) (T : List Entry) (e : Entry) → IsSeen T e seen.entry → M.stands start T machine.old → M.needs start T e) }
 {
     let mut out = Drain { target, page };
@@ -186,7 +192,7 @@ pub(crate) fn tell_end<M: Machine, W: Target>(
 ) -> Result<M::Answer, Stop>
     ensures says { (start : M) (T : List Entry) → M.stands start T machine → pair.now.receptions ≡ receptions_after MESSAGE_LIMIT T
         → KeepsWithin MESSAGE_LIMIT T pair.now
-        → Speaks W.Target page.old.failed page.old.block target.old ((M.script start).last T summary.now) page.new.failed page.new.block target.new }
+        → SaysToPage W.Target page.old target.old ((M.script start).last T summary.now) page.new target.new }
     ensures answered { (start : M) (T : List Entry) → M.stands start T machine → pair.now.receptions ≡ receptions_after MESSAGE_LIMIT T
         → M.answers start T summary.now result }
 {
@@ -203,7 +209,7 @@ pub(crate) fn tell_refusal<M: Machine, W: Target>(
     why: Fault,
 )
     ensures says { (start : M) (T : List Entry) → M.stands start T machine
-        → Speaks W.Target page.old.failed page.old.block target.old ((M.script start).refused T summary.now why) page.new.failed page.new.block target.new }
+        → SaysToPage W.Target page.old target.old ((M.script start).refused T summary.now why) page.new target.new }
 {
     let mut out = Drain { target, page };
     machine.refused(summary, why, &mut out);

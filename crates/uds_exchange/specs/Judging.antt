@@ -65,7 +65,7 @@ IsOpenSid M open_sid = open_sid ≡ option_map sid (open_request M)
 pub record HasJudged (M : List Message) (judge : Judge) : Type 0 where
   pub waits : IsOpenSid M judge.open_sid
   pub items : judge.items ≡ length (meaning M)
-  pub held : judge.held ≡ length (order.held M)
+  pub held : judge.held_count ≡ length (order.held M)
   pub removed : judge.removed ≡ length (removed_messages M)
 
 -- a message that was judged, without where it lies in memory
@@ -89,16 +89,16 @@ one_more n = min (n + 1) 18446744073709551615
 
 -- what is kept, after a message of which this becomes
 abbrev pub advanced : Step → Judge → Judge
-advanced (step.Request service) judge = record judge { open_sid = Some service; items = one_more judge.items; held = 0 }
-advanced step.Answer judge = record judge { open_sid = None; held = 0 }
+advanced (step.Request service) judge = record judge { open_sid = Some service; items = one_more judge.items; held_count = 0 }
+advanced step.Answer judge = record judge { open_sid = None; held_count = 0 }
 advanced step.Removed judge = record judge { removed = one_more judge.removed }
-advanced step.Hold judge = record judge { items = one_more judge.items; held = one_more judge.held }
+advanced step.Hold judge = record judge { items = one_more judge.items; held_count = one_more judge.held_count }
 advanced step.Pass judge = record judge { items = one_more judge.items }
 
 -- the number of its item
 abbrev pub number_in : Step → Judge → ℕ
 number_in (step.Request service) judge = one_more judge.items
-number_in step.Answer judge = judge.items - judge.held
-number_in step.Removed judge = judge.items - judge.held
+number_in step.Answer judge = judge.items - judge.held_count
+number_in step.Removed judge = judge.items - judge.held_count
 number_in step.Hold judge = one_more judge.items
 number_in step.Pass judge = one_more judge.items

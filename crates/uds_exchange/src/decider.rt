@@ -9,7 +9,7 @@ ghost use Rattle.uds_exchange.specs.ItemSink.{PutsItems};
 ghost use Rattle.uds_exchange.specs.Judging.{IsJudgedAfter, sent};
 ghost use Rattle.uds_exchange.specs.proving.Deciding.{answered_items, items_for, keep_for, Refuses};
 
-use crate::held::Held;
+use crate::held::HeldMessages;
 use crate::item::Item;
 use crate::item_sink::ItemSink;
 use crate::judge::Judged;
@@ -28,7 +28,7 @@ pub struct Decider {
     /// The last request, where that waits for its answer.
     request: Option<Vec<u8>>,
     /// What follows that request.
-    held: Held,
+    held: HeldMessages,
 }
 
 impl Model for Decider {
@@ -48,7 +48,7 @@ impl Decider {
         Decider {
             alloc,
             request: None,
-            held: Held::new(alloc),
+            held: HeldMessages::new(alloc),
         }
     }
 
@@ -113,7 +113,7 @@ impl Decider {
 }
 
 /// Puts the exchange of a request that waits, with its answer, and the strays behind it.
-fn put_answered<S: ItemSink>(request: &Option<Vec<u8>>, answer: &[u8], held: &Held, sink: &mut S)
+fn put_answered<S: ItemSink>(request: &Option<Vec<u8>>, answer: &[u8], held: &HeldMessages, sink: &mut S)
     ensures { PutsItems S.takes sink.old (answered_items (option_map (λ bytes. bytes.items) request.now) answer.now held.now) sink.new }
 {
     if let Some(request) = request {
@@ -126,7 +126,7 @@ fn put_answered<S: ItemSink>(request: &Option<Vec<u8>>, answer: &[u8], held: &He
 }
 
 /// Puts the exchange of a request that waits, without an answer, and the strays behind it.
-fn put_unanswered<S: ItemSink>(request: &Option<Vec<u8>>, held: &Held, sink: &mut S)
+fn put_unanswered<S: ItemSink>(request: &Option<Vec<u8>>, held: &HeldMessages, sink: &mut S)
     ensures { PutsItems S.takes sink.old (unanswered_items (option_map (λ bytes. bytes.items) request.now) held.now) sink.new }
 {
     if let Some(request) = request {
@@ -139,7 +139,7 @@ fn put_unanswered<S: ItemSink>(request: &Option<Vec<u8>>, held: &Held, sink: &mu
 }
 
 /// Puts messages as strays.
-fn put_strays<S: ItemSink>(held: &Held, sink: &mut S)
+fn put_strays<S: ItemSink>(held: &HeldMessages, sink: &mut S)
     ensures { PutsItems S.takes sink.old (map stray_of held.now) sink.new }
 {
     let mut strays = StraySink { sink };

@@ -13,8 +13,8 @@ use std::marker::Model;
 
 /// A list of messages.
 #[derive(Drop)]
-pub(crate) struct Held {
-    held: Vec<HeldMessage>,
+pub(crate) struct HeldMessages {
+    places: Vec<HeldMessage>,
     messages: Messages,
     /// The sum of the messages' lengths.
     total: usize,
@@ -29,16 +29,16 @@ struct HeldMessage {
     dir: Dir,
 }
 
-impl Model for Held {
+impl Model for HeldMessages {
     ghost use Rattle.std.specs.Prelude.{List};
     ghost use Rattle.direction.specs.Dir.{Message};
     ghost use Rattle.uds_exchange.specs.proving.HeldMessages.{messages_at, AreHeldAndSummed};
 
     ghost Value = { List Message };
 
-    ghost view = { λ h. messages_at h.messages h.held.items };
+    ghost view = { λ h. messages_at h.messages h.places.items };
 
-    ghost invariant = { λ h. AreHeldAndSummed h.messages h.held.items h.total };
+    ghost invariant = { λ h. AreHeldAndSummed h.messages h.places.items h.total };
 }
 
 impl HeldMessage {
@@ -54,13 +54,13 @@ impl HeldMessage {
     }
 }
 
-impl Held {
+impl HeldMessages {
     /// No message. It takes no memory.
-    pub(crate) fn new(alloc: Global) -> Held
+    pub(crate) fn new(alloc: Global) -> HeldMessages
         ensures { result ≡ [] }
     {
-        Held {
-            held: Vec::new(alloc),
+        HeldMessages {
+            places: Vec::new(alloc),
             messages: Messages::new(alloc),
             total: 0,
         }
@@ -82,9 +82,9 @@ impl Held {
         let Some(total) = self.total.checked_add(message.len()) else {
             return Err(AllocError);
         };
-        self.held.reserve(1)?;
+        self.places.reserve(1)?;
         let span = self.messages.append(message)?;
-        self.held.push_reserved(HeldMessage {
+        self.places.push_reserved(HeldMessage {
             len: span.len,
             block: span.block,
             start: span.start,
@@ -98,7 +98,7 @@ impl Held {
     pub(crate) fn clear(&mut self)
         ensures { self.new ≡ [] }
     {
-        self.held.clear();
+        self.places.clear();
         self.messages.clear();
         self.total = 0;
     }
@@ -108,7 +108,7 @@ impl Held {
         ensures ok { OnOk result (Puts S.after_ok sink.old self.now sink.new) }
         ensures err { IfErr result (λ e. Fails S.after_ok S.after_err sink.old self.now e sink.new) }
     {
-        put_each(self.held.as_slice(), &self.messages, sink)
+        put_each(self.places.as_slice(), &self.messages, sink)
     }
 }
 
@@ -129,9 +129,9 @@ fn put_each<S: MessageSink>(
 }
 
 /// As if its messages lay end to end.
-impl Debug for Held {
+impl Debug for HeldMessages {
     fn fmt<W: Write>(&self, f: &mut Formatter<W>) -> fmt::Result {
-        f.debug_struct("Held")
+        f.debug_struct("HeldMessages")
             .field("extents", &Extents { of: self })
             .field("bytes", &Bytes { of: self })
             .finish()
@@ -141,13 +141,13 @@ impl Debug for Held {
 /// The side and the length of each message.
 #[derive(Drop)]
 struct Extents<'a> {
-    of: &'a Held,
+    of: &'a HeldMessages,
 }
 
 impl<'a> Debug for Extents<'a> {
     fn fmt<W: Write>(&self, f: &mut Formatter<W>) -> fmt::Result {
         let held = self.of;
-        let each = held.held.as_slice();
+        let each = held.places.as_slice();
         let mut list = f.debug_list();
         for one in each {
             list.entry(&Extent {
@@ -169,13 +169,13 @@ struct Extent {
 /// The bytes of all messages.
 #[derive(Drop)]
 struct Bytes<'a> {
-    of: &'a Held,
+    of: &'a HeldMessages,
 }
 
 impl<'a> Debug for Bytes<'a> {
     fn fmt<W: Write>(&self, f: &mut Formatter<W>) -> fmt::Result {
         let held = self.of;
-        let each = held.held.as_slice();
+        let each = held.places.as_slice();
         let mut list = f.debug_list();
         for one in each {
             list.slice(held.messages.message(one.span()));

@@ -27,7 +27,7 @@ pub struct Judge {
     /// How many items there are.
     pub items: u64,
     /// How many of them are strays behind a request that waits.
-    pub held: u64,
+    pub held_count: u64,
     /// How many replies were left out.
     pub removed: u64,
 }
@@ -40,7 +40,7 @@ impl Judge {
         Judge {
             open_sid: None,
             items: 0,
-            held: 0,
+            held_count: 0,
             removed: 0,
         }
     }
@@ -72,21 +72,21 @@ impl Judge {
         match step {
             Step::Request(sid) => {
                 self.open_sid = Some(sid);
-                self.held = 0;
+                self.held_count = 0;
                 self.open_item()
             }
             Step::Answer => {
-                let number = self.items.saturating_sub(self.held);
+                let number = self.items.saturating_sub(self.held_count);
                 self.open_sid = None;
-                self.held = 0;
+                self.held_count = 0;
                 number
             }
             Step::Removed => {
                 self.removed = self.removed.saturating_add(1);
-                self.items.saturating_sub(self.held)
+                self.items.saturating_sub(self.held_count)
             }
             Step::Hold => {
-                self.held = self.held.saturating_add(1);
+                self.held_count = self.held_count.saturating_add(1);
                 self.open_item()
             }
             Step::Pass => self.open_item(),

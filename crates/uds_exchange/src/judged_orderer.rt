@@ -10,7 +10,7 @@ ghost use Rattle.uds_exchange.specs.proving.Steps as Spec;
 ghost use Rattle.uds_exchange.specs.proving.Steps.{due_for, Stops};
 ghost use Rattle.uds_exchange.specs.declared.order_fault.OrderFault.TheVariants.{Memory, Sink, Failed};
 
-use crate::held::Held;
+use crate::held::HeldMessages;
 use crate::judge::Judged;
 use crate::order_fault::OrderFault;
 use crate::sink::MessageSink;
@@ -25,7 +25,7 @@ use std::marker::Model;
 pub struct JudgedOrderer {
     pub(crate) has_failed: bool,
     /// What follows the request that waits for its answer.
-    pub(crate) held: Held,
+    pub(crate) held: HeldMessages,
 }
 
 impl Model for JudgedOrderer {
@@ -43,7 +43,7 @@ impl JudgedOrderer {
     {
         JudgedOrderer {
             has_failed: false,
-            held: Held::new(alloc),
+            held: HeldMessages::new(alloc),
         }
     }
 
@@ -134,7 +134,7 @@ impl JudgedOrderer {
 }
 
 /// Puts what has its place by what becomes of a message.
-fn put_due<S: MessageSink>(message: Judged<'_>, held: &Held, sink: &mut S) -> Result<(), S::Fault>
+fn put_due<S: MessageSink>(message: Judged<'_>, held: &HeldMessages, sink: &mut S) -> Result<(), S::Fault>
     ensures ok { OnOk result (Puts S.after_ok sink.old (due_for message.entry.step held.now (sent message.entry)) sink.new) }
     ensures err { IfErr result (λ e. Fails S.after_ok S.after_err sink.old
         (due_for message.entry.step held.now (sent message.entry)) e sink.new) }
@@ -150,7 +150,7 @@ fn put_due<S: MessageSink>(message: Judged<'_>, held: &Held, sink: &mut S) -> Re
 
 /// Puts what is held, and then the message.
 fn put_behind<S: MessageSink>(
-    held: &Held,
+    held: &HeldMessages,
     dir: Dir,
     message: &[u8],
     sink: &mut S,
@@ -167,7 +167,7 @@ fn put_behind<S: MessageSink>(
 fn put_before<S: MessageSink>(
     dir: Dir,
     message: &[u8],
-    held: &Held,
+    held: &HeldMessages,
     sink: &mut S,
 ) -> Result<(), S::Fault>
     ensures ok { OnOk result (Puts S.after_ok sink.old ((dir, message.now) ∷ held.now) sink.new) }

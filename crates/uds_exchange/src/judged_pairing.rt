@@ -70,7 +70,8 @@ impl JudgedPairing {
         meaning
     }
 
-    /// Takes one more message, by what becomes of it and the items alone. Where none waits, no answer is taken.
+    /// Takes one more message, by what becomes of it and the items alone: `take` promises the same by the messages. Where
+    /// none waits, no answer is taken.
     #[inline(always)]
     fn join(&mut self, message: Judged<'_>) -> Result<(), AllocError>
         ensures ok { OnOk result (self.new ≡ Spec.join_for message.entry.step (waiting self.old) self.old (sent message.entry)) }

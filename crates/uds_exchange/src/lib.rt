@@ -3,9 +3,10 @@
 //! Requests, answers and pending replies are those of ISO 14229-1 (`uds_message`). A request's part of the messages
 //! runs to the next request. Its answer is the first message of the unit in that part that is final for it; the
 //! replies before the answer that are pending for it are left out. All else is a stray, and stays in order.
-//! [`Pairing`] takes the messages one by one and gives the list of items, [`Orderer`] puts them in their order as soon as
-//! it is known. A [`Judge`] says of each what becomes of it, for whoever does several things with a message: by that
-//! [`JudgedPairing`] and [`JudgedOrderer`] do the same, and [`Decider`] puts items as they are decided.
+//! A [`Judge`] says of each message what becomes of it. By that [`JudgedPairing`] gives the list of items, [`JudgedOrderer`]
+//! puts the messages in their order as soon as it is known, and [`Decider`] puts items as they are decided: a run judges
+//! a message once, and hands it to one of them. [`Pairing`] and [`Orderer`] have a judge of their own, for a caller that
+//! has messages alone.
 //!
 //! ```text
 //! tester 22 F1 90                exchange 22 F1 90 -> 62 F1 90 41

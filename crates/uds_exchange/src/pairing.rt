@@ -66,7 +66,7 @@ impl Pairing {
     }
 }
 
-/// As if it kept the items itself.
+/// What was printed while it kept the items itself, which callers may have in their logs.
 impl Debug for Pairing {
     fn fmt<W: Write>(&self, f: &mut Formatter<W>) -> fmt::Result {
         let meaning = self.pairing.so_far();

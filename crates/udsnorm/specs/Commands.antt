@@ -11,7 +11,7 @@ use Rattle.clap.specs.declared.builder.value_parser.ValueParser.TheVariants.{Uns
 use Rattle.trace_log.specs.Answers.{Answers, ReadsWhile, WritesEagerly}
 use Rattle.trace_canon.specs.Compared.{Compares, fault_in}
 use Rattle.trace_canon.specs.ComparisonText.{comparison_text}
-use Rattle.trace_log.specs.Devices.{ReadFrom, WroteTo}
+use Rattle.trace_log.specs.Devices.{AgreesWith, bytes_given, ReadFrom, WroteTo}
 use Rattle.trace_canon.specs.ExplainScript.{explain_script}
 use Rattle.trace_canon.specs.Found.{Finds, NeedsMemoryToFind, RanToFind}
 use Rattle.trace_text.specs.ListText.{list_text}
@@ -31,7 +31,6 @@ use Rattle.trace_log.specs.declared.fault.Fault.TheVariants.{Memory, Read, Write
 use Rattle.trace_text.specs.declared.notation.Notation.{Notation}
 use Rattle.trace_log.specs.declared.summary.Summary.{Summary}
 use Rattle.isotp_receive.specs.Trace.{Entry}
-use Rattle.trace_io.specs.Stream.{Agrees}
 use Rattle.trace_io.specs.declared.device.Source.{Ghosts as SourceGhosts}
 use Rattle.trace_io.specs.declared.device.Target.{Ghosts as TargetGhosts}
 use Rattle.trace_report.specs.Front.{page_title}
@@ -189,13 +188,13 @@ needs_of (runs_in_style script) limit settings log = NeedsMemoryToReceive limit 
 -- What is known of a run of any engine: what was answered and written, that it was written before more was read, that
 -- memory was refused only for a log that needs it, how near to what refuses the log it stopped reading, and what it did with its devices.
 pub record RanAny {R W : Type 0} (source : SourceGhosts R) (target : TargetGhosts W) (engine : Engine) (limit : ℕ) (settings : Settings) (before : R) (old : W) (result : Result Summary Fault) (after : R) (new : W) : Type 0 where
-  pub answer : (log : List ℕ) → Agrees (source.given before) (source.given after) (source.is_over after) log
-      → answers_of engine limit settings log (length (source.given after) - length (source.given before)) result (target.taken old) (target.taken new)
-  pub eager : (log : List ℕ) → Agrees (source.given before) (source.given after) (source.is_over after) log
-      → tells_eagerly_of engine limit settings log (length (source.given after) - length (source.given before)) (target.taken old) (target.taken new)
-  pub memory : (log : List ℕ) → Agrees (source.given before) (source.given after) (source.is_over after) log → result ≡ Err Memory → needs_of engine limit settings log
-  pub near : (log : List ℕ) → Agrees (source.given before) (source.given after) (source.is_over after) log
-      → ReadsWhile (unrefused_of engine limit settings log) (length (source.given after) - length (source.given before)) (source.failures before) (source.failures after)
+  pub answer : (log : List ℕ) → AgreesWith source before after log
+      → answers_of engine limit settings log (bytes_given source before after) result (target.taken old) (target.taken new)
+  pub eager : (log : List ℕ) → AgreesWith source before after log
+      → tells_eagerly_of engine limit settings log (bytes_given source before after) (target.taken old) (target.taken new)
+  pub memory : (log : List ℕ) → AgreesWith source before after log → result ≡ Err Memory → needs_of engine limit settings log
+  pub near : (log : List ℕ) → AgreesWith source before after log
+      → ReadsWhile (unrefused_of engine limit settings log) (bytes_given source before after) (source.failures before) (source.failures after)
   pub read : ReadFrom source Read settings.max_bytes result before after
   pub wrote : WroteTo target Write result old new
 

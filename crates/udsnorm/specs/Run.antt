@@ -1,14 +1,14 @@
 -- What a run over logs answers, what it takes from its input, and what its output takes.
 use Rattle.std.specs.Prelude.{◌≡◌, ◌≢◌, ℕ, ◌+◌, ◌-◌, ◌⊎◌, Bool, List, length, true, false, Option, Result, Err}
 use Rattle.trace_log.specs.Settings.{Settings}
-use Rattle.trace_log.specs.Devices.{ReadFrom}
+use Rattle.trace_log.specs.Devices.{AgreesWith, bytes_given, ReadFrom}
 use Rattle.trace_log.specs.Failing.{FailedIf}
 use Rattle.trace_log.specs.declared.fault.CompareFault.{CompareFault}
 use Rattle.trace_log.specs.declared.fault.CompareFault.TheVariants.{Left, Right}
 use Rattle.trace_log.specs.declared.fault.Fault.{Fault}
 use Rattle.trace_log.specs.declared.fault.Fault.TheVariants.{Memory, Read, Write}
 use Rattle.trace_log.specs.declared.summary.Summary.{Summary}
-use Rattle.trace_io.specs.Stream.{Agrees, Took}
+use Rattle.trace_io.specs.Stream.{Took}
 use Rattle.trace_io.specs.declared.device.Source.{Ghosts as SourceGhosts}
 use Rattle.trace_io.specs.declared.device.Target.{Ghosts as TargetGhosts}
 use Rattle.udsnorm.specs.Commands.{EngineAnswers, EngineNeeds, EngineReads, EngineTellsEagerly, PairEngineAnswers, PairEngineNeeds, PairEngineReads, has_text}
@@ -25,16 +25,16 @@ pub record RanOne {R W E : Type 0} (source : SourceGhosts R) (output : TargetGho
     (before : R) (old : W) (unsaid : E) (status : ℕ) (outcome : Result Summary Fault) (after : R) (new : W) (said : E) : Type 0 where
   -- what the engine answered, and what the output took, for each log with which the bytes that were read agree
   pub answer : Result Summary Fault
-  pub engine : (log : List ℕ) → Agrees (source.given before) (source.given after) (source.is_over after) log
-      → EngineAnswers job name limit settings log (length (source.given after) - length (source.given before)) answer (output.taken old) (output.taken new)
+  pub engine : (log : List ℕ) → AgreesWith source before after log
+      → EngineAnswers job name limit settings log (bytes_given source before after) answer (output.taken old) (output.taken new)
   -- before each read all was written that the lines so far decide
-  pub eager : (log : List ℕ) → Agrees (source.given before) (source.given after) (source.is_over after) log
-      → EngineTellsEagerly job name limit settings log (length (source.given after) - length (source.given before)) (output.taken old) (output.taken new)
+  pub eager : (log : List ℕ) → AgreesWith source before after log
+      → EngineTellsEagerly job name limit settings log (bytes_given source before after) (output.taken old) (output.taken new)
   -- memory was refused, with status 5, only for a log that needs it
-  pub memory : (log : List ℕ) → Agrees (source.given before) (source.given after) (source.is_over after) log → status ≡ 5 → EngineNeeds job name limit settings log
+  pub memory : (log : List ℕ) → AgreesWith source before after log → status ≡ 5 → EngineNeeds job name limit settings log
   -- reading stopped within one piece of what refuses the log
-  pub near : (log : List ℕ) → Agrees (source.given before) (source.given after) (source.is_over after) log
-      → EngineReads job name limit settings log (length (source.given after) - length (source.given before)) (source.failures before) (source.failures after)
+  pub near : (log : List ℕ) → AgreesWith source before after log
+      → EngineReads job name limit settings log (bytes_given source before after) (source.failures before) (source.failures after)
   pub read : ReadFrom source Read settings.max_bytes answer before after
   -- the outcome: the answer, or a failed write where a flush was due and failed
   pub comes : ComesTo (flushes answer (output.taken new)) answer outcome
@@ -58,20 +58,20 @@ pub record RanTwo {A B W E : Type 0} (left : SourceGhosts A) (right : SourceGhos
   -- what the engine answered, and its text, for all logs with which the bytes that were read agree
   pub answer : Result PairAnswer CompareFault
   pub text : List ℕ
-  pub engine : (a b : List ℕ) → Agrees (left.given one) (left.given one_now) (left.is_over one_now) a → Agrees (right.given other) (right.given other_now) (right.is_over other_now) b
+  pub engine : (a b : List ℕ) → AgreesWith left one one_now a → AgreesWith right other other_now b
       → PairEngineAnswers job left_name right_name strict limit settings a b answer text
   -- after a fault of the left log nothing of the right one was read
   pub unread : (fault : Fault) → answer ≡ Err (Left fault) → other_now ≡ other
   -- memory was refused only for a log that needs it
-  pub left_memory : (a : List ℕ) → Agrees (left.given one) (left.given one_now) (left.is_over one_now) a → answer ≡ Err (Left Memory)
+  pub left_memory : (a : List ℕ) → AgreesWith left one one_now a → answer ≡ Err (Left Memory)
       → PairEngineNeeds job left_name right_name limit settings a
-  pub right_memory : (b : List ℕ) → Agrees (right.given other) (right.given other_now) (right.is_over other_now) b → answer ≡ Err (Right Memory)
+  pub right_memory : (b : List ℕ) → AgreesWith right other other_now b → answer ≡ Err (Right Memory)
       → PairEngineNeeds job left_name right_name limit settings b
   -- reading stopped within one piece of what refuses a log
-  pub left_near : (a : List ℕ) → Agrees (left.given one) (left.given one_now) (left.is_over one_now) a
-      → PairEngineReads job left_name right_name limit settings a (length (left.given one_now) - length (left.given one)) (left.failures one) (left.failures one_now)
-  pub right_near : (b : List ℕ) → Agrees (right.given other) (right.given other_now) (right.is_over other_now) b
-      → PairEngineReads job left_name right_name limit settings b (length (right.given other_now) - length (right.given other)) (right.failures other) (right.failures other_now)
+  pub left_near : (a : List ℕ) → AgreesWith left one one_now a
+      → PairEngineReads job left_name right_name limit settings a (bytes_given left one one_now) (left.failures one) (left.failures one_now)
+  pub right_near : (b : List ℕ) → AgreesWith right other other_now b
+      → PairEngineReads job left_name right_name limit settings b (bytes_given right other other_now) (right.failures other) (right.failures other_now)
   pub left_read : ReadFrom left (Left Read) settings.max_bytes answer one one_now
   pub right_read : ReadFrom right (Right Read) settings.max_bytes answer other other_now
   -- whether the text was written, and flushed where there is one: then the output took all of it, and else a front

@@ -1,11 +1,12 @@
 //! The commands: the words and the help of each, the task that it asks for, and the engine that does its job. What is said
 //! of a command stands here and in `specs/Commands.antt`, in the same order.
 
-ghost use Rattle.std.specs.Prelude.{◌≡◌, codes, length};
+ghost use Rattle.std.specs.Prelude.{◌≡◌, codes};
 ghost use Rattle.isotp_receive.specs.declared.TheConstants.{MESSAGE_LIMIT};
-ghost use Rattle.trace_io.specs.Counted.{AreLowCounts, IsLowCount};
+ghost use Rattle.trace_io.specs.Counted.{IsLowCount};
 ghost use Rattle.clap.specs.Words.{first_of, found_of, rows_of};
 ghost use Rattle.udsnorm.specs.Commands.{RanAny, RanBy, engine_of, report_task, task_named};
+ghost use Rattle.trace_log.specs.Devices.{HasLowCounts};
 
 use crate::pair_jobs::PairJob;
 use crate::values::{comparison_style, notation, style, text_of};
@@ -318,7 +319,7 @@ pub(crate) fn do_job<R: Source, W: Target>(
     input: &mut R,
     out: &mut W,
 ) -> Result<Summary, Fault>
-    requires input { AreLowCounts (R.reads input.old) (length (R.given input.old)) (R.failures input.old) }
+    requires input { HasLowCounts R.Source input.old }
     requires out { IsLowCount (W.failures out.old) }
     ensures ran { RanAny R.Source W.Target (engine_of job name.now) MESSAGE_LIMIT config.now input.old out.old result input.new out.new }
 {
@@ -334,7 +335,7 @@ fn call_engine<R: Source, W: Target>(
     input: &mut R,
     out: &mut W,
 ) -> Result<Summary, Fault>
-    requires input { AreLowCounts (R.reads input.old) (length (R.given input.old)) (R.failures input.old) }
+    requires input { HasLowCounts R.Source input.old }
     requires out { IsLowCount (W.failures out.old) }
     ensures ran { RanBy R.Source W.Target (engine_of job name.now) MESSAGE_LIMIT config.now input.old out.old result input.new out.new }
 {

@@ -1,12 +1,11 @@
 //! What the program does with two logs: the engine of each job, what it answers, and its text.
 
-ghost use Rattle.std.specs.Prelude.{◌≡◌, ◌≢◌, ◌-◌, ℕ, List, Err, IfErr, false, length, true};
+ghost use Rattle.std.specs.Prelude.{◌≡◌, ◌≢◌, ◌-◌, ℕ, List, Err, IfErr, false, true};
 ghost use Rattle.isotp_receive.specs.declared.TheConstants.{MESSAGE_LIMIT};
 ghost use Rattle.trace_canon.specs.Compared.{fault_in};
-ghost use Rattle.trace_log.specs.Devices.{ReadFrom};
+ghost use Rattle.trace_log.specs.Devices.{AgreesWith, bytes_given, ReadFrom, HasLowCounts};
 ghost use Rattle.trace_log.specs.declared.fault.Fault.{Fault as FaultValue};
-ghost use Rattle.trace_io.specs.Counted.{AreLowCounts, IsLowCount};
-ghost use Rattle.trace_io.specs.Stream.{Agrees};
+ghost use Rattle.trace_io.specs.Counted.{IsLowCount};
 ghost use Rattle.trace_report.specs.PairPage.{pair_page, pair_title};
 ghost use Rattle.udsnorm.specs.Commands.{PairEngineAnswers, PairEngineNeeds, PairEngineReads, has_text, left_file, pair_of, right_file};
 ghost use Rattle.udsnorm.specs.Ending.{has_unclean};
@@ -115,13 +114,13 @@ pub(crate) fn do_pair_job<A: Source, B: Source, W: Target>(
     right: &mut B,
     out: &mut W,
 ) -> PairDone
-    requires left { AreLowCounts (A.reads left.old) (length (A.given left.old)) (A.failures left.old) }
-    requires right { AreLowCounts (B.reads right.old) (length (B.given right.old)) (B.failures right.old) }
+    requires left { HasLowCounts A.Source left.old }
+    requires right { HasLowCounts B.Source right.old }
     requires out { IsLowCount (W.failures out.old) }
 
     // What is answered, and the text of that, for all logs with which the bytes that were read agree.
     ensures engine { (text : List ℕ)
-        × ((one other : List ℕ) → Agrees (A.given left.old) (A.given left.new) (A.is_over left.new) one → Agrees (B.given right.old) (B.given right.new) (B.is_over right.new) other
+        × ((one other : List ℕ) → AgreesWith A.Source left.old left.new one → AgreesWith B.Source right.old right.new other
         → PairEngineAnswers job left_name.now right_name.now strict MESSAGE_LIMIT config.now one other result.answer text)
         × WroteText W.Target text result.wrote out.old out.new }
     ensures left_alone { has_text job strict result.answer ≡ false → (result.wrote ≡ true) × (out.new ≡ out.old) }
@@ -131,16 +130,16 @@ pub(crate) fn do_pair_job<A: Source, B: Source, W: Target>(
     ensures unread { (fault : FaultValue) → result.answer ≡ Err (CompareFault.Left fault) → right.new ≡ right.old }
 
     // Memory is refused only for a log that needs it.
-    ensures left_memory { (one : List ℕ) → Agrees (A.given left.old) (A.given left.new) (A.is_over left.new) one
+    ensures left_memory { (one : List ℕ) → AgreesWith A.Source left.old left.new one
         → result.answer ≡ Err (CompareFault.Left Fault.Memory) → PairEngineNeeds job left_name.now right_name.now MESSAGE_LIMIT config.now one }
-    ensures right_memory { (other : List ℕ) → Agrees (B.given right.old) (B.given right.new) (B.is_over right.new) other
+    ensures right_memory { (other : List ℕ) → AgreesWith B.Source right.old right.new other
         → result.answer ≡ Err (CompareFault.Right Fault.Memory) → PairEngineNeeds job left_name.now right_name.now MESSAGE_LIMIT config.now other }
 
     // How near to what refuses a log it stops reading, and what it did with both.
-    ensures left_near { (one : List ℕ) → Agrees (A.given left.old) (A.given left.new) (A.is_over left.new) one
-        → PairEngineReads job left_name.now right_name.now MESSAGE_LIMIT config.now one (length (A.given left.new) - length (A.given left.old)) (A.failures left.old) (A.failures left.new) }
-    ensures right_near { (other : List ℕ) → Agrees (B.given right.old) (B.given right.new) (B.is_over right.new) other
-        → PairEngineReads job left_name.now right_name.now MESSAGE_LIMIT config.now other (length (B.given right.new) - length (B.given right.old)) (B.failures right.old) (B.failures right.new) }
+    ensures left_near { (one : List ℕ) → AgreesWith A.Source left.old left.new one
+        → PairEngineReads job left_name.now right_name.now MESSAGE_LIMIT config.now one (bytes_given A.Source left.old left.new) (A.failures left.old) (A.failures left.new) }
+    ensures right_near { (other : List ℕ) → AgreesWith B.Source right.old right.new other
+        → PairEngineReads job left_name.now right_name.now MESSAGE_LIMIT config.now other (bytes_given B.Source right.old right.new) (B.failures right.old) (B.failures right.new) }
     ensures left_read { ReadFrom A.Source (CompareFault.Left Fault.Read) config.now.max_bytes result.answer left.old left.new }
     ensures right_read { ReadFrom B.Source (CompareFault.Right Fault.Read) config.now.max_bytes result.answer right.old right.new }
     ensures never_write { IfErr result.answer (λ fault. fault_in fault ≢ Fault.Write) }

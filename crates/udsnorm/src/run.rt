@@ -1,17 +1,17 @@
 //! Runs of the program over devices that are open.
 
-ghost use Rattle.std.specs.Prelude.{◌≡◌, ℕ, ◌+◌, ◌-◌, ◌^◌, ◌<◌, ◌≤◌, ◌⊎◌, ◌↔◌, ◌&&◌, List, ◌++◌, true, OnOk, IfErr, MatchResult, length};
+ghost use Rattle.std.specs.Prelude.{◌≡◌, ℕ, ◌+◌, ◌-◌, ◌^◌, ◌<◌, ◌≤◌, ◌⊎◌, ◌↔◌, ◌&&◌, List, ◌++◌, true, OnOk, IfErr, MatchResult};
 ghost use Rattle.std.specs.Io.KnownBytes.{Keeps};
 ghost use Rattle.isotp_receive.specs.declared.TheConstants.{MESSAGE_LIMIT};
 ghost use Rattle.trace_log.specs.Laws.{IsCertified};
-ghost use Rattle.trace_io.specs.Counted.{AreLowCounts, IsLowCount};
-ghost use Rattle.trace_io.specs.Stream.{Agrees};
+ghost use Rattle.trace_io.specs.Counted.{IsLowCount};
 ghost use Rattle.trace_io.specs.Written.{HasFront};
 ghost use Rattle.udsnorm.specs.Ending.{EndsAs, answer_written, flushes, status_of_comparison, status_of_run, status_of_run_of_two};
 ghost use Rattle.udsnorm.specs.FaultLines.{run_text, run_two_text};
 ghost use Rattle.udsnorm.specs.Run.{RanOne, RanTwo};
 ghost use Rattle.udsnorm.specs.Telling.{TookText};
 ghost use Rattle.udsnorm.specs.proving.Flushed.{FlushedIf};
+ghost use Rattle.trace_log.specs.Devices.{AgreesWith, HasLowCounts};
 
 use crate::commands::{Job, do_job};
 use crate::ended::{OneEnd, TwoEnd};
@@ -35,7 +35,7 @@ pub fn run_one<R: Source, W: Target, E: Target>(
     out: &mut W,
     err: &mut E,
 ) -> OneEnd
-    requires input { AreLowCounts (R.reads input.old) (length (R.given input.old)) (R.failures input.old) }
+    requires input { HasLowCounts R.Source input.old }
     requires out { IsLowCount (W.failures out.old) }
     requires err { IsLowCount (E.failures err.old) }
 
@@ -51,7 +51,7 @@ pub fn run_one<R: Source, W: Target, E: Target>(
 
     // Where a strict run is done, the log is a recording of exactly the messages that it delivers.
     ensures recording { strict ≡ true → result.status ≡ 0 → (log : List ℕ)
-        → Agrees (R.given input.old) (R.given input.new) (R.is_over input.new) log → IsCertified MESSAGE_LIMIT config.now log }
+        → AgreesWith R.Source input.old input.new log → IsCertified MESSAGE_LIMIT config.now log }
 
     // The status is 4 exactly where a device failed.
     ensures device { (result.status ≡ 4) ↔ ((R.failures input.old < R.failures input.new) ⊎ (W.failures out.old < W.failures out.new)) }
@@ -127,8 +127,8 @@ pub fn run_two<A: Source, B: Source, W: Target, E: Target>(
     out: &mut W,
     err: &mut E,
 ) -> TwoEnd
-    requires left { AreLowCounts (A.reads left.old) (length (A.given left.old)) (A.failures left.old) }
-    requires right { AreLowCounts (B.reads right.old) (length (B.given right.old)) (B.failures right.old) }
+    requires left { HasLowCounts A.Source left.old }
+    requires right { HasLowCounts B.Source right.old }
     requires out { IsLowCount (W.failures out.old) }
     requires err { IsLowCount (E.failures err.old) }
 
@@ -144,7 +144,7 @@ pub fn run_two<A: Source, B: Source, W: Target, E: Target>(
 
     // Where a strict run ends so, each log is a recording of exactly the messages that it delivers.
     ensures recording { strict ≡ true → result.status ≤ 1 → (one other : List ℕ)
-        → Agrees (A.given left.old) (A.given left.new) (A.is_over left.new) one → Agrees (B.given right.old) (B.given right.new) (B.is_over right.new) other
+        → AgreesWith A.Source left.old left.new one → AgreesWith B.Source right.old right.new other
         → IsCertified MESSAGE_LIMIT config.now one × IsCertified MESSAGE_LIMIT config.now other }
 
     // No write to the output is empty.

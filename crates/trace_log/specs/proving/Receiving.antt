@@ -30,6 +30,10 @@ pub record Receives (settings : Settings) (meanings : List (Option Stamped)) (pa
   pub lines_are : lines ≡ length meanings
   pub counted : counts ≡ counted_in MESSAGE_LIMIT (trace settings meanings)
 
--- the entry of a frame of a direction, after lines that mean this
+-- the entry of a frame of a direction, in this line
+abbrev pub entry_at : ℕ → Stamped → Dir → Entry
+entry_at line stamped d = record { line = line; micros = stamped.micros; dir = d; frame = stamped.frame }
+
+-- the same after lines that mean this
 abbrev pub entry_in : List (Option Stamped) → Stamped → Dir → Entry
-entry_in meanings stamped d = record { line = 1 + length meanings; micros = stamped.micros; dir = d; frame = stamped.frame }
+entry_in meanings stamped d = entry_at (1 + length meanings) stamped d

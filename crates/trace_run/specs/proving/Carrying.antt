@@ -12,6 +12,7 @@ use Rattle.trace_io.specs.Written.{HasFront, IsWritten}
 use Rattle.trace_io.specs.declared.device.Target.{Ghosts}
 use Rattle.trace_log.specs.declared.fault.Fault.{Fault}
 use Rattle.trace_log.specs.declared.fault.Fault.TheVariants as fault
+use Rattle.trace_run.specs.declared.page.Page.{Page}
 use Rattle.trace_run.specs.declared.receiver.Receiver.{Receiver}
 use Rattle.trace_run.specs.declared.machine.Stop.{Stop}
 use Rattle.trace_run.specs.declared.machine.Stop.TheVariants as stop
@@ -76,6 +77,20 @@ abbrev pub SaysNoMore : {W : Type 0} → Ghosts W → Bool → List ℕ → W �
 SaysNoMore {W = W} target failed held old failed_now held_now new =
     (start : W) (said : List ℕ) → Carries target start said failed held old → Carries target start said failed_now held_now new
 
+-- the three of a page: a text was said to it; it was written, where that is so; and no more was said to it
+abbrev pub SaysToPage : {W : Type 0} → Ghosts W → Page → W → List ℕ → Page → W → Type 0
+SaysToPage target page old text page_now new = Speaks target page.failed page.block old text page_now.failed page_now.block new
+
+abbrev pub WritesPage : {W : Type 0} → Ghosts W → Page → W → Bool → W → Type 0
+WritesPage target page old result new = Settles target page.failed page.block old result new
+
+abbrev pub KeepsPage : {W : Type 0} → Ghosts W → Page → W → Page → W → Type 0
+KeepsPage target page old page_now new = SaysNoMore target page.failed page.block old page_now.failed page_now.block new
+
+-- since this start, this was said to this page
+abbrev pub CarriesPage : {W : Type 0} → Ghosts W → W → List ℕ → Page → W → Type 0
+CarriesPage target start said page now = Carries target start said page.failed page.block now
+
 -- A machine stands at its start, no message was judged, and nothing is on the page.
 pub record IsTellingStart (Stands : Type 0) (judge : Judge) (failed : Bool) (held : List ℕ) : Type 0 where
   pub stands : Stands
@@ -122,6 +137,10 @@ abbrev pub SettlesAs : {W : Type 0} → Fault → Ghosts W → Bool → List ℕ
 SettlesAs {W = W} name target failed held old result new =
     (start : W) (said : List ℕ) → Carries target start said failed held old → EndsAs name target start said result new
 
+-- the same of a page
+abbrev pub SettlesPageAs : {W : Type 0} → Fault → Ghosts W → Page → W → Fault → W → Type 0
+SettlesPageAs name target page old result new = SettlesAs name target page.failed page.block old result new
+
 -- and with this text behind it
 abbrev pub SettlesWith : {W : Type 0} → List ℕ → Fault → Ghosts W → Bool → List ℕ → W → Fault → W → Type 0
 SettlesWith {W = W} text name target failed held old result new =
@@ -140,9 +159,9 @@ abbrev pub GivesUp : {M W : Type 0} → (M → List Entry → M → Type 0) → 
 GivesUp stands scripts target (fault.BadLine line column) receiver old result new = RefusesTelling stands scripts target (fault.BadLine line column) receiver old result new
 GivesUp stands scripts target fault.LogLimit receiver old result new = RefusesTelling stands scripts target fault.LogLimit receiver old result new
 GivesUp stands scripts target (fault.Oversize line announced) receiver old result new =
-    SettlesAs (fault.Oversize line announced) target receiver.telling.page.failed receiver.telling.page.block old result new
-GivesUp stands scripts target fault.OutputLimit receiver old result new = SettlesAs fault.OutputLimit target receiver.telling.page.failed receiver.telling.page.block old result new
-GivesUp stands scripts target fault.Memory receiver old result new = SettlesAs fault.Memory target receiver.telling.page.failed receiver.telling.page.block old result new
+    SettlesPageAs (fault.Oversize line announced) target receiver.telling.page old result new
+GivesUp stands scripts target fault.OutputLimit receiver old result new = SettlesPageAs fault.OutputLimit target receiver.telling.page old result new
+GivesUp stands scripts target fault.Memory receiver old result new = SettlesPageAs fault.Memory target receiver.telling.page old result new
 GivesUp stands scripts target fault.Read receiver old result new = (result ≡ fault.Read) × (new ≡ old)
 GivesUp stands scripts target fault.Write receiver old result new = (result ≡ fault.Write) × (new ≡ old)
 

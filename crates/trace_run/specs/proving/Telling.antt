@@ -1,9 +1,14 @@
 -- Devices of proof: one more frame is told.
-use Rattle.std.specs.Prelude.{List, [], ◌∷◌, ◌++◌, Result, OnOk, IfErr}
+use Rattle.std.specs.Prelude.{◌≡◌, ◌≤◌, ◌^◌, List, [], ◌∷◌, ◌++◌, Bool, Option, Result, OnOk, IfErr}
+use Rattle.can_log.specs.declared.frame.Stamped.{Stamped}
 use Rattle.isotp_receive.specs.Trace.{Entry}
 use Rattle.trace_io.specs.declared.device.Target.{Ghosts}
 use Rattle.trace_log.specs.declared.fault.Fault.{Fault}
 use Rattle.trace_run.specs.Told.{Script}
+use Rattle.trace_log.specs.proving.Receiving.{IsStart, Receives}
+use Rattle.trace_run.specs.declared.receiver.Receiver.{Receiver}
+use Rattle.trace_run.specs.Seen.{IsEventOf}
+use Rattle.trace_run.specs.declared.telling.FrameEvent.{FrameEvent}
 use Rattle.trace_run.specs.declared.telling.Telling.{Telling}
 use Rattle.trace_run.specs.proving.Carrying.{IsTellingStart, Tells, StopsTelling, WroteTold}
 
@@ -12,16 +17,39 @@ abbrev pub HasTold : {M W : Type 0} → (M → List Entry → M → Type 0) → 
 HasTold stands scripts target start first T telling now =
     Tells (stands first) target (scripts first) start T telling.machine telling.judge telling.page.failed telling.page.block now
 
+-- and all that was told is written; or writing failed
+abbrev pub HasWritten : {M W : Type 0} → (M → List Entry → M → Type 0) → (M → Script) → Ghosts W → W → M → List Entry → Telling M W → Bool → W → Type 0
+HasWritten stands scripts target start first T telling failed now =
+    Tells (stands first) target (scripts first) start T telling.machine telling.judge failed [] now
+
+-- since this start at least what is told of this trace was written
+abbrev pub HasWrittenAtLeast : {M W : Type 0} → (M → Script) → Ghosts W → W → M → List Entry → Telling M W → W → Type 0
+HasWrittenAtLeast scripts target start first T telling now = WroteTold target (scripts first) start T telling.page.failed telling.page.block now
+
+-- the run stopped at the frame e, of which nothing was said
+abbrev pub HasStopped : {M W : Type 0} → (M → Script) → (M → List Entry → Entry → Type 0) → Ghosts W → W → M → List Entry → Entry → Fault → Telling M W → W → Type 0
+HasStopped scripts needs target start first T e fault telling now =
+    StopsTelling target (scripts first) (needs first) start T e fault telling.page.failed telling.page.block now
+
 -- nothing was told: the machine stands at its start, no message is judged and the page is blank
 abbrev pub HasToldNothing : {M W : Type 0} → (M → List Entry → M → Type 0) → Telling M W → Type 0
 HasToldNothing stands telling = IsTellingStart (stands telling.machine [] telling.machine) telling.judge telling.page.failed telling.page.block
+
+-- this is what the frame e did after the frames T
+abbrev pub IsFrameEvent : List Entry → Entry → FrameEvent → Type 0
+IsFrameEvent T e frame = IsEventOf T e frame.line frame.micros frame.dir frame.event
 
 -- The frame e was told after the frames T, or the run stopped at it. Whatever was written before is.
 pub record TellsFrame {M W A : Type 0} (stands : M → List Entry → M → Type 0) (scripts : M → Script) (needs : M → List Entry → Entry → Type 0) (target : Ghosts W)
     (T : List Entry) (e : Entry) (before : Telling M W) (old : W) (result : Result A Fault) (after : Telling M W) (new : W) : Type 0 where
   pub ok : OnOk result ((start : W) (first : M) → HasTold stands scripts target start first T before old → HasTold stands scripts target start first (T ++ e ∷ []) after new)
   pub err : IfErr result (λ fault. (start : W) (first : M) → HasTold stands scripts target start first T before old
-      → StopsTelling target (scripts first) (needs first) start T e fault after.page.failed after.page.block new)
+      → HasStopped scripts needs target start first T e fault after new)
   pub kept : (start : W) (first : M) (earlier : List Entry) → HasTold stands scripts target start first T before old
-      → WroteTold target (scripts first) start earlier before.page.failed before.page.block old
-      → WroteTold target (scripts first) start earlier after.page.failed after.page.block new
+      → HasWrittenAtLeast scripts target start first earlier before old → HasWrittenAtLeast scripts target start first earlier after new
+
+-- A receiver took lines that mean this; where it stood at its start, it received their frames, and this is told of them.
+abbrev pub HasReceived : {M W : Type 0} → (M → List Entry → M → Type 0) → Ghosts W → Receiver M W → W → List (Option Stamped) → Receiver M W → Type 0 → Type 0
+HasReceived stands target before old meanings after IsTold =
+    (after.config ≡ before.config) × (IsStart before.pair before.lines before.counts → Receives before.config meanings after.pair after.lines after.counts
+    × (HasToldNothing stands before.telling → target.failures old ≤ 2 ^ 62 → IsTold))

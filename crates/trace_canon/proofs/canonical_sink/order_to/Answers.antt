@@ -11,11 +11,11 @@ returns-in-Ok-clause-says g c = λ M stands judged.
     let due = c.in-Ok.ensures.puts M stands judged in
     let all = said_all g.S.TextSink.says g.met.S.TextSink.nothing g.met.S.TextSink.onward due.0 _ c.take.new.sink due.2 in
     let out_is = c.out-1.given.1 (sym all.same_out) in
-    let place_is = c.place-1.given.1 (sym all.same_place) in (
+    let progress_is = c.progress-1.given.1 (sym all.same_progress) in (
       due.0,
       due.1,
-      place_is ∙ all.place,
-      subst (λ o. g.S.TextSink.says c.args.out.now (text_from c.args.config.now c.args.place.now (all_frames MESSAGE_LIMIT due.0)) o) (sym out_is) all.said,
+      progress_is ∙ all.progress,
+      subst (λ o. g.S.TextSink.says c.args.out.now (text_from c.args.config.now c.args.progress.now (all_frames MESSAGE_LIMIT due.0)) o) (sym out_is) all.said,
     )
 
 pub returns-in-Err-clause-held : goal.returns-in-Err-clause-held
@@ -30,7 +30,7 @@ returns-in-Err-clause-refused g c =
     (λ is. (c.take.ensures.memory (c.in-Err.is ∙ ap Err is)).1) (λ is. (c.take.ensures.failed_only (c.in-Err.is ∙ ap Err is)).2)
     (λ e is. c.take.ensures.front e (c.in-Err.is ∙ ap Err is)) in
     let out_is = c.out-1.given.1 (ap (λ s. s.out.ghost_name) (sym same)) in
-    let place_is = c.place-1.given.1 (ap (λ s. s.place.ghost_name) (sym same)) in (
-      place_is ∙ ap (λ s. s.place.now) same,
+    let progress_is = c.progress-1.given.1 (ap (λ s. s.progress.ghost_name) (sym same)) in (
+      progress_is ∙ ap (λ s. s.progress.now) same,
       subst (λ o. S.says c.args.out.now [] o) (sym (out_is ∙ ap (λ s. s.out.now) same)) (g.met.S.TextSink.nothing c.args.out.now),
     )

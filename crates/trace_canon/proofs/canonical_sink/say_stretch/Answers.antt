@@ -11,7 +11,7 @@ use Rattle.trace_canon.proofs.canonical_sink.say_stretch.Goals as goal
 
 pub stretch-init : goal.stretch-init
 stretch-init g c = record {
-  says = none_said g.S.TextSink.says g.met.S.TextSink.nothing g.met.S.TextSink.onward c.args.config.now c.args.place.now c.args.out.now c.args.frames;
+  says = none_said g.S.TextSink.says g.met.S.TextSink.nothing g.met.S.TextSink.onward c.args.config.now c.args.progress.now c.args.out.now c.args.frames;
   fewer = omega arith;
 }
 
@@ -19,15 +19,15 @@ pub returns-then-not-admit-clause-says : goal.returns-then-not-admit-clause-says
 returns-then-not-admit-clause-says g c =
     let settings = c.args.config.now in
     let frame : Dir × List ℕ = (c.args.sender, c.in-Some.frame) in
-    let long = canonical_line_length c.stretch.place.lines (id_of settings c.args.sender) c.in-Some.frame (omega arith) in
+    let long = canonical_line_length c.stretch.progress.lines (id_of settings c.args.sender) c.in-Some.frame (omega arith) in
     let named = canonical_name_length (id_of settings c.args.sender) in
     let name = ap length c.requires.name in
     let none = c.admit.ensures.none c.if-not-admit.true in
     let beyond = none.0 in
-    let stops = line_stops g.S.TextSink.says g.met.S.TextSink.nothing g.met.S.TextSink.onward settings c.stretch.place c.stretch.out frame c.next_full.new.self (omega arith) in
-    more_said g.S.TextSink.says g.met.S.TextSink.nothing g.met.S.TextSink.onward settings c.args.place.now c.stretch.place c.stretch.place c.admit.new.self
+    let stops = line_stops g.S.TextSink.says g.met.S.TextSink.nothing g.met.S.TextSink.onward settings c.stretch.progress c.stretch.out frame c.next_full.new.self (omega arith) in
+    more_said g.S.TextSink.says g.met.S.TextSink.nothing g.met.S.TextSink.onward settings c.args.progress.now c.stretch.progress c.stretch.progress c.admit.new.self
     c.args.out.now c.stretch.out c.stretch.out c.args.frames c.stretch.rest (frame ∷ c.next_full.new.self) c.next_full.new.self c.stretch.invariant.says c.in-Some.ensures.some refl
-    (subst (λ p. SaysFront g.S.TextSink.says settings c.stretch.place c.stretch.out (frame ∷ c.next_full.new.self) p c.stretch.out c.next_full.new.self) (sym none.1) stops)
+    (subst (λ p. SaysFront g.S.TextSink.says settings c.stretch.progress c.stretch.out (frame ∷ c.next_full.new.self) p c.stretch.out c.next_full.new.self) (sym none.1) stops)
 
 pub returns-then-not-admit-clause-fewer : goal.returns-then-not-admit-clause-fewer
 returns-then-not-admit-clause-fewer g c =
@@ -40,33 +40,33 @@ stretch-preserved g c =
     let settings = c.args.config.now in
     let frame : Dir × List ℕ = (c.args.sender, c.in-Some.frame) in
     let identifier = id_of settings c.args.sender in
-    let line = line_at settings c.stretch.place.lines frame in
+    let line = line_at settings c.stretch.progress.lines frame in
     let admitted = c.admit.ensures.some c.if-not-admit.false in
-    let here : c.clock.result.now ≡ c.stretch.place.lines = c.clock.ensures ∙ ap (λ p. p.lines) admitted.1 in
+    let here : c.clock.result.now ≡ c.stretch.progress.lines = c.clock.ensures ∙ ap (λ p. p.lines) admitted.1 in
     let stamped = c.stamp.ensures ∙ ap canonical_stamp here in
     let is : c.stamp.result.now ++ c.args.name ++ c.line_end.result ≡ line =
-    (λ i. stamped i ++ c.requires.name i ++ c.line_end.ensures i) ∙ canonical_line_in_parts c.stretch.place.lines identifier c.in-Some.frame in
+    (λ i. stamped i ++ c.requires.name i ++ c.line_end.ensures i) ∙ canonical_line_in_parts c.stretch.progress.lines identifier c.in-Some.frame in
     let said = subst (λ text. g.S.TextSink.says c.stretch.out text c.put_three.new.self) is c.put_three.ensures in
-    let long = canonical_line_length c.stretch.place.lines identifier c.in-Some.frame (omega arith) in
+    let long = canonical_line_length c.stretch.progress.lines identifier c.in-Some.frame (omega arith) in
     let named = canonical_name_length identifier in
     let name = ap length c.requires.name in
-    let room : length line ≤ c.stretch.place.room = (let within = admitted.0 in omega arith) in
-    let one = line_said g.S.TextSink.says g.met.S.TextSink.nothing g.met.S.TextSink.onward settings c.stretch.place c.stretch.out c.put_three.new.self frame
+    let room : length line ≤ c.stretch.progress.room = (let within = admitted.0 in omega arith) in
+    let one = line_said g.S.TextSink.says g.met.S.TextSink.nothing g.met.S.TextSink.onward settings c.stretch.progress c.stretch.out c.put_three.new.self frame
     c.next_full.new.self line (λ i. line) room said in
-    let passed : c.pass.new.self ≡ behind c.stretch.place line = c.pass.ensures line (omega arith) ∙ ap (λ p. behind p line) admitted.1 in
+    let passed : c.pass.new.self ≡ behind c.stretch.progress line = c.pass.ensures line (omega arith) ∙ ap (λ p. behind p line) admitted.1 in
     let so_far = c.stretch.invariant.fewer in
     let step = ap length c.in-Some.ensures.some in
     record {
-      says = more_said g.S.TextSink.says g.met.S.TextSink.nothing g.met.S.TextSink.onward settings c.args.place.now c.stretch.place c.stretch.place c.pass.new.self
+      says = more_said g.S.TextSink.says g.met.S.TextSink.nothing g.met.S.TextSink.onward settings c.args.progress.now c.stretch.progress c.stretch.progress c.pass.new.self
           c.args.out.now c.stretch.out c.put_three.new.self c.args.frames c.stretch.rest (frame ∷ c.next_full.new.self) c.next_full.new.self c.stretch.invariant.says
           c.in-Some.ensures.some refl
-          (subst (λ p. SaysFront g.S.TextSink.says settings c.stretch.place c.stretch.out (frame ∷ c.next_full.new.self) p c.put_three.new.self c.next_full.new.self) (sym passed) one);
+          (subst (λ p. SaysFront g.S.TextSink.says settings c.stretch.progress c.stretch.out (frame ∷ c.next_full.new.self) p c.put_three.new.self c.next_full.new.self) (sym passed) one);
       fewer = omega arith;
     }
 
 pub returns-clause-says : goal.returns-clause-says
 returns-clause-says g c =
-    subst (λ fs. SaysFront g.S.TextSink.says c.args.config.now c.args.place.now c.args.out.now c.args.frames c.stretch.place c.stretch.out fs)
+    subst (λ fs. SaysFront g.S.TextSink.says c.args.config.now c.args.progress.now c.args.out.now c.args.frames c.stretch.progress c.stretch.out fs)
     (sym c.in_default.ensures.none) c.stretch.invariant.says
 
 pub returns-clause-fewer : goal.returns-clause-fewer

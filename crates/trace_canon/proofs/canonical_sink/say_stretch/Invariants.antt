@@ -4,7 +4,7 @@ use Rattle.trace_canon.proofs.canonical_sink.say_stretch.Given as goal
 
 abbrev pub invariant-stretch : goal.invariant-stretch
 invariant-stretch g l = record {
-  says : SaysFront g.S.TextSink.says l.config l.fn.place l.fn.out l.fn.frames l.place l.out l.rest;
+  says : SaysFront g.S.TextSink.says l.config l.fn.progress l.fn.out l.fn.frames l.progress l.out l.rest;
   fewer : length l.rest ≤ length l.fn.frames;
 }
 

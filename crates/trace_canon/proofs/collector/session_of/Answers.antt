@@ -1,3 +1,4 @@
+use Rattle.std.proofs.Common.{rules}
 use Rattle.isotp_receive.specs.declared.TheConstants.{MESSAGE_LIMIT}
 use Rattle.trace_canon.specs.SessionScript.{answers_session, silent_script}
 use Rattle.trace_canon.proofs.Collecting.{collects_none}
@@ -9,10 +10,14 @@ use Rattle.trace_canon.proofs.collector.session_of.Goals as goal
 pub run-requires-clause-machine : goal.run-requires-clause-machine
 run-requires-clause-machine g c = rw (c.new.ensures) (collects_none c.args.config.now)
 
-pub returns-clause-answer : goal.returns-clause-answer
-returns-clause-answer g c = λ log agrees. session_is_the_same c.args.config.now log _ c.run.result _ _ (c.run.ensures.ran.answer log agrees)
-
-pub returns-clause-never_write : goal.returns-clause-never_write
-returns-clause-never_write g c =
-    let gave = c.run.ensures.ran.read.gave in
-    never_write silent_script silent_tells_nothing (answers_session c.args.config.now) MESSAGE_LIMIT c.args.config.now gave.bytes _ _ _ c.run.result (c.run.ensures.ran.answer gave.bytes (given_agrees gave))
+pub returns-clause-ran : goal.returns-clause-ran
+returns-clause-ran g c =
+    let ran = c.run.ensures.ran in
+    record {
+      answer = λ log agrees. session_is_the_same c.args.config.now log _ c.run.result _ _ (ran.answer log agrees);
+      near = search rules;
+      memory = search rules;
+      read = search rules;
+      never_write = never_write silent_script silent_tells_nothing (answers_session c.args.config.now) MESSAGE_LIMIT c.args.config.now ran.read.gave.bytes _ _ _ c.run.result
+          (ran.answer ran.read.gave.bytes (given_agrees ran.read.gave));
+    }

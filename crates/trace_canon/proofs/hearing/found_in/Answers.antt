@@ -1,37 +1,33 @@
-use Rattle.std.proofs.Common.{arith}
+use Rattle.std.proofs.Common.{arith, rules}
 use Rattle.std.proofs.lemmas.Result.{IfOk-weaker, IfErr-weaker}
 use Rattle.trace_canon.proofs.Hearings.{heard_fault, heard_need, heard_unwritten, heard_end, heard_end_need}
 use Rattle.trace_log.proofs.Promises.{reads_legal}
 use Rattle.trace_canon.proofs.hearing.found_in.Goals as goal
 
-pub returns-in-Ok-clause-answer : goal.returns-in-Ok-clause-answer
-returns-in-Ok-clause-answer g c = λ log agrees.
-    let read = c.in-Ok.ensures.lines log agrees (c.start-hearing.result, tt) (λ heard. heard) in
-    heard_end c.args.config.now log read.0 (omega (arith, read.1, c.max_bytes.ensures.value)) read.3 c.finish.result
-    (IfOk-weaker c.finish.result _ _ (λ found is. is log read.0 (read.5 c.start-hearing.ensures) read.6) c.finish.ensures.found) c.finish.ensures.fault
+pub returns-in-Ok-clause-ran : goal.returns-in-Ok-clause-ran
+returns-in-Ok-clause-ran g c = record {
+  answer = λ log agrees.
+      let read = c.in-Ok.ensures.lines log agrees (c.start-hearing.result, tt) (λ heard. heard) in
+      heard_end c.args.config.now log read.0 (omega (arith, read.1, c.max_bytes.ensures.value)) read.3 c.finish.result
+      (IfOk-weaker c.finish.result _ _ (λ found is. is log read.0 (read.5 c.start-hearing.ensures) read.6) c.finish.ensures.found) c.finish.ensures.fault;
+  near = λ log agrees. reads_legal (c.in-Ok.ensures.near log agrees (c.start-hearing.result, tt) (λ heard. heard));
+  memory = λ log agrees refused.
+      let read = c.in-Ok.ensures.lines log agrees (c.start-hearing.result, tt) (λ heard. heard) in
+      heard_end_need c.args.config.now log read.0 (omega (arith, read.1, c.max_bytes.ensures.value)) read.3 c.finish.result
+      (IfErr-weaker c.finish.result _ _ (λ fault needs. needs read.0 (read.5 c.start-hearing.ensures)) c.finish.ensures.needs) refused;
+  read = search rules;
+  never_write = search rules;
+}
 
-pub returns-in-Ok-clause-memory : goal.returns-in-Ok-clause-memory
-returns-in-Ok-clause-memory g c = λ log agrees refused.
-    let read = c.in-Ok.ensures.lines log agrees (c.start-hearing.result, tt) (λ heard. heard) in
-    heard_end_need c.args.config.now log read.0 (omega (arith, read.1, c.max_bytes.ensures.value)) read.3 c.finish.result
-    (IfErr-weaker c.finish.result _ _ (λ fault needs. needs read.0 (read.5 c.start-hearing.ensures)) c.finish.ensures.needs) refused
-
-pub returns-in-Ok-clause-near : goal.returns-in-Ok-clause-near
-returns-in-Ok-clause-near g c = λ log agrees. reads_legal (c.in-Ok.ensures.near log agrees (c.start-hearing.result, tt) (λ heard. heard))
-
-pub returns-in-Err-clause-answer : goal.returns-in-Err-clause-answer
-returns-in-Err-clause-answer g c = λ log agrees.
-    heard_fault c.args.config.now log _ (c.start-hearing.result, tt) _ c.start-hearing.ensures _ c.in-Err.fault c.max_bytes.ensures.value
-    (c.in-Err.ensures.lines log agrees (c.start-hearing.result, tt) (λ heard. heard))
-
-pub returns-in-Err-clause-memory : goal.returns-in-Err-clause-memory
-returns-in-Err-clause-memory g c = λ log agrees refused.
-    heard_need c.args.config.now log _ (c.start-hearing.result, tt) _ c.start-hearing.ensures _ c.in-Err.fault c.max_bytes.ensures.value
-    (c.in-Err.ensures.lines log agrees (c.start-hearing.result, tt) (λ heard. heard)) (cc refused)
-
-pub returns-in-Err-clause-never_write : goal.returns-in-Err-clause-never_write
-returns-in-Err-clause-never_write g c =
-    heard_unwritten c.in-Err.fault (c.start-hearing.result, tt) _ (c.in-Err.ensures.takes (c.start-hearing.result, tt) (λ heard. heard))
-
-pub returns-in-Err-clause-near : goal.returns-in-Err-clause-near
-returns-in-Err-clause-near g c = λ log agrees. reads_legal (c.in-Err.ensures.near log agrees (c.start-hearing.result, tt) (λ heard. heard))
+pub returns-in-Err-clause-ran : goal.returns-in-Err-clause-ran
+returns-in-Err-clause-ran g c = record {
+  answer = λ log agrees.
+      heard_fault c.args.config.now log _ (c.start-hearing.result, tt) _ c.start-hearing.ensures _ c.in-Err.fault c.max_bytes.ensures.value
+      (c.in-Err.ensures.lines log agrees (c.start-hearing.result, tt) (λ heard. heard));
+  near = λ log agrees. reads_legal (c.in-Err.ensures.near log agrees (c.start-hearing.result, tt) (λ heard. heard));
+  memory = λ log agrees refused.
+      heard_need c.args.config.now log _ (c.start-hearing.result, tt) _ c.start-hearing.ensures _ c.in-Err.fault c.max_bytes.ensures.value
+      (c.in-Err.ensures.lines log agrees (c.start-hearing.result, tt) (λ heard. heard)) (cc refused);
+  read = search rules;
+  never_write = heard_unwritten c.in-Err.fault (c.start-hearing.result, tt) _ (c.in-Err.ensures.takes (c.start-hearing.result, tt) (λ heard. heard));
+}

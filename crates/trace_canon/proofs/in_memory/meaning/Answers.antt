@@ -4,6 +4,6 @@ use Rattle.isotp_receive.specs.declared.TheConstants.{MESSAGE_LIMIT}
 
 pub returns : goal.returns
 returns c =
-    let ran = c.meaning_of.ensures in
+    let ran = c.meaning_of.ensures.ran in
     let agrees = agrees_in_memory c.args.log.now c.new.result c.meaning_of.new.reader c.new.ensures ran.read.gave ran.read.ended in
     meaning_in_memory MESSAGE_LIMIT c.args.config.now c.args.log.now c.meaning_of.result ran.read.failed ran.never_write (ran.memory c.args.log.now agrees) (ran.answer c.args.log.now agrees)

@@ -7,7 +7,7 @@ use Rattle.trace_canon.proofs.normaliser.normalise.Goals as goal
 pub run-requires-clause-machine : goal.run-requires-clause-machine
 run-requires-clause-machine g c =
     let settings = c.args.config.now in
-    record { ordered = c.new.ensures; same = refl; at = c.start.ensures.place ∙ sym (place_none settings (start_of settings.max_bytes)) }
+    record { ordered = c.new.ensures; same = refl; at = c.start.ensures.progress ∙ sym (place_none settings (start_of settings.max_bytes)) }
 
 pub returns-clause-answer : goal.returns-clause-answer
 returns-clause-answer g c = λ log agrees.

@@ -8,7 +8,7 @@ use Rattle.trace_run.specs.proving.Carrying.{IsTellingStart, Tells, StopsTelling
 use Rattle.trace_log.specs.Settings.{direction_of}
 use Rattle.trace_log.specs.Trace.{trace}
 use Rattle.trace_log.specs.Summing.{counted_more}
-use Rattle.trace_log.specs.proving.Receiving.{entry_in}
+use Rattle.trace_log.specs.proving.Receiving.{entry_at, entry_in}
 use Rattle.trace_log.proofs.Promises.{four_ok, few_frames, trace_same_blank, trace_same_foreign, trace_next, receives_same, receives_next}
 use Rattle.trace_run.proofs.Tellings.{on_ok_of_each, if_err_of_each}
 use Rattle.trace_run.proofs.receiver.ReceiverLineTaker.take.Goals as goal
@@ -44,9 +44,9 @@ pub returns-clause-ok : goal.returns-clause-ok
 returns-clause-ok g c =
     let stamped = c.in-Some.stamped in
     let d = c.in-Some-direction_of.dir in
-    let at : ℕ → Entry = λ line. record { line = line; micros = stamped.micros; dir = d; frame = stamped.frame } in
+    let at : ℕ → Entry = λ line. entry_at line stamped d in
     four_ok c.receive.result (λ stands grew counts taken start meanings number few took. (
-      took.0,
+      c.receive.ensures.same.0 ∙ took.0,
       λ fresh.
           let received = took.1 fresh in
           let direction : Some d ≡ direction_of start.0.config stamped.frame.id =
@@ -56,14 +56,14 @@ returns-clause-ok g c =
           let here : at c.args.line ≡ entry_in meanings stamped d = ap at line in
           let frames = few_frames start.0.config meanings in
           let T = trace start.0.config meanings in (
-            receives_next start.0.config meanings c.args.what.now (entry_in meanings stamped d) c.args.self.now.pair c.receive.new.pair c.args.self.now.lines c.args.line
-                c.args.self.now.counts c.receive.new.counts next number few
+            receives_next start.0.config meanings c.args.what.now (entry_in meanings stamped d) c.args.self.now.pair c.receive.new.self.pair c.args.self.now.lines c.receive.new.self.lines
+                c.args.self.now.counts c.receive.new.self.counts next (c.receive.ensures.same.1 ∙ number) few
                 (stands T received.0.pair_is ∙ ap (λ (e : Entry). receptions_after MESSAGE_LIMIT (T ++ e ∷ [])) here)
                 grew
                 (counts T received.0.pair_is ∙ ap (λ (e : Entry). counted_more d (verdict MESSAGE_LIMIT T e) c.args.self.now.counts) here) received.0,
             λ blank low.
-                subst (λ U. Tells (g.M.Machine.stands start.0.telling.machine) g.W.Target (g.M.Machine.script start.0.telling.machine) start.1 U c.receive.new.telling.machine c.receive.new.telling.judge c.receive.new.telling.page.failed c.receive.new.telling.page.block c.receive.new.target) (sym next)
-                (subst (λ (e : Entry). Tells (g.M.Machine.stands start.0.telling.machine) g.W.Target (g.M.Machine.script start.0.telling.machine) start.1 (T ++ e ∷ []) c.receive.new.telling.machine c.receive.new.telling.judge c.receive.new.telling.page.failed c.receive.new.telling.page.block c.receive.new.target) here
+                subst (λ U. Tells (g.M.Machine.stands start.0.telling.machine) g.W.Target (g.M.Machine.script start.0.telling.machine) start.1 U c.receive.new.self.telling.machine c.receive.new.self.telling.judge c.receive.new.self.telling.page.failed c.receive.new.self.telling.page.block c.receive.new.device) (sym next)
+                (subst (λ (e : Entry). Tells (g.M.Machine.stands start.0.telling.machine) g.W.Target (g.M.Machine.script start.0.telling.machine) start.1 (T ++ e ∷ []) c.receive.new.self.telling.machine c.receive.new.self.telling.judge c.receive.new.self.telling.page.failed c.receive.new.self.telling.page.block c.receive.new.device) here
                 (taken T received.0.pair_is (omega arith) start.1 start.0.telling.machine (received.1 blank low))),
           ),
     )) c.receive.ensures.pair c.receive.ensures.grew c.receive.ensures.counts
@@ -73,7 +73,7 @@ pub returns-clause-err : goal.returns-clause-err
 returns-clause-err g c =
     let stamped = c.in-Some.stamped in
     let d = c.in-Some-direction_of.dir in
-    let at : ℕ → Entry = λ line. record { line = line; micros = stamped.micros; dir = d; frame = stamped.frame } in
+    let at : ℕ → Entry = λ line. entry_at line stamped d in
     IfErr-weaker c.receive.result _ _ (λ fault stops start meanings number few took fresh.
     let received = took.1 fresh in
     let direction : Some d ≡ direction_of start.0.config stamped.frame.id =
@@ -87,8 +87,8 @@ returns-clause-err g c =
       c.in-Some.is,
       direction,
       λ blank low.
-          subst (λ (e : Entry). StopsTelling g.W.Target (g.M.Machine.script start.0.telling.machine) (g.M.Machine.needs start.0.telling.machine) start.1 T e fault c.receive.new.telling.page.failed
-          c.receive.new.telling.page.block c.receive.new.target) here
+          subst (λ (e : Entry). StopsTelling g.W.Target (g.M.Machine.script start.0.telling.machine) (g.M.Machine.needs start.0.telling.machine) start.1 T e fault c.receive.new.self.telling.page.failed
+          c.receive.new.self.telling.page.block c.receive.new.device) here
           (stops T received.0.pair_is (omega arith) start.1 start.0.telling.machine (received.1 blank low)),
     )) (if_err_of_each _ _ _ c.receive.result (λ T stands few. (c.receive.ensures.told T stands few).err))
 

@@ -16,10 +16,10 @@ returns-in-Some-clause-told g c = λ T e seen.
       err = λ start first tells.
           let script = M.script first in
           let strict = c.is_strict.ensures first T tells.machine_stands in
-          let why = stopped_for script.strict T e (seen_event c.args.event) c.in-Some.announced seen.did
-          (subst (λ b. stops_for b (seen_event c.args.event).verdict ≡ Some c.in-Some.announced) strict (sym c.refusal.ensures ∙ c.in-Some.is)) in
+          let why = stopped_for script.strict T e (seen_event c.args.frame.event) c.in-Some.announced seen.did
+          (subst (λ b. stops_for b (seen_event c.args.frame.event).verdict ≡ Some c.in-Some.announced) strict (sym c.refusal.ensures ∙ c.in-Some.is)) in
           stops_before (M.stands first) g.W.Target script (M.needs first) start T e c.args.self.now.machine c.args.self.now.judge
-          c.args.self.now.page.failed c.args.self.now.page.block c.args.target.now (Oversize c.args.line c.in-Some.announced) tells (why.0, sym seen.line, why.1);
+          c.args.self.now.page.failed c.args.self.now.page.block c.args.target.now (Oversize c.args.frame.line c.in-Some.announced) tells (why.0, sym seen.line, why.1);
       kept = λ start first earlier tells sure. sure;
     }
 
@@ -32,10 +32,10 @@ returns-in-Ok-clause-told g c = λ T e seen.
           let script = M.script first in
           let strict = c.is_strict.ensures first T tells.machine_stands in
           let said = c.in-Ok.ensures.ok first T e (record { event = seen; message = c.judged_message-message.ensures.judged (messages MESSAGE_LIMIT T) few tells.judged }) tells.machine_stands in
-          tells_next (M.stands first) g.W.Target script (M.needs first) start T e c.args.line c.args.dir (seen_event c.args.event) seen.dir seen.did
+          tells_next (M.stands first) g.W.Target script (M.needs first) start T e c.args.frame.line c.args.frame.dir (seen_event c.args.frame.event) seen.dir seen.did
           _ _ _ _ _ _ _ _ _ _ tells (c.judged_message-message.ensures.next (messages MESSAGE_LIMIT T) few tells.judged) said.0
-          (not_stopped_for script.strict T e (seen_event c.args.event) seen.did
-          (subst (λ b. stops_for b (seen_event c.args.event).verdict ≡ None) strict (sym c.refusal.ensures ∙ c.in-None.is))) said.1;
+          (not_stopped_for script.strict T e (seen_event c.args.frame.event) seen.did
+          (subst (λ b. stops_for b (seen_event c.args.frame.event).verdict ≡ None) strict (sym c.refusal.ensures ∙ c.in-None.is))) said.1;
       err = tt;
       kept = λ start first earlier tells sure.
           let said = c.in-Ok.ensures.ok first T e (record { event = seen; message = c.judged_message-message.ensures.judged (messages MESSAGE_LIMIT T) few tells.judged }) tells.machine_stands in
@@ -53,8 +53,8 @@ returns-in-Err-clause-told g c = λ T e seen.
           let strict = c.is_strict.ensures first T tells.machine_stands in
           let needs = c.in-Err.ensures.needs first T e (record { event = seen; message = c.judged_message-message.ensures.judged (messages MESSAGE_LIMIT T) few tells.judged }) tells.machine_stands in
           stops_at (M.stands first) g.W.Target script (M.needs first) start T e _ _ _ _ _ _ _ _ tells
-          (not_stopped_for script.strict T e (seen_event c.args.event) seen.did
-          (subst (λ b. stops_for b (seen_event c.args.event).verdict ≡ None) strict (sym c.refusal.ensures ∙ c.in-None.is)))
+          (not_stopped_for script.strict T e (seen_event c.args.frame.event) seen.did
+          (subst (λ b. stops_for b (seen_event c.args.frame.event).verdict ≡ None) strict (sym c.refusal.ensures ∙ c.in-None.is)))
           needs (c.in-Err.ensures.err first T tells.machine_stands);
       kept = λ start first earlier tells sure.
           let said = c.in-Err.ensures.err first T tells.machine_stands in

@@ -5,18 +5,18 @@ use Rattle.isotp_receive.specs.Verdict.{messages}
 use Rattle.trace_run.specs.declared.machine.Stop.TheVariants.{OutputLimit}
 use Rattle.trace_canon.specs.CanonicalScript.{is_too_long}
 use Rattle.trace_canon.proofs.CanonicalScripts.{over_at_end}
-use Rattle.trace_canon.proofs.normaliser.CanonicalMachine.end.Goals as goal
+use Rattle.trace_canon.proofs.normaliser.NormaliserMachine.end.Goals as goal
 
 pub returns-then-is_over-clause-answered : goal.returns-then-is_over-clause-answered
 returns-then-is_over-clause-answered g c = λ start T stands pair.
     let self = c.args.self in
-    let over = over_at_end start.config self.config T self.orderer self.place c.finish_to.new.place stands (c.finish_to.ensures.place (messages MESSAGE_LIMIT T) stands.ordered) in
+    let over = over_at_end start.config self.config T self.orderer self.progress c.finish_to.new.progress stands (c.finish_to.ensures.progress (messages MESSAGE_LIMIT T) stands.ordered) in
     let is : is_too_long start.config T ≡ true = sym over ∙ sym c.is_over.ensures ∙ c.if-is_over.true in
     ap (λ (b : Bool). if b then Err OutputLimit else Ok c.args.summary.now) (sym is)
 
 pub returns-clause-answered : goal.returns-clause-answered
 returns-clause-answered g c = λ start T stands pair.
     let self = c.args.self in
-    let over = over_at_end start.config self.config T self.orderer self.place c.finish_to.new.place stands (c.finish_to.ensures.place (messages MESSAGE_LIMIT T) stands.ordered) in
+    let over = over_at_end start.config self.config T self.orderer self.progress c.finish_to.new.progress stands (c.finish_to.ensures.progress (messages MESSAGE_LIMIT T) stands.ordered) in
     let is : is_too_long start.config T ≡ false = sym over ∙ sym c.is_over.ensures ∙ c.if-is_over.false in
     ap (λ (b : Bool). if b then Err OutputLimit else Ok c.args.summary.now) (sym is)

@@ -1,19 +1,19 @@
 use Rattle.std.proofs.Common.{refl, inl}
-use Rattle.isotp_receive.specs.Trace.{Entry}
+use Rattle.trace_log.specs.proving.Receiving.{entry_at}
 use Rattle.trace_log.specs.declared.fault.Fault.TheVariants.{Memory}
 use Rattle.trace_log.proofs.Promises.{announces_kept}
 use Rattle.trace_run.proofs.Tellings.{stops_before}
-use Rattle.trace_run.proofs.receiver.receive.Goals as goal
+use Rattle.trace_run.proofs.receiver.Receiver.receive.Goals as goal
 
 pub returns-in-Ok-clause-told : goal.returns-in-Ok-clause-told
 returns-in-Ok-clause-told g c = λ T stands few.
-    let e : Entry = record { line = c.args.line; micros = c.args.micros; dir = c.args.dir; frame = c.args.frame.now } in
+    let e = entry_at c.args.line c.args.stamped.now c.args.dir in
     c.hand_on.ensures.told T e (record { few = few; line = refl; micros = refl; dir = refl; did = c.in-Ok.ensures.verdict T stands })
 
 pub returns-in-Err-clause-told : goal.returns-in-Err-clause-told
 returns-in-Err-clause-told g c = λ T stands few.
     let M = g.M.Machine in
-    let e : Entry = record { line = c.args.line; micros = c.args.micros; dir = c.args.dir; frame = c.args.frame.now } in
+    let e = entry_at c.args.line c.args.stamped.now c.args.dir in
     let kept = c.in-Err.ensures.refused T stands in
     record {
       ok = tt;
