@@ -1,4 +1,5 @@
 pub mod Keeping
+pub mod Read
 pub mod Sessions
 pub mod Compared
 pub mod ComparisonText

@@ -5,3 +5,4 @@ pub mod Counting
 pub mod Standing
 pub mod Needing
 pub mod Promises
+pub mod Sayings

@@ -1,3 +1,4 @@
 pub mod Mention
 pub mod Credit
 pub mod Finding
+pub mod Laws

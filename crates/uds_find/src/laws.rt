@@ -1,6 +1,17 @@
-//! What holds of credits, whatever counts them. Each law is its contract; a call does nothing.
+//! What holds of what frames say and of credits, whatever counts them. Each law is its contract; a call does nothing.
 
 ghost use Rattle.uds_find.specs.Credit.{CreditIsAsked, FirstCreditIsCredit};
+ghost use Rattle.uds_find.specs.Laws.{KeepAliveSaysNothing, PendingReplySaysNothing};
+
+/// A keep-alive asks for nothing.
+pub fn keep_alive_says_nothing()
+    ensures { KeepAliveSaysNothing }
+{}
+
+/// A reply that puts its answer off answers nothing.
+pub fn pending_reply_says_nothing()
+    ensures { PendingReplySaysNothing }
+{}
 
 /// The first credit of a pair is a credit.
 pub fn first_credit_is_credit()
