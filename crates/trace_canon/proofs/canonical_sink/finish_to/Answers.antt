@@ -15,11 +15,11 @@ returns-clause-says g c = λ M stands.
     let all = said_all g.S.TextSink.says g.met.S.TextSink.nothing g.met.S.TextSink.onward (held M) _ c.finish.new.sink (c.in_default.ensures.puts M stands) in
     subst (λ o. g.S.TextSink.says c.args.out.now (text_from c.args.config.now c.args.progress.now (all_frames MESSAGE_LIMIT (held M))) o) (sym (c.out-1.given.1 (sym all.same_out))) all.said
 
-pub returns-in-Err-clause-place : goal.returns-in-Err-clause-place
-returns-in-Err-clause-place g c = λ M stands.
+pub returns-in-Err-clause-progress : goal.returns-in-Err-clause-progress
+returns-in-Err-clause-progress g c = λ M stands.
     never_stops (SaysOne g.S.TextSink.says g.met.S.TextSink.nothing g.met.S.TextSink.onward) (held M) _ c.finish.new.sink c.in-Err._fault (c.in-Err.ensures.stops M stands)
 
-pub returns-clause-place : goal.returns-clause-place
-returns-clause-place g c = λ M stands.
+pub returns-clause-progress : goal.returns-clause-progress
+returns-clause-progress g c = λ M stands.
     let all = said_all g.S.TextSink.says g.met.S.TextSink.nothing g.met.S.TextSink.onward (held M) _ c.finish.new.sink (c.in_default.ensures.puts M stands) in
     c.progress-1.given.1 (sym all.same_progress) ∙ all.progress

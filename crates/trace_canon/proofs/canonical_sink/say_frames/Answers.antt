@@ -23,11 +23,11 @@ returns-then-not-say_frame-clause-says g c =
     c.args.frames c.next.new.self (text_full settings c.say_frame.new.progress c.next.new.self (ap (λ p. p.room) full))
     (one_more g (goal.at.returns-then-not-say_frame-clause-says g c).After-say_frame)
 
-pub returns-then-not-say_frame-clause-place : goal.returns-then-not-say_frame-clause-place
-returns-then-not-say_frame-clause-place g c =
+pub returns-then-not-say_frame-clause-progress : goal.returns-then-not-say_frame-clause-progress
+returns-then-not-say_frame-clause-progress g c =
     let settings = c.args.config.now in
     let full = c.say_frame.ensures.over c.if-not-say_frame.true in
-    let front = one_more g (goal.at.returns-then-not-say_frame-clause-place g c).After-say_frame in
+    let front = one_more g (goal.at.returns-then-not-say_frame-clause-progress g c).After-say_frame in
     sym (front.stands ∙ ap (λ p. progress_after settings p c.next.new.self) full ∙ place_full settings c.frames.progress c.next.new.self ∙ sym full)
 
 pub frames-preserved-then-ne : goal.frames-preserved-then-ne
@@ -45,7 +45,7 @@ returns-clause-says g c =
     all_lines_said g.S.TextSink.says g.met.S.TextSink.nothing g.met.S.TextSink.onward settings c.args.progress.now c.frames.progress c.args.out.now c.frames.out c.args.frames
     c.frames.rest (ap (text_from settings c.frames.progress) c.in_default.ensures.steps.0 ∙ text_none settings c.frames.progress) c.frames.invariant
 
-pub returns-clause-place : goal.returns-clause-place
-returns-clause-place g c =
+pub returns-clause-progress : goal.returns-clause-progress
+returns-clause-progress g c =
     let settings = c.args.config.now in
     sym (c.frames.invariant.stands ∙ ap (progress_after settings c.frames.progress) c.in_default.ensures.steps.0 ∙ place_none settings c.frames.progress)

@@ -4,8 +4,8 @@ use Rattle.trace_canon.proofs.Hearings.{heard_fault, heard_need, heard_unwritten
 use Rattle.trace_log.proofs.Promises.{reads_legal}
 use Rattle.trace_canon.proofs.hearing.found_in.Goals as goal
 
-pub returns-in-Ok-clause-ran : goal.returns-in-Ok-clause-ran
-returns-in-Ok-clause-ran g c = record {
+pub returns-in-Ok : goal.returns-in-Ok
+returns-in-Ok g c = record { ran = record {
   answer = λ log agrees.
       let read = c.in-Ok.ensures.lines log agrees (c.start-hearing.result, tt) (λ heard. heard) in
       heard_end c.args.config.now log read.0 (omega (arith, read.1, c.max_bytes.ensures.value)) read.3 c.finish.result
@@ -17,10 +17,10 @@ returns-in-Ok-clause-ran g c = record {
       (IfErr-weaker c.finish.result _ _ (λ fault needs. needs read.0 (read.5 c.start-hearing.ensures)) c.finish.ensures.needs) refused;
   read = search rules;
   never_write = search rules;
-}
+}; }
 
-pub returns-in-Err-clause-ran : goal.returns-in-Err-clause-ran
-returns-in-Err-clause-ran g c = record {
+pub returns-in-Err : goal.returns-in-Err
+returns-in-Err g c = record { ran = record {
   answer = λ log agrees.
       heard_fault c.args.config.now log _ (c.start-hearing.result, tt) _ c.start-hearing.ensures _ c.in-Err.fault c.max_bytes.ensures.value
       (c.in-Err.ensures.lines log agrees (c.start-hearing.result, tt) (λ heard. heard));
@@ -30,4 +30,4 @@ returns-in-Err-clause-ran g c = record {
       (c.in-Err.ensures.lines log agrees (c.start-hearing.result, tt) (λ heard. heard)) (cc refused);
   read = search rules;
   never_write = heard_unwritten c.in-Err.fault (c.start-hearing.result, tt) _ (c.in-Err.ensures.takes (c.start-hearing.result, tt) (λ heard. heard));
-}
+}; }
