@@ -114,7 +114,7 @@ fn refuse<M: Machine, W: Target>(why: Fault, receiver: Receiver<M, W>, target: &
         mut page,
         ..
     } = telling;
-    let summary = sum_up(&pair, lines, counts, judge.removed, false);
+    let summary = sum_up(&pair, lines, counts, &judge, false);
     tell_refusal(machine, target, &mut page, &summary, why);
     settle_before(why, target, &mut page)
 }
@@ -157,7 +157,7 @@ fn finish<M: Machine, W: Target>(
         mut page,
         ..
     } = telling;
-    let summary = sum_up(&pair, lines, counts, judge.removed, ended);
+    let summary = sum_up(&pair, lines, counts, &judge, ended);
     let answer = tell_end(machine, target, &mut page, &pair, &summary);
     if !settle(target, &mut page) {
         return Err(Fault::Write);

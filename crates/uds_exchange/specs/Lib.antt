@@ -11,5 +11,6 @@ pub mod Decider
 pub mod Laws
 pub mod OneMessage
 pub mod WaitingExchange
+pub mod Exchanged
 pub mod Judging
 pub mod proving

@@ -4,6 +4,7 @@ ghost use Rattle.std.specs.Prelude.{◌≡◌, ◌^◌, ◌<◌, ◌++◌, ◌�
 ghost use Rattle.direction.specs.Dir.{Message};
 ghost use Rattle.uds_exchange.specs.Judging.{HasJudged, IsOpenSid, advanced, number_after, number_in, one_more, sent, step_after};
 
+use crate::sides::Sides;
 use crate::step::{Step, step_of};
 use direction::Dir;
 
@@ -30,6 +31,8 @@ pub struct Judge {
     pub held_count: u64,
     /// How many replies were left out.
     pub removed: u64,
+    /// What tells whether tester and unit are exchanged.
+    pub sides: Sides,
 }
 
 impl Judge {
@@ -42,6 +45,7 @@ impl Judge {
             items: 0,
             held_count: 0,
             removed: 0,
+            sides: Sides::none(),
         }
     }
 
@@ -55,6 +59,7 @@ impl Judge {
         ensures item { (M : List Message) → length M < 2 ^ 62 → HasJudged M self.old → result.item ≡ number_after M (dir, message.now) }
     {
         let step = step_of(self.open_sid, dir, message);
+        self.sides.note(step, dir, message);
         let item = self.advance(step);
         Judged {
             dir,

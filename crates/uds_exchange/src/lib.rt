@@ -29,6 +29,7 @@ mod messages;
 mod order_fault;
 mod orderer;
 mod pairing;
+mod sides;
 mod sink;
 mod step;
 
@@ -42,5 +43,6 @@ pub use meaning::Meaning;
 pub use order_fault::OrderFault;
 pub use orderer::Orderer;
 pub use pairing::Pairing;
+pub use sides::Sides;
 pub use sink::{MessageSink, NoFault};
 pub use step::Step;
