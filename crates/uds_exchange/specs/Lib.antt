@@ -12,4 +12,5 @@ pub mod Laws
 pub mod OneMessage
 pub mod WaitingExchange
 pub mod Judging
+pub mod Blocks
 pub mod proving
