@@ -75,11 +75,12 @@ def contract(text, at):
 
 
 def owner(kind, head):
-    """The type or the trait that a block is about, and whether its functions are as public as that: those of a trait are, and
-    those that a type has of one."""
+    """The type or the trait that a block is about, by its first word, which a tuple of no type has not, and whether its functions
+    are as public as that: those of a trait are, and those that a type has of one."""
     head = re.sub(r"^\s*<[^<>]*(?:<[^<>]*>[^<>]*)*>", "", head)
     of_trait = re.search(r"\bfor\b(.*)", head)
-    return re.search(r"\w+", of_trait[1] if of_trait else head)[0], kind == "trait" or of_trait is not None
+    word = re.search(r"(?<!')\b\w+|\(\)", of_trait[1] if of_trait else head)
+    return word[0], kind == "trait" or of_trait is not None
 
 
 @lru_cache(maxsize=None)

@@ -14,9 +14,10 @@ mod ItemComparisons
 mod ItemValues
 mod SessionItems
 mod Agreeing
+mod Placing
+mod Keeping
+mod Comparing
 mod PairTexts
-mod PairCounting
-mod FewPairs
 mod Distinct
 mod LineOrder
 mod RowTargets

@@ -17,13 +17,12 @@ use Rattle.trace_report.specs.Contrast.{first_contrast}
 use Rattle.trace_report.specs.Difference.{begins_number, rows_around}
 use Rattle.trace_report.specs.Events.{rows_of}
 use Rattle.trace_report.specs.Front.{name_text}
-use Rattle.trace_report.specs.Held.{HoldsTwo, comparison_by, comparison_in}
+use Rattle.trace_report.specs.Held.{HoldsTwo, TwoValue, comparison_by, comparison_in}
 use Rattle.trace_report.specs.Items.{PlacedItem, item_value, items_in, pairs_of}
 use Rattle.trace_report.specs.Linked.{HasEachTarget, identifiers_in}
 use Rattle.trace_report.specs.Page.{all_rows}
 use Rattle.trace_report.specs.Rows.{RowValue}
 use Rattle.trace_report.specs.Words.{letters}
-use Rattle.trace_report.specs.declared.held_session.Held.{Held}
 
 -- a byte that opens and closes nothing in HTML: printable ASCII, and none of < > " '
 abbrev pub is_harmless : ℕ → Bool
@@ -83,7 +82,7 @@ ItemsAreTheMeaning = (T : List Entry) → map item_value (items_in (all_rows MES
 
 -- so what a page says of two logs is what `compare` answers, where that accepts both
 abbrev pub AgreesWithCompare : Type 0
-AgreesWithCompare = (settings : Settings) (one other : List ℕ) (held : Held) (compared : Compared)
+AgreesWithCompare = (settings : Settings) (one other : List ℕ) (held : TwoValue) (compared : Compared)
     → HoldsTwo MESSAGE_LIMIT settings one other (Ok held) → Compares MESSAGE_LIMIT settings one other (Ok compared)
     → comparison_in held ≡ compared.comparison
 

@@ -14,7 +14,7 @@ use Rattle.trace_report.specs.Contrast.{FirstContrast, contrast_words, first_con
 use Rattle.trace_report.specs.Counts.{counts_text}
 use Rattle.trace_report.specs.Difference.{contrast_chart}
 use Rattle.trace_report.specs.Front.{identifiers_text, name_text, notice_with, page_start, shapes_text}
-use Rattle.trace_report.specs.Held.{pairs_in}
+use Rattle.trace_report.specs.Held.{TwoValue, pairs_in}
 use Rattle.trace_report.specs.Help.{pair_help_text}
 use Rattle.trace_report.specs.ItemRows.{pair_rows}
 use Rattle.trace_report.specs.Items.{ItemPair}
@@ -23,7 +23,6 @@ use Rattle.trace_report.specs.Sorts.{counts_in}
 use Rattle.trace_report.specs.Verdict.{refusal_words, span_of, unclean_reasons}
 use Rattle.trace_report.specs.declared.contrast.LogName.{LogName}
 use Rattle.trace_report.specs.declared.contrast.LogName.TheVariants.{A, B}
-use Rattle.trace_report.specs.declared.held_session.Held.{Held}
 use Rattle.trace_report.specs.declared.pair_page.PairTitle.{PairTitle}
 
 -- What a page of two logs is made for: its style, the names of the logs, and the identifiers.
@@ -116,23 +115,23 @@ session_text log name session =
     ++ counts_text (counts_in session.rows) session.summary ++ span_of session.summary.frames session.first session.last ++ codes "</section>\n"
 
 -- of both
-abbrev pub sessions_text : PairTitleValue → Held → List ℕ
+abbrev pub sessions_text : PairTitleValue → TwoValue → List ℕ
 sessions_text title held =
     codes "<div class=\"two\">\n" ++ session_text A title.left held.left ++ session_text B title.right held.right ++ codes "</div>\n</section>\n"
 
 -- The items.
 
 -- the items of two sessions that are the same
-abbrev pub same_items : Held → List ItemPair → List ℕ
+abbrev pub same_items : TwoValue → List ItemPair → List ℕ
 same_items held pairs = codes "<h2>Items</h2>\n" ++ pair_rows false held.left.first held.right.first 0 1 pairs
 
 -- the rows of so many items before the first difference
-abbrev pub rows_to_difference : Held → ℕ → List ItemPair → List ℕ
+abbrev pub rows_to_difference : TwoValue → ℕ → List ItemPair → List ℕ
 rows_to_difference held count pairs =
     if count == 0 then codes "<p>Nothing: the first item differs.</p>\n" else pair_rows false held.left.first held.right.first 0 1 (take count pairs)
 
 -- what stands before it
-abbrev pub items_before : Held → ℕ → List ItemPair → List ℕ
+abbrev pub items_before : TwoValue → ℕ → List ItemPair → List ℕ
 items_before held count pairs = codes "<h2>Before the difference</h2>\n" ++ rows_to_difference held count pairs
 
 -- a side of the difference
@@ -142,37 +141,37 @@ contrast_side log name first session =
     ++ codes "</section>\n"
 
 -- the difference
-abbrev pub difference_text : PairTitleValue → Held → FirstContrast → List ℕ
+abbrev pub difference_text : PairTitleValue → TwoValue → FirstContrast → List ℕ
 difference_text title held first =
     codes "<section id=\"difference\">\n<h2>Item " ++ decimal (first.before + 1) ++ codes ", the first difference</h2>\n<p>"
     ++ contrast_words first.pair first.how ++ codes "</p>\n<div class=\"two\">\n" ++ contrast_side A title.left first held.left
     ++ contrast_side B title.right first held.right ++ codes "</div>\n</section>\n"
 
 -- what stands behind it, from the item of this number on
-abbrev pub later_items : Held → ℕ → List ItemPair → List ℕ
+abbrev pub later_items : TwoValue → ℕ → List ItemPair → List ℕ
 later_items held number pairs =
     codes "<h2>After the difference</h2>\n<p>Items of the same number, side by side. Where one session has an item more or less, none below it need fit.</p>\n"
     ++ pair_rows true held.left.first held.right.first 0 number pairs
 
 -- where there are items
-abbrev pub items_after : Held → ℕ → List ItemPair → List ℕ
+abbrev pub items_after : TwoValue → ℕ → List ItemPair → List ℕ
 items_after held number [] = []
 items_after held number (pair ∷ rest) = later_items held number (pair ∷ rest)
 
 -- all items, by the first difference
-abbrev pub items_text : PairTitleValue → Held → List ItemPair → Option FirstContrast → List ℕ
+abbrev pub items_text : PairTitleValue → TwoValue → List ItemPair → Option FirstContrast → List ℕ
 items_text title held pairs None = same_items held pairs
 items_text title held pairs (Some first) =
     items_before held first.before pairs ++ difference_text title held first ++ items_after held (first.before + 2) (drop (first.before + 1) pairs)
 
 -- the page behind its front
-abbrev pub pair_body : PairTitleValue → Held → List ItemPair → Option FirstContrast → List ℕ
+abbrev pub pair_body : PairTitleValue → TwoValue → List ItemPair → Option FirstContrast → List ℕ
 pair_body title held pairs first =
     verdict_by (length pairs) first ++ sessions_text title held ++ codes "<main id=\"session\">\n" ++ items_text title held pairs first ++ codes "</main>\n"
     ++ pair_help_text
 
 -- the page of two logs that can be read
-abbrev pub held_page : PairTitleValue → Held → List ℕ
+abbrev pub held_page : PairTitleValue → TwoValue → List ℕ
 held_page title held = pair_front title ++ pair_body title held (pairs_in held) (first_contrast (pairs_in held))
 
 -- the page where this log is refused
@@ -198,7 +197,7 @@ abbrev pub unread_page : PairTitleValue → LogName → Fault → List ℕ
 unread_page title log why = if has_page why then refused_pair title log why else []
 
 -- the page of what is answered of two logs
-abbrev pub pair_page : PairTitleValue → Result Held CompareFault → List ℕ
+abbrev pub pair_page : PairTitleValue → Result TwoValue CompareFault → List ℕ
 pair_page title (Ok held) = held_page title held
 pair_page title (Err (Left why)) = unread_page title A why
 pair_page title (Err (Right why)) = unread_page title B why

@@ -1,10 +1,10 @@
 -- The verdict of a report: whether the recording is clean, what needs a look, and all counts. It is known at the end,
 -- and written there; the style shows it first.
 use Rattle.std.specs.Fmt.{decimal}
-use Rattle.std.specs.Prelude.{ℕ, ◌==◌, ◌&&◌, ◌||◌, not, nat_lt, Bool, List, [], ◌∷◌, ◌++◌, codes, if◌then◌else◌}
+use Rattle.std.specs.Prelude.{ℕ, ◌==◌, ◌&&◌, ◌||◌, not, nat_lt, Bool, List, [], ◌++◌, codes, if◌then◌else◌}
 use Rattle.trace_canon.specs.MessageLines.{stamp_text}
 use Rattle.trace_report.specs.Counts.{counts_text}
-use Rattle.trace_report.specs.Joined.{clause, joined}
+use Rattle.trace_report.specs.Joined.{clause}
 use Rattle.trace_report.specs.Links.{look_text}
 use Rattle.trace_report.specs.Words.{seconds_between}
 use Rattle.trace_log.specs.Summing.{is_clean}
@@ -49,8 +49,8 @@ lacks_line_feed summary = nat_lt 0 summary.lines && not summary.ends_in_line_fee
 -- what was lost of its frames, in the words that `--strict` tells it
 abbrev pub lost_words : Summary → List ℕ
 lost_words summary =
-    joined (codes "<em>frames " ∷ decimal summary.frames ∷ codes " dropped " ∷ decimal summary.dropped ∷ codes " ended " ∷ decimal summary.ended
-    ∷ codes " unfinished " ∷ decimal summary.unfinished ∷ [])
+    codes "<em>frames " ++ decimal summary.frames ++ codes " dropped " ++ decimal summary.dropped ++ codes " ended " ++ decimal summary.ended
+    ++ codes " unfinished " ++ decimal summary.unfinished
 
 -- and what it lacks, in those words
 abbrev pub lacking_words : Summary → List ℕ

@@ -5,9 +5,11 @@ ghost use Rattle.trace_report.specs.Blocks as Spec;
 ghost use Rattle.trace_report.specs.proving.Pages.{row_of};
 
 use crate::row::{MessagePlace, MessageRole, Row};
-use crate::words::say_seconds_between;
+use crate::words::Seconds;
+use text_parts::say;
 use trace_canon::begun::FramePlace;
 use trace_io::TextSink;
+use trace_text::Number;
 use trace_text::say::{say_number, say_text};
 
 /// A request closes a block that has this many rows.
@@ -181,29 +183,38 @@ fn say_block_title<S: TextSink>(origin: u64, row: Row<'_>, out: &mut S)
 fn say_message_title<S: TextSink>(origin: u64, place: MessagePlace, out: &mut S)
     ensures { S.says out.old (message_title origin place) out.new }
 {
-    say_item_title(place.item, out);
-    say_text(out, ", line ");
-    say_number(out, place.first.line);
-    say_text(out, ", ");
-    say_seconds_between(origin, place.first.micros, out);
-    say_text(out, " s");
+    say(
+        out,
+        (
+            ("From item ", Number(place.item)),
+            ", line ",
+            Number(place.first.line),
+            ", ",
+            Seconds(origin, place.first.micros),
+            " s",
+        ),
+    );
 }
 
 /// Says the title of one that begins with an item.
 fn say_item_title<S: TextSink>(number: u64, out: &mut S)
     ensures { S.says out.old (item_title number) out.new }
 {
-    say_text(out, "From item ");
-    say_number(out, number);
+    say(out, ("From item ", Number(number)));
 }
 
 /// Says the title of one that begins with a frame.
 fn say_from_place<S: TextSink>(origin: u64, place: FramePlace, out: &mut S)
     ensures { S.says out.old (from_place origin place) out.new }
 {
-    say_text(out, "From line ");
-    say_number(out, place.line);
-    say_text(out, ", ");
-    say_seconds_between(origin, place.micros, out);
-    say_text(out, " s");
+    say(
+        out,
+        (
+            "From line ",
+            Number(place.line),
+            ", ",
+            Seconds(origin, place.micros),
+            " s",
+        ),
+    );
 }

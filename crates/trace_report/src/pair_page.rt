@@ -10,11 +10,10 @@ ghost use Rattle.trace_report.specs.PairPage.{pair_title_of};
 
 use crate::contrast::{LogName, say_log_letter};
 use crate::front::{say_identifiers, say_name, say_notice_with, say_page_start, say_shapes};
-use crate::held_session::Held;
 use crate::help::say_pair_help;
 use crate::pair_items::say_items;
 use crate::pair_verdict::{say_pair_verdict, say_sessions};
-use crate::pairs::compare_held;
+use crate::two::Two;
 use crate::verdict::say_refusal;
 use can_log::Id;
 use trace_io::{Target, TextSink};
@@ -37,7 +36,7 @@ pub struct PairTitle<'a> {
 /// The target is not flushed.
 pub fn write_pair_page<W: Target>(
     title: &PairTitle<'_>,
-    answer: &Result<Held, CompareFault>,
+    answer: &Result<Two, CompareFault>,
     target: &mut W,
 ) -> Result<(), Fault>
     requires { IsLowCount (W.failures target.old) }
@@ -52,7 +51,7 @@ pub fn write_pair_page<W: Target>(
 #[derive(Drop)]
 struct PairPage<'a> {
     title: &'a PairTitle<'a>,
-    answer: &'a Result<Held, CompareFault>,
+    answer: &'a Result<Two, CompareFault>,
 }
 
 impl<'a> Printable for PairPage<'a> {
@@ -63,7 +62,7 @@ impl<'a> Printable for PairPage<'a> {
 
     fn say<S: TextSink>(&self, out: &mut S) {
         match self.answer {
-            Ok(held) => say_held_page(self.title, held, out),
+            Ok(two) => say_held_page(self.title, two, out),
             Err(CompareFault::Left(why)) => say_unread_page(self.title, LogName::A, *why, out),
             Err(CompareFault::Right(why)) => say_unread_page(self.title, LogName::B, *why, out),
         }
@@ -71,22 +70,22 @@ impl<'a> Printable for PairPage<'a> {
 }
 
 /// Says the page of two logs that can be read.
-fn say_held_page<S: TextSink>(title: &PairTitle<'_>, held: &Held, out: &mut S)
-    ensures { S.says out.old (held_page (pair_title_of title.now) held.now) out.new }
+fn say_held_page<S: TextSink>(title: &PairTitle<'_>, two: &Two, out: &mut S)
+    ensures { S.says out.old (held_page (pair_title_of title.now) two.now) out.new }
 {
     say_pair_front(title, out);
-    say_pair_body(title, held, out);
+    say_pair_body(title, two, out);
 }
 
 /// Says what stands behind its front.
-fn say_pair_body<S: TextSink>(title: &PairTitle<'_>, held: &Held, out: &mut S)
-    ensures { S.says out.old (pair_body (pair_title_of title.now) held.now (pairs_in held.now) (first_contrast (pairs_in held.now))) out.new }
+fn say_pair_body<S: TextSink>(title: &PairTitle<'_>, two: &Two, out: &mut S)
+    ensures { S.says out.old (pair_body (pair_title_of title.now) two.now (pairs_in two.now) (first_contrast (pairs_in two.now))) out.new }
 {
-    let compared = compare_held(held);
-    say_pair_verdict(&compared, out);
-    say_sessions(title, held, out);
+    let first = two.difference();
+    say_pair_verdict(two.numbers(), &first, out);
+    say_sessions(title, two, out);
     say_text(out, "<main id=\"session\">\n");
-    say_items(title, held, &compared, out);
+    say_items(title, two, &first, out);
     say_text(out, "</main>\n");
     say_pair_help(out);
 }

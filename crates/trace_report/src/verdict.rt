@@ -1,20 +1,20 @@
 //! The verdict of a report: its heading, whether each answer is positive, what needs a look, the counts, and the time
 //! that the log spans.
-ghost use Rattle.std.specs.Prelude.{◌≡◌, ◌==◌};
-ghost use Rattle.trace_report.specs.Joined.{clause};
+ghost use Rattle.std.specs.Prelude.{◌≡◌};
 ghost use Rattle.trace_report.specs.Links.{look_lines, look_list, look_text};
 ghost use Rattle.trace_report.specs.Links as Links;
-ghost use Rattle.trace_report.specs.Verdict.{answers_text, clean_verdict, empty_words, findings_text, heading_text, lacking_words, lost_words, meaning_words, place_words, refusal_words, refused_heading, refused_verdict, span_of, span_text, start_by, stop_line, unclean_reasons, unclean_verdict, verdict_text};
+ghost use Rattle.trace_report.specs.Verdict.{answers_text, clean_verdict, findings_text, heading_text, place_words, refusal_words, refused_heading, refused_verdict, span_of, span_text, start_by, stop_line, unclean_reasons, unclean_verdict, verdict_text};
 ghost use Rattle.trace_report.specs.Verdict as Spec;
 
 use crate::counts::{SortCounts, say_answers_of, say_counts};
 use crate::links::{Link, say_look_line};
 use crate::tally::Tally;
-use crate::words::{say_seconds_between, say_stamp};
+use crate::words::{Seconds, Stamp};
+use text_parts::{Either, When, say};
 use trace_io::TextSink;
 use trace_log::{Fault, Summary};
-use trace_text::Part;
-use trace_text::say::{say_length, say_number, say_parts, say_text};
+use trace_text::Number;
+use trace_text::say::{say_length, say_number, say_text};
 
 /// Says the verdict of a log with this tally, whose first frame and last one have these times.
 pub(crate) fn say_verdict<S: TextSink>(
@@ -175,109 +175,48 @@ fn say_start_by<S: TextSink>(has_no_frame: bool, out: &mut S)
     }
 }
 
-/// Says each reason why a recording is not clean.
+/// Says each reason why a recording is not clean: what was lost of its frames and what it lacks, in the words that
+/// `--strict` tells it, and what that means for the messages.
 pub(crate) fn say_unclean_reasons<S: TextSink>(summary: &Summary, out: &mut S)
     ensures { S.says out.old (unclean_reasons summary.now) out.new }
 {
-    say_lost_words(summary, out);
-    say_lacking_words(summary, out);
-    say_meaning_words(summary, out);
-}
-
-/// Says what was lost of its frames, in the words that `--strict` tells it.
-fn say_lost_words<S: TextSink>(summary: &Summary, out: &mut S)
-    ensures { S.says out.old (lost_words summary.now) out.new }
-{
-    say_parts(
+    let is_cut = lacks_line_feed(summary);
+    say(
         out,
-        &[
-            Part::Text("<em>frames "),
-            Part::Number(summary.frames),
-            Part::Text(" dropped "),
-            Part::Number(summary.dropped),
-            Part::Text(" ended "),
-            Part::Number(summary.ended),
-            Part::Text(" unfinished "),
-            Part::Number(summary.unfinished),
-        ],
+        (
+            (
+                "<em>frames ",
+                Number(summary.frames),
+                " dropped ",
+                Number(summary.dropped),
+                " ended ",
+                Number(summary.ended),
+                " unfinished ",
+                Number(summary.unfinished),
+            ),
+            (
+                When(summary.tester_frames == 0, ", no frame of the tester"),
+                When(summary.unit_frames == 0, ", no frame of the unit"),
+                When(is_cut, ", no line feed at the end"),
+                ".</em>",
+            ),
+            (
+                When(
+                    is_partial(summary),
+                    " Frames are missing, late, out of order or of no legal form. Messages that they belonged to are not below.",
+                ),
+                When(is_cut, " The log ends inside its last line: it may be cut."),
+                When(
+                    summary.frames == 0,
+                    Either(
+                        summary.lines == 0,
+                        " The log is empty: it has no line.",
+                        " Either no line has a frame, or other identifiers are meant: see <code>--tester</code> and <code>--unit</code>.",
+                    ),
+                ),
+            ),
+        ),
     );
-}
-
-/// Says what it lacks, in those words.
-fn say_lacking_words<S: TextSink>(summary: &Summary, out: &mut S)
-    ensures { S.says out.old (lacking_words summary.now) out.new }
-{
-    say_clause(summary.tester_frames == 0, ", no frame of the tester", out);
-    say_clause(summary.unit_frames == 0, ", no frame of the unit", out);
-    say_if_cut(summary, ", no line feed at the end", out);
-    say_text(out, ".</em>");
-}
-
-/// Says what that means for the messages.
-fn say_meaning_words<S: TextSink>(summary: &Summary, out: &mut S)
-    ensures { S.says out.old (meaning_words summary.now) out.new }
-{
-    say_if_partial(
-        summary,
-        " Frames are missing, late, out of order or of no legal form. Messages that they belonged to are not below.",
-        out,
-    );
-    say_if_cut(
-        summary,
-        " The log ends inside its last line: it may be cut.",
-        out,
-    );
-    say_if_empty(summary, out);
-}
-
-/// Says a text, where of what was recorded something is in part.
-fn say_if_partial<S: TextSink>(summary: &Summary, text: &'static str, out: &mut S)
-    ensures { S.says out.old (clause (Spec.is_partial summary.now) text.now) out.new }
-{
-    if is_partial(summary) {
-        say_text(out, text);
-    }
-}
-
-/// Says a text, where the log lacks its last line feed.
-fn say_if_cut<S: TextSink>(summary: &Summary, text: &'static str, out: &mut S)
-    ensures { S.says out.old (clause (Spec.lacks_line_feed summary.now) text.now) out.new }
-{
-    if lacks_line_feed(summary) {
-        say_text(out, text);
-    }
-}
-
-/// Says what it means that no frame is of the two sides, where none is.
-fn say_if_empty<S: TextSink>(summary: &Summary, out: &mut S)
-    ensures { S.says out.old (clause (summary.now.frames == 0) (empty_words (summary.now.lines == 0))) out.new }
-{
-    if summary.frames == 0 {
-        say_empty_words(summary.lines == 0, out);
-    }
-}
-
-/// Says what it means that no frame is of the two sides.
-fn say_empty_words<S: TextSink>(has_no_line: bool, out: &mut S)
-    ensures { S.says out.old (empty_words has_no_line) out.new }
-{
-    if has_no_line {
-        say_text(out, " The log is empty: it has no line.");
-    } else {
-        say_text(
-            out,
-            " Either no line has a frame, or other identifiers are meant: see <code>--tester</code> and <code>--unit</code>.",
-        );
-    }
-}
-
-/// Says a text, where it is so.
-fn say_clause<S: TextSink>(holds: bool, text: &'static str, out: &mut S)
-    ensures { S.says out.old (clause holds text.now) out.new }
-{
-    if holds {
-        say_text(out, text);
-    }
 }
 
 /// Whether of what was recorded something is in part.
@@ -321,13 +260,18 @@ pub(crate) fn say_span_of<S: TextSink>(frames: u64, first: u64, last: u64, out: 
 fn say_span<S: TextSink>(first: u64, last: u64, out: &mut S)
     ensures { S.says out.old (span_text first last) out.new }
 {
-    say_text(out, "<p class=\"span\">First frame at ");
-    say_stamp(first, out);
-    say_text(out, ", last at ");
-    say_stamp(last, out);
-    say_text(out, " by the clock of the log: ");
-    say_seconds_between(first, last, out);
-    say_text(out, " s.</p>\n");
+    say(
+        out,
+        (
+            "<p class=\"span\">First frame at ",
+            Stamp(first),
+            ", last at ",
+            Stamp(last),
+            " by the clock of the log: ",
+            Seconds(first, last),
+            " s.</p>\n",
+        ),
+    );
 }
 
 /// Says where the rows of a log that is refused stop.

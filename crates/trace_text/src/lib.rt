@@ -17,6 +17,7 @@ mod remark;
 mod remark_lines;
 mod remark_objects;
 pub mod say;
+mod values;
 
 pub use item_lines::{say_item, say_items, say_worded};
 pub use item_objects::say_item_object;
@@ -25,3 +26,4 @@ pub use notation::Notation;
 pub use parts::Part;
 pub use remark::Remark;
 pub use remark_lines::say_remark;
+pub use values::{Bytes, Code, Digit, Number, Sender, Service, SixDecimals, ThreeDecimals};

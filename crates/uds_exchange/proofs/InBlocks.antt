@@ -5,7 +5,8 @@ use Rattle.std.specs.declared.alloc.Global.{Global}
 use Rattle.std.proofs.lemmas.Bool.{cases_eq}
 use Rattle.std.proofs.lemmas.List.{take-append-le, drop-append-le, take_all, map-set, get_or-map, set-get_or, length-map}
 use Rattle.uds_exchange.specs.declared.messages.Span.{Span}
-use Rattle.uds_exchange.specs.proving.Blocks.{block_bytes, block_at, bytes_at, IsInside, Holds, GoesOn, IsSpan, Lays}
+use Rattle.uds_exchange.specs.Blocks.{block_at, bytes_at, IsInside, Holds, GoesOn, Lays}
+use Rattle.uds_exchange.specs.proving.Blocks.{block_bytes, IsSpan}
 
 -- one block goes on, or there is one more
 set-goes-on : (old : List (List ℕ)) (k : ℕ) (more : List ℕ) → k < length old → GoesOn old (slice_set old k (block_at old k ++ more))

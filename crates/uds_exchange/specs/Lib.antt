@@ -13,4 +13,5 @@ pub mod OneMessage
 pub mod WaitingExchange
 pub mod Exchanged
 pub mod Judging
+pub mod Blocks
 pub mod proving

@@ -40,6 +40,7 @@ pub use judge::{Judge, Judged};
 pub use judged_orderer::JudgedOrderer;
 pub use judged_pairing::JudgedPairing;
 pub use meaning::Meaning;
+pub use messages::{Messages, Span};
 pub use order_fault::OrderFault;
 pub use orderer::Orderer;
 pub use pairing::Pairing;

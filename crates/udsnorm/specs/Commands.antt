@@ -34,10 +34,9 @@ use Rattle.isotp_receive.specs.Trace.{Entry}
 use Rattle.trace_io.specs.declared.device.Source.{Ghosts as SourceGhosts}
 use Rattle.trace_io.specs.declared.device.Target.{Ghosts as TargetGhosts}
 use Rattle.trace_report.specs.Front.{page_title}
-use Rattle.trace_report.specs.Held.{HasOwnFrame, HoldsTwo, comparison_in}
+use Rattle.trace_report.specs.Held.{HasOwnFrame, HoldsTwo, TwoValue, comparison_in}
 use Rattle.trace_report.specs.Page.{report_script}
 use Rattle.trace_report.specs.PairPage.{pair_page, pair_title}
-use Rattle.trace_report.specs.declared.held_session.Held.{Held}
 use Rattle.udsnorm.specs.Ending.{has_unclean}
 use Rattle.udsnorm.specs.Status.{is_refusal}
 use Rattle.udsnorm.specs.Values.{comparison_style_in, notation_in, style_in}
@@ -267,13 +266,13 @@ ComparesPair style strict limit settings one other (Ok pair) text =
 ComparesPair style strict limit settings one other (Err fault) text = Compares limit settings one other (Err fault) × (text ≡ [])
 
 -- what two logs that are held are to each other, without what they say
-abbrev pub pair_held : Held → PairAnswer
+abbrev pub pair_held : TwoValue → PairAnswer
 pair_held held = record { comparison = comparison_in held; left = held.left.summary; right = held.right.summary }
 
 -- what both logs say, and the page of that, in some style, or of a log that is refused
 abbrev pub PagesPair : List ℕ → List ℕ → Bool → ℕ → Settings → List ℕ → List ℕ → Result PairAnswer CompareFault → List ℕ → Type 0
 PagesPair left_name right_name strict limit settings one other (Ok pair) text =
-    (style : List ℕ) × (held : Held) × HoldsTwo limit settings one other (Ok held) × (pair ≡ pair_held held)
+    (style : List ℕ) × (held : TwoValue) × HoldsTwo limit settings one other (Ok held) × (pair ≡ pair_held held)
     × (text ≡ pair_page (pair_title style left_name right_name settings) (Ok held))
 PagesPair left_name right_name strict limit settings one other (Err fault) text =
     (style : List ℕ) × HoldsTwo limit settings one other (Err fault) × (text ≡ pair_page (pair_title style left_name right_name settings) (Err fault))

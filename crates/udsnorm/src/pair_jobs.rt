@@ -18,7 +18,7 @@ use std::alloc::Global;
 use trace_canon::{Compared, Comparison, ComparisonStyle, compare, write_comparison};
 use trace_io::{Source, Target};
 use trace_log::{CompareFault, Config, Fault, Summary};
-use trace_report::{Held, PairTitle, hold_two, report_style, write_pair_page};
+use trace_report::{PairTitle, Two, keep_two, report_style, write_pair_page};
 
 /// What the program does with two logs.
 #[derive(Clone, Copy, PartialEq, Eq)]
@@ -153,7 +153,7 @@ pub(crate) fn do_pair_job<A: Source, B: Source, W: Target>(
             }
         }
         PairJob::Report => {
-            let answer = hold_two(alloc, config, left, right);
+            let answer = keep_two(alloc, config, left, right);
             PairDone {
                 answer: answer_held(&answer),
                 wrote: write_page(left_name, right_name, config, &answer, out),
@@ -204,14 +204,14 @@ fn write_answer<W: Target>(
 }
 
 /// An answer about two logs that are held, without what they say.
-fn answer_held(answer: &Result<Held, CompareFault>) -> Result<PairAnswer, CompareFault>
+fn answer_held(answer: &Result<Two, CompareFault>) -> Result<PairAnswer, CompareFault>
     ensures { result ≡ answer_held answer.now }
 {
     match answer {
-        Ok(held) => Ok(PairAnswer {
-            comparison: held.comparison(),
-            left: held.left.summary(),
-            right: held.right.summary(),
+        Ok(two) => Ok(PairAnswer {
+            comparison: two.comparison(),
+            left: two.left().summary(),
+            right: two.right().summary(),
         }),
         Err(fault) => Err(*fault),
     }
@@ -222,7 +222,7 @@ fn write_page<W: Target>(
     left_name: &str,
     right_name: &str,
     config: &Config,
-    answer: &Result<Held, CompareFault>,
+    answer: &Result<Two, CompareFault>,
     out: &mut W,
 ) -> bool
     requires { IsLowCount (W.failures out.old) }

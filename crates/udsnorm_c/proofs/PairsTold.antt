@@ -13,10 +13,9 @@ use Rattle.trace_log.specs.Settings.{Settings}
 use Rattle.trace_log.specs.Summing.{is_clean}
 use Rattle.trace_log.specs.declared.fault.CompareFault.{CompareFault}
 use Rattle.trace_log.specs.declared.summary.Summary.{Summary}
-use Rattle.trace_report.specs.Held.{HoldsOne, HoldsTwo, comparison_in}
+use Rattle.trace_report.specs.Held.{HoldsOne, HoldsTwo, TwoValue, comparison_in}
 use Rattle.trace_report.specs.Laws.{AgreesWithCompare}
 use Rattle.trace_report.specs.Session.{SessionValue}
-use Rattle.trace_report.specs.declared.held_session.Held.{Held}
 use Rattle.udsnorm_c.specs.declared.answer.UdsnormAnswer.{UdsnormAnswer}
 use Rattle.udsnorm_c.specs.Answered.{CompareAnswers, PairPagePuts, ReportPairAnswers, comparison_answer, first_item, flag, refusal_of}
 use Rattle.udsnorm_c.specs.Laws.{CleanCompareIsRecorded, CleanReportPairIsRecorded, IsRecorded, PairPageAgreesWithCompare, settings_of}
@@ -40,7 +39,7 @@ ComparedSo settings left right answer =
 -- what is said of two logs that are held
 abbrev HeldSo : Settings → List ℕ → List ℕ → UdsnormAnswer → Type 0
 HeldSo settings left right answer =
-    (held : Held) × HoldsTwo MESSAGE_LIMIT settings left right (Ok held) × SaysOfTwo settings left right (comparison_in held) answer
+    (held : TwoValue) × HoldsTwo MESSAGE_LIMIT settings left right (Ok held) × SaysOfTwo settings left right (comparison_in held) answer
 
 compared_under : (settings : Settings) (left right : List ℕ) (answer : UdsnormAnswer) (result : Result CountedComparison CompareFault)
     → ComparesWithCounts MESSAGE_LIMIT settings left right result → answer ≡ comparison_answer result

@@ -3,7 +3,7 @@ use Rattle.std.specs.Prelude.{ℕ, Bool, List, [], Result, Ok, Err}
 use Rattle.trace_canon.specs.declared.comparing.Compared.{Compared}
 use Rattle.trace_canon.specs.declared.comparison_lines.ComparisonStyle.{ComparisonStyle}
 use Rattle.trace_log.specs.declared.fault.CompareFault.{CompareFault}
-use Rattle.trace_report.specs.declared.held_session.Held.{Held}
+use Rattle.trace_report.specs.Held.{TwoValue}
 use Rattle.udsnorm.specs.Commands.{pair_held, pair_of, text_of_compared}
 use Rattle.udsnorm.specs.declared.pair_jobs.PairAnswer.{PairAnswer}
 
@@ -18,6 +18,6 @@ text_of_answer strict style (Ok compared) = text_of_compared strict style compar
 text_of_answer strict style (Err fault) = []
 
 -- an answer about logs that are held, without what they say
-abbrev pub answer_held : Result Held CompareFault → Result PairAnswer CompareFault
+abbrev pub answer_held : Result TwoValue CompareFault → Result PairAnswer CompareFault
 answer_held (Ok held) = Ok (pair_held held)
 answer_held (Err fault) = Err fault

@@ -40,24 +40,24 @@ returns-in-Report-clause-engine g c =
     let right = c.args.right_name.now in
     let settings = c.args.config.now in
     let page = c.write_page.ensures.text in
-    let text = pair_page (pair_title page.0 left right settings) c.hold_two-answer.result in
+    let text = pair_page (pair_title page.0 left right settings) c.keep_two-answer.result in
     rw c.in-Report.is (
       text,
       λ one other agrees_one agrees_other. subst (λ (told : Result PairAnswer CompareFault). PagesPair left right c.args.strict MESSAGE_LIMIT settings one other told text) (sym c.answer_held.ensures)
-          (pages_pair page.0 left right c.args.strict MESSAGE_LIMIT settings one other c.hold_two-answer.result (c.hold_two-answer.ensures.answer one other agrees_one agrees_other)),
+          (pages_pair page.0 left right c.args.strict MESSAGE_LIMIT settings one other c.keep_two-answer.result (c.keep_two-answer.ensures.answer one other agrees_one agrees_other)),
       page.1,
     )
 
 pub returns-in-Report-clause-left_memory : goal.returns-in-Report-clause-left_memory
 returns-in-Report-clause-left_memory g c = λ log agrees is.
-    rw c.in-Report.is (c.hold_two-answer.ensures.left_memory log agrees (fault_held c.hold_two-answer.result _ (sym c.answer_held.ensures ∙ is)))
+    rw c.in-Report.is (c.keep_two-answer.ensures.left_memory log agrees (fault_held c.keep_two-answer.result _ (sym c.answer_held.ensures ∙ is)))
 
 pub returns-in-Report-clause-right_memory : goal.returns-in-Report-clause-right_memory
 returns-in-Report-clause-right_memory g c = λ log agrees is.
-    rw c.in-Report.is (c.hold_two-answer.ensures.right_memory log agrees (fault_held c.hold_two-answer.result _ (sym c.answer_held.ensures ∙ is)))
+    rw c.in-Report.is (c.keep_two-answer.ensures.right_memory log agrees (fault_held c.keep_two-answer.result _ (sym c.answer_held.ensures ∙ is)))
 
 pub returns-in-Report-clause-left_near : goal.returns-in-Report-clause-left_near
-returns-in-Report-clause-left_near g c = λ log agrees. rw c.in-Report.is (c.hold_two-answer.ensures.left_near log agrees)
+returns-in-Report-clause-left_near g c = λ log agrees. rw c.in-Report.is (c.keep_two-answer.ensures.left_near log agrees)
 
 pub returns-in-Report-clause-right_near : goal.returns-in-Report-clause-right_near
-returns-in-Report-clause-right_near g c = λ log agrees. rw c.in-Report.is (c.hold_two-answer.ensures.right_near log agrees)
+returns-in-Report-clause-right_near g c = λ log agrees. rw c.in-Report.is (c.keep_two-answer.ensures.right_near log agrees)
