@@ -13,7 +13,7 @@ use crate::front::{say_identifiers, say_name, say_notice_with, say_page_start, s
 use crate::held_session::Held;
 use crate::help::say_pair_help;
 use crate::pair_items::say_items;
-use crate::pair_verdict::{say_pair_verdict, say_sessions};
+use crate::pair_verdict::{look_exchanged_in, say_pair_verdict, say_sessions};
 use crate::pairs::compare_held;
 use crate::verdict::say_refusal;
 use can_log::Id;
@@ -83,7 +83,7 @@ fn say_pair_body<S: TextSink>(title: &PairTitle<'_>, held: &Held, out: &mut S)
     ensures { S.says out.old (pair_body (pair_title_of title.now) held.now (pairs_in held.now) (first_contrast (pairs_in held.now))) out.new }
 {
     let compared = compare_held(held);
-    say_pair_verdict(&compared, out);
+    say_pair_verdict(look_exchanged_in(held), &compared, out);
     say_sessions(title, held, out);
     say_text(out, "<main id=\"session\">\n");
     say_items(title, held, &compared, out);
