@@ -12,7 +12,7 @@ use crate::contrast::{LogName, say_log_letter};
 use crate::front::{say_identifiers, say_name, say_notice_with, say_page_start, say_shapes};
 use crate::help::say_pair_help;
 use crate::pair_items::say_items;
-use crate::pair_verdict::{say_pair_verdict, say_sessions};
+use crate::pair_verdict::{look_exchanged_in, say_pair_verdict, say_sessions};
 use crate::two::Two;
 use crate::verdict::say_refusal;
 use can_log::Id;
@@ -82,7 +82,7 @@ fn say_pair_body<S: TextSink>(title: &PairTitle<'_>, two: &Two, out: &mut S)
     ensures { S.says out.old (pair_body (pair_title_of title.now) two.now (pairs_in two.now) (first_contrast (pairs_in two.now))) out.new }
 {
     let first = two.difference();
-    say_pair_verdict(two.numbers(), &first, out);
+    say_pair_verdict(look_exchanged_in(two), two.numbers(), &first, out);
     say_sessions(title, two, out);
     say_text(out, "<main id=\"session\">\n");
     say_items(title, two, &first, out);
