@@ -131,7 +131,7 @@ fn put_each<S: MessageSink>(
 /// As if its messages lay end to end.
 impl Debug for HeldMessages {
     fn fmt<W: Write>(&self, f: &mut Formatter<W>) -> fmt::Result {
-        f.debug_struct("HeldMessages")
+        f.debug_struct("Held")
             .field("extents", &Extents { of: self })
             .field("bytes", &Bytes { of: self })
             .finish()
