@@ -1,5 +1,5 @@
 //! The verdict of a page of two logs, and what was found of each of them.
-ghost use Rattle.std.specs.Prelude.{None, option_map};
+ghost use Rattle.std.specs.Prelude.{◌≡◌, None, option_map};
 ghost use Rattle.trace_report.specs.Counts.{counts_text};
 ghost use Rattle.trace_report.specs.PairPage.{different_verdict, nothing_verdict, same_before, same_exchanged_verdict, same_verdict, session_text, sessions_text, state_start, state_text, unclean_state, verdict_by};
 ghost use Rattle.trace_report.specs.PairPage as Spec;
