@@ -22,7 +22,7 @@ use Rattle.trace_run.specs.declared.machine.Stop.TheVariants as end_stop
 use Rattle.trace_log.specs.declared.summary.Summary.{Summary}
 use Rattle.trace_run.specs.proving.Carrying.{StopsFor, stops_for, Carries, Speaks, Settles, IsTellingStart, Tells, StopsTelling, EndsSaying, EndsTelling, EndsAs, SettlesAs, SettlesWith, RefusesTelling, GivesUp, WroteTold}
 use Rattle.trace_log.specs.Feeding.{FeedsLog, FeedsSome, CountsRead, WroteBefore, Took, TakesFront, StopsWithin}
-use Rattle.uds_exchange.specs.Judging.{HasJudged}
+use Rattle.uds_exchange.specs.Judging.{IsJudgeOf}
 use Rattle.trace_log.specs.Failing.{FailedIf}
 use Rattle.trace_log.specs.LinesRead.{counts_last, AreGiven, AreLinesRead, AreReadBefore, WritesTextOfRead}
 use Rattle.trace_log.specs.Settings.{Settings}
@@ -70,9 +70,9 @@ one_more_told word T e = told-append word [] T (e ∷ []) ∙ ap (λ l. told wor
 
 -- what one more frame's message counts
 pub counts_next : (T : List Entry) (e : Entry) (line : ℕ) (d : Dir) (event : EventValue) (judge : Judge) → e.dir ≡ d → event ≡ verdict MESSAGE_LIMIT T e
-    → HasJudged (messages MESSAGE_LIMIT T ++ told_message d event.verdict) judge → HasJudged (messages MESSAGE_LIMIT (T ++ e ∷ [])) judge
+    → IsJudgeOf (messages MESSAGE_LIMIT T ++ told_message d event.verdict) judge → IsJudgeOf (messages MESSAGE_LIMIT (T ++ e ∷ [])) judge
 counts_next T e line d event judge dir_is is counts =
-    subst (λ M. HasJudged M judge)
+    subst (λ M. IsJudgeOf M judge)
     (ap (λ v. messages MESSAGE_LIMIT T ++ told_message d v) (ap (λ (x : EventValue). x.verdict) is)
     ∙ ap (λ x. messages MESSAGE_LIMIT T ++ told_message x (verdict MESSAGE_LIMIT T e).verdict) (sym dir_is) ∙ sym (messages_more MESSAGE_LIMIT T e)) counts
 
@@ -131,7 +131,7 @@ module _ {M W : Type 0} (stands : List Entry → M → Type 0) (target : Ghosts 
   pub tells_next : (line : ℕ) (d : Dir) (event : EventValue) → e.dir ≡ d → event ≡ verdict MESSAGE_LIMIT T e
       → (machine machine_now : M) (judge judge_now : Judge) (failed failed_now : Bool) (held held_now : List ℕ) (old new : W)
       → Tells stands target script start T machine judge failed held old
-      → HasJudged (messages MESSAGE_LIMIT T ++ told_message d event.verdict) judge_now → stands (T ++ e ∷ []) machine_now → (script.strict ≡ true → AnnouncesWithin e)
+      → IsJudgeOf (messages MESSAGE_LIMIT T ++ told_message d event.verdict) judge_now → stands (T ++ e ∷ []) machine_now → (script.strict ≡ true → AnnouncesWithin e)
       → Speaks target failed held old (script.word T e) failed_now held_now new
       → Tells stands target script start (T ++ e ∷ []) machine_now judge_now failed_now held_now new
   tells_next line d event dir_is is machine machine_now judge judge_now failed failed_now held held_now old new so_far counts machine_stands one speaks = record {
@@ -358,7 +358,7 @@ module _ {M W : Type 0} (stands : M → List Entry → M → Type 0) (scripts : 
   HasToldNothing telling = IsTellingStart (stands telling.machine [] telling.machine) telling.judge telling.page.failed telling.page.block
 
   -- so it is with a machine that stands at its start
-  pub told_none : (machine : M) (telling : Telling M W) → telling.machine ≡ machine → stands machine [] machine → HasJudged [] telling.judge → telling.page.failed ≡ false
+  pub told_none : (machine : M) (telling : Telling M W) → telling.machine ≡ machine → stands machine [] machine → IsJudgeOf [] telling.judge → telling.page.failed ≡ false
       → telling.page.block ≡ [] → HasToldNothing telling
   told_none machine telling same at_start removed well blank =
       record { stands = subst (λ m. stands m [] m) (sym same) at_start; judged = removed; well = well; blank = blank }

@@ -4,7 +4,7 @@ ghost use Rattle.can_log.specs.declared.frame.Stamped.{Stamped};
 ghost use Rattle.isotp_receive.specs.StandingReception.{receptions_after};
 ghost use Rattle.isotp_receive.specs.Trace.{Entry};
 ghost use Rattle.isotp_receive.specs.declared.TheConstants.{MESSAGE_LIMIT};
-ghost use Rattle.uds_exchange.specs.Judging.{HasJudged};
+ghost use Rattle.uds_exchange.specs.Judging.{IsJudgeOf};
 ghost use Rattle.trace_log.specs.Settings.{Settings};
 ghost use Rattle.trace_log.specs.Messages.{messages_of_lines};
 ghost use Rattle.isotp_receive.specs.Events.{unfinished_in};
@@ -27,7 +27,7 @@ pub(crate) fn sum_up(
 ) -> Summary
     ensures { (settings : Settings) (log : List ℕ) (meanings : List (Option Stamped)) → Receives settings meanings pair.now lines counts
         → ended ≡ ends_in_line_feed log
-        → HasJudged (messages_of_lines MESSAGE_LIMIT settings meanings) judge.now → result ≡ summary_of MESSAGE_LIMIT settings log meanings }
+        → IsJudgeOf (messages_of_lines MESSAGE_LIMIT settings meanings) judge.now → result ≡ summary_of MESSAGE_LIMIT settings log meanings }
 {
     Summary {
         lines,

@@ -8,7 +8,7 @@ ghost use Rattle.isotp_receive.specs.Events.{announced_by};
 ghost use Rattle.isotp_receive.specs.StandingReception.{receptions_after};
 ghost use Rattle.isotp_receive.specs.Trace.{Entry};
 ghost use Rattle.isotp_receive.specs.Verdict.{told_message};
-ghost use Rattle.uds_exchange.specs.Judging.{HasJudged, IsJudgedOf};
+ghost use Rattle.uds_exchange.specs.Judging.{HasJudged, IsJudgeOf, IsJudgedOf};
 ghost use Rattle.trace_run.specs.Seen.{IsSeen};
 ghost use Rattle.trace_run.specs.proving.Carrying.{SaysToPage, stops_for};
 
@@ -43,12 +43,12 @@ pub(crate) struct Telling<M, W> {
 
 impl<M, W> Telling<M, W> {
     ghost use Rattle.std.specs.Prelude.{◌≡◌, [], false};
-    ghost use Rattle.uds_exchange.specs.Judging.{HasJudged};
+    ghost use Rattle.uds_exchange.specs.Judging.{IsJudgeOf};
 
     /// Before the first event.
     pub(crate) fn start(machine: M) -> Telling<M, W>
         ensures machine { result.machine ≡ machine }
-        ensures judged { HasJudged [] result.judge }
+        ensures judged { IsJudgeOf [] result.judge }
         ensures well { result.page.failed ≡ false }
         ensures blank { result.page.block ≡ [] }
     {
@@ -120,8 +120,8 @@ impl<M: Machine, W: Target> Telling<M, W> {
 /// The message that a frame of this direction completed, judged. Laid in line, since most frames complete none.
 #[inline(always)]
 fn judged_message<'a>(judge: &mut Judge, dir: Dir, verdict: Verdict<'a>) -> Option<Judged<'a>>
-    ensures next { (M : List Message) → length M < 2 ^ 62 → HasJudged M judge.old
-        → HasJudged (M ++ told_message dir (seen_verdict verdict.entry)) judge.new }
+    ensures next { (M : List Message) → length M < 2 ^ 62 → IsJudgeOf M judge.old
+        → IsJudgeOf (M ++ told_message dir (seen_verdict verdict.entry)) judge.new }
     ensures judged { (M : List Message) → length M < 2 ^ 62 → HasJudged M judge.old
         → IsJudgedOf M (told_message dir (seen_verdict verdict.entry)) result }
 {

@@ -140,56 +140,63 @@ sides-next M x =
 next-by : (s : Step) (M : List Message) (x : Message) (judge : Judge) (seen : Sides) → length M < 2 ^ 62 → HasJudged M judge
     → standing_after (M ++ x ∷ []) ≡ stand_for s (standing_after M) x → length (meaning (M ++ x ∷ [])) ≡ items_with s (length (meaning M))
     → length (removed_messages (M ++ x ∷ [])) ≡ length (removed_messages M) + left-out-by s
-    → seen ≡ sides_of (M ++ x ∷ []) → HasJudged (M ++ x ∷ []) (advanced s (record judge { sides = seen }))
-next-by (step.Request service) M x judge seen few counts stands grown gone seen_is =
+    → HasJudged (M ++ x ∷ []) (advanced s (record judge { sides = seen }))
+next-by (step.Request service) M x judge seen few counts stands grown gone =
     let few_items = few-items M in let is = counts.items in record {
       waits = ap (λ (o : Standing). o.open_sid) (sym stands);
       items = omega arith;
       held = ap (λ (o : Standing). length o.holds) (sym stands);
       removed = omega (arith, counts.removed, gone);
-      sides = seen_is;
     }
-next-by step.Answer M x judge seen few counts stands grown gone seen_is =
+next-by step.Answer M x judge seen few counts stands grown gone =
     record {
       waits = ap (λ (o : Standing). o.open_sid) (sym stands);
       items = counts.items ∙ sym grown;
       held = ap (λ (o : Standing). length o.holds) (sym stands);
       removed = omega (arith, counts.removed, gone);
-      sides = seen_is;
     }
-next-by step.Removed M x judge seen few counts stands grown gone seen_is =
+next-by step.Removed M x judge seen few counts stands grown gone =
     let few_removed = few-removed M in let removed_were = counts.removed in record {
       waits = counts.waits ∙ ap (λ (o : Standing). o.open_sid) (sym stands);
       items = counts.items ∙ sym grown;
       held = counts.held ∙ ap (λ (o : Standing). length o.holds) (sym stands);
       removed = omega arith;
-      sides = seen_is;
     }
-next-by step.Hold M x judge seen few counts stands grown gone seen_is =
+next-by step.Hold M x judge seen few counts stands grown gone =
     let few_items = few-items M in let few_held = few-held M in let items_were = counts.items in let held_were = counts.held in
     let more = length-append (held M) (x ∷ []) in let now = ap (λ (o : Standing). length o.holds) stands in record {
       waits = counts.waits ∙ ap (λ (o : Standing). o.open_sid) (sym stands);
       items = omega arith;
       held = omega arith;
       removed = omega (arith, counts.removed, gone);
-      sides = seen_is;
     }
-next-by step.Pass M x judge seen few counts stands grown gone seen_is =
+next-by step.Pass M x judge seen few counts stands grown gone =
     let few_items = few-items M in let is = counts.items in record {
       waits = counts.waits ∙ ap (λ (o : Standing). o.open_sid) (sym stands);
       items = omega arith;
       held = counts.held ∙ ap (λ (o : Standing). length o.holds) (sym stands);
       removed = omega (arith, counts.removed, gone);
-      sides = seen_is;
     }
 
 -- what is kept is advanced by one more message
 pub counts-next : (M : List Message) (x : Message) (judge now : Judge) (s : Step) (seen : Sides) → length M < 2 ^ 62 → HasJudged M judge
-    → s ≡ step_of judge.open_sid x → seen ≡ noted x judge.sides → now ≡ advanced s (record judge { sides = seen }) → HasJudged (M ++ x ∷ []) now
-counts-next M x judge now s seen few counts s_is seen_is now_is =
+    → s ≡ step_of judge.open_sid x → now ≡ advanced s (record judge { sides = seen }) → HasJudged (M ++ x ∷ []) now
+counts-next M x judge now s seen few counts s_is now_is =
     let found : s ≡ step_after M x = s_is ∙ ap (λ o. step_of o x) counts.waits in
-    let sides_are : seen ≡ sides_of (M ++ x ∷ []) = seen_is ∙ ap (noted x) counts.sides ∙ sides-next M x in
-    rw (now_is, found) (next-by (step_after M x) M x judge seen few counts (sym (stands-next M x)) (items-next M x) (removed-next M x) sides_are)
+    rw (now_is, found) (next-by (step_after M x) M x judge seen few counts (sym (stands-next M x)) (items-next M x) (removed-next M x))
+
+sides-kept : (s : Step) (judge : Judge) (seen : Sides) → (advanced s (record judge { sides = seen })).sides ≡ seen
+sides-kept (step.Request service) judge seen = refl
+sides-kept step.Answer judge seen = refl
+sides-kept step.Removed judge seen = refl
+sides-kept step.Hold judge seen = refl
+sides-kept step.Pass judge seen = refl
+
+-- and so is what tells exchanged sides
+pub sides-found : (M : List Message) (x : Message) (judge now : Judge) (s : Step) (seen : Sides) → judge.sides ≡ sides_of M → seen ≡ noted x judge.sides
+    → now ≡ advanced s (record judge { sides = seen }) → now.sides ≡ sides_of (M ++ x ∷ [])
+sides-found M x judge now s seen were seen_is now_is =
+    ap (λ (j : Judge). j.sides) now_is ∙ sides-kept s judge seen ∙ seen_is ∙ ap (noted x) were ∙ sides-next M x
 
 number-by : (s : Step) (M : List Message) (judge : Judge) (seen : Sides) → length M < 2 ^ 62 → HasJudged M judge → number_in s (record judge { sides = seen }) ≡ number_by s M
 number-by (step.Request service) M judge seen few counts = let few_items = few-items M in let is = counts.items in omega arith

@@ -61,13 +61,17 @@ items_with step.Pass count = count + 1
 abbrev pub IsOpenSid : List Message → Option ℕ → Type 0
 IsOpenSid M open_sid = open_sid ≡ option_map sid (open_request M)
 
--- This is what is kept of these messages: which request waits, how many items there are, how many strays are held, how many
--- messages are left out, and what tells whether tester and unit look exchanged.
+-- This is what is kept of these messages: which request waits, how many items there are, how many strays are held, and how
+-- many messages are left out.
 pub record HasJudged (M : List Message) (judge : Judge) : Type 0 where
   pub waits : IsOpenSid M judge.open_sid
   pub items : judge.items ≡ length (meaning M)
   pub held : judge.held_count ≡ length (order.held M)
   pub removed : judge.removed ≡ length (removed_messages M)
+
+-- A judge has judged these messages, and gathered what tells whether tester and unit look exchanged.
+pub record IsJudgeOf (M : List Message) (judge : Judge) : Type 0 where
+  pub judged : HasJudged M judge
   pub sides : judge.sides ≡ sides_of M
 
 -- a message that was judged, without where it lies in memory

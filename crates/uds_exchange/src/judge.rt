@@ -2,7 +2,8 @@
 
 ghost use Rattle.std.specs.Prelude.{◌≡◌, ◌^◌, ◌<◌, ◌++◌, ◌∷◌, [], List, length};
 ghost use Rattle.direction.specs.Dir.{Message};
-ghost use Rattle.uds_exchange.specs.Judging.{HasJudged, IsOpenSid, advanced, number_after, number_in, one_more, sent, step_after};
+ghost use Rattle.uds_exchange.specs.Exchanged.{sides_of};
+ghost use Rattle.uds_exchange.specs.Judging.{HasJudged, IsJudgeOf, IsOpenSid, advanced, number_after, number_in, one_more, sent, step_after};
 
 use crate::sides::Sides;
 use crate::step::{Step, step_of};
@@ -38,7 +39,7 @@ pub struct Judge {
 impl Judge {
     /// Before the first message.
     pub fn new() -> Judge
-        ensures { HasJudged [] result }
+        ensures { IsJudgeOf [] result }
     {
         Judge {
             open_sid: None,
@@ -57,6 +58,7 @@ impl Judge {
         ensures waits { (M : List Message) → IsOpenSid M self.old.open_sid → IsOpenSid (M ++ (dir, message.now) ∷ []) self.new.open_sid }
         ensures step { (M : List Message) → IsOpenSid M self.old.open_sid → result.step ≡ step_after M (dir, message.now) }
         ensures item { (M : List Message) → length M < 2 ^ 62 → HasJudged M self.old → result.item ≡ number_after M (dir, message.now) }
+        ensures sides { (M : List Message) → self.old.sides ≡ sides_of M → self.new.sides ≡ sides_of (M ++ (dir, message.now) ∷ []) }
     {
         let step = step_of(self.open_sid, dir, message);
         self.sides.note(step, dir, message);
