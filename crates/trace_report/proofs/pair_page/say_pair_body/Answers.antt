@@ -9,9 +9,9 @@ returns g c =
     let two = c.args.two.now in
     let verdict = subst (λ count. g.S.TextSink.says c.args.out.now (verdict_by count (option_map contrast_found c.difference-first.result)) c.say_pair_verdict.new.out)
     c.numbers.ensures.value c.say_pair_verdict.ensures in
-    subst (λ first. g.S.TextSink.says c.args.out.now (pair_body (pair_title_of c.args.title.now) two (pairs_in two) first) c.say_pair_help.new.out) c.difference-first.ensures.first
+    subst (λ first. g.S.TextSink.says c.args.out.now (pair_body (pair_title_of c.args.title.now) two (pairs_in two) first) c.say.new.out) c.difference-first.ensures.first
     (g.met.S.TextSink.onward _ _ _ _ _ (g.met.S.TextSink.onward _ _ _ _ _ (g.met.S.TextSink.onward _ _ _ _ _ (g.met.S.TextSink.onward _ _ _ _ _ (g.met.S.TextSink.onward _ _ _ _ _ verdict c.say_sessions.ensures)
     c.say_text.ensures)
     c.say_items.ensures)
     c.say_text-2.ensures)
-    c.say_pair_help.ensures)
+    c.say.ensures)
