@@ -7,7 +7,6 @@ use Rattle.can_log.specs.Canonical.{identifier_text}
 use Rattle.can_log.specs.Digits.{hexadecimal}
 use Rattle.can_log.specs.declared.frame.Id.{Id}
 use Rattle.trace_log.specs.Settings.{Settings}
-use Rattle.trace_report.specs.Joined.{joined}
 use Rattle.trace_report.specs.Words.{is_within}
 
 -- a byte by its number: % and two digits
@@ -70,10 +69,10 @@ shapes_text =
 -- breaks off, which is hidden unless the style shows it, where the end of the page is missing
 abbrev pub notice_with : List ℕ → List ℕ → List ℕ
 notice_with verdict middle =
-    joined (codes "<p class=\"skip\"><a href=\"#verdict\">" ∷ verdict ∷ codes "</a> <a href=\"#session\">" ∷ middle
-    ∷ codes "</a> <a href=\"#help\">How to read this page</a></p>\n"
-    ∷ codes "<p id=\"cut\" role=\"status\" hidden>This page has no end. What wrote it was stopped, or the file was cut, or the page is still loading: it tells nothing of the rest of the session.</p>\n"
-    ∷ codes "</header>\n" ∷ [])
+    codes "<p class=\"skip\"><a href=\"#verdict\">" ++ verdict ++ codes "</a> <a href=\"#session\">" ++ middle
+    ++ codes "</a> <a href=\"#help\">How to read this page</a></p>\n"
+    ++ codes "<p id=\"cut\" role=\"status\" hidden>This page has no end. What wrote it was stopped, or the file was cut, or the page is still loading: it tells nothing of the rest of the session.</p>\n"
+    ++ codes "</header>\n"
 
 -- of one log: its verdict is written last, which the style alone shows first and hides the word of
 abbrev pub notice_text : List ℕ

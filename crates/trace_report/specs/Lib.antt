@@ -1,4 +1,3 @@
-pub mod Joined
 pub mod Words
 pub mod Front
 pub mod Targets

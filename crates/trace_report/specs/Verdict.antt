@@ -4,7 +4,6 @@ use Rattle.std.specs.Fmt.{decimal}
 use Rattle.std.specs.Prelude.{ℕ, ◌==◌, ◌&&◌, ◌||◌, not, nat_lt, Bool, List, [], ◌++◌, codes, if◌then◌else◌}
 use Rattle.trace_canon.specs.MessageLines.{stamp_text}
 use Rattle.trace_report.specs.Counts.{counts_text}
-use Rattle.trace_report.specs.Joined.{clause}
 use Rattle.trace_report.specs.Links.{look_text}
 use Rattle.trace_report.specs.Words.{seconds_between}
 use Rattle.trace_log.specs.Summing.{is_clean}
@@ -13,6 +12,10 @@ use Rattle.trace_report.specs.declared.tally.Tally.{Tally}
 use Rattle.trace_log.specs.declared.fault.Fault.{Fault}
 use Rattle.trace_log.specs.declared.fault.Fault.TheVariants as fault
 use Rattle.trace_log.specs.declared.summary.Summary.{Summary}
+
+-- a text, where it is so
+abbrev pub clause : Bool → List ℕ → List ℕ
+clause holds text = if holds then text else []
 
 -- from when to when
 abbrev pub span_text : ℕ → ℕ → List ℕ

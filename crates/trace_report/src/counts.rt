@@ -1,12 +1,9 @@
 //! The counts of a report.
 ghost use Rattle.std.specs.Prelude.{◌≡◌, []};
-ghost use Rattle.trace_report.specs.Counts.{counts_text};
 ghost use Rattle.trace_report.specs.Sorts.{counts_in};
-ghost use Rattle.trace_report.specs.Verdict.{answers_of};
 ghost use Rattle.trace_report.specs.proving.Tallying.{counts_with};
 
 use crate::sorts::Sort;
-use crate::verdict::say_answers;
 use text_parts::{Either, Part, When, say};
 use trace_io::TextSink;
 use trace_log::Summary;
@@ -68,46 +65,69 @@ impl SortCounts {
     }
 }
 
-/// Says whether each answer is positive.
-pub(crate) fn say_answers_of<S: TextSink>(counts: &SortCounts, out: &mut S)
-    ensures { S.says out.old (answers_of counts.now) out.new }
-{
-    say_answers(counts.requests, counts.negatives, counts.unanswered, out);
+/// Whether each answer is positive, where something was asked.
+#[derive(Clone, Copy)]
+pub(crate) struct AnswersOf<'a>(pub &'a SortCounts);
+
+impl<'a> Part for AnswersOf<'a> {
+    ghost use Rattle.trace_report.specs.Verdict.{answers_of};
+
+    ghost text = { λ answers. answers_of answers.0.now };
+
+    fn say<S: TextSink>(self, out: &mut S) {
+        let counts = self.0;
+        if counts.requests == 0 {
+            return;
+        }
+        if counts.negatives == 0 && counts.unanswered == 0 {
+            say(out, " No answer is negative, and none is missing.");
+        } else {
+            say(out, " Not every request has a positive answer.");
+        }
+    }
 }
 
-/// Says all counts: of the log, of its requests and answers, of its other messages, and of what is missing.
-pub(crate) fn say_counts<S: TextSink>(counts: &SortCounts, summary: &Summary, out: &mut S)
-    ensures { S.says out.old (counts_text counts.now summary.now) out.new }
-{
-    say(
-        out,
-        (
-            "<dl class=\"counts\">\n",
+/// All counts: of the log, of its requests and answers, of its other messages, and of what is missing.
+#[derive(Clone, Copy)]
+pub(crate) struct Counts<'a>(pub &'a SortCounts, pub &'a Summary);
+
+impl<'a> Part for Counts<'a> {
+    ghost use Rattle.trace_report.specs.Counts.{counts_text};
+
+    ghost text = { λ all. counts_text all.0.now all.1.now };
+
+    fn say<S: TextSink>(self, out: &mut S) {
+        let Counts(counts, summary) = self;
+        say(
+            out,
             (
-                CountLine(false, "lines", summary.lines),
-                CountLine(false, "frames", summary.frames),
-                CountLine(false, "messages", summary.messages),
+                "<dl class=\"counts\">\n",
+                (
+                    CountLine(false, "lines", summary.lines),
+                    CountLine(false, "frames", summary.frames),
+                    CountLine(false, "messages", summary.messages),
+                ),
+                (
+                    CountLine(false, "requests", counts.requests),
+                    CountLine(false, "positive", counts.positives),
+                    CountLine(true, "negative", counts.negatives),
+                    CountLine(true, "no answer", counts.unanswered),
+                    CountLine(false, "silent", counts.silent),
+                ),
+                (
+                    CountLine(false, "pending", counts.pendings),
+                    CountLine(false, "keep-alive", counts.keep_alives),
+                    CountLine(true, "stray", counts.strays),
+                ),
+                (
+                    CountLine(true, "dropped", counts.drops),
+                    CountLine(true, "ended", counts.ends),
+                    CountLine(true, "unfinished", counts.partials),
+                ),
+                "</dl>\n",
             ),
-            (
-                CountLine(false, "requests", counts.requests),
-                CountLine(false, "positive", counts.positives),
-                CountLine(true, "negative", counts.negatives),
-                CountLine(true, "no answer", counts.unanswered),
-                CountLine(false, "silent", counts.silent),
-            ),
-            (
-                CountLine(false, "pending", counts.pendings),
-                CountLine(false, "keep-alive", counts.keep_alives),
-                CountLine(true, "stray", counts.strays),
-            ),
-            (
-                CountLine(true, "dropped", counts.drops),
-                CountLine(true, "ended", counts.ends),
-                CountLine(true, "unfinished", counts.partials),
-            ),
-            "</dl>\n",
-        ),
-    );
+        );
+    }
 }
 
 /// A count under this name, and whether what it counts needs a look.

@@ -7,7 +7,7 @@ ghost use Rattle.trace_report.specs.proving.Charting.{exchange_rows};
 ghost use Rattle.trace_report.specs.proving.Charting as Charting;
 ghost use Rattle.trace_report.specs.proving.Pages.{row_of};
 
-use crate::blocks::{begins_exchange, say_chart_head};
+use crate::blocks::{ChartHead, begins_exchange};
 use crate::cells::{CellEnd, CellFront};
 use crate::contrast::Contrast;
 use crate::items::is_answer_role;
@@ -32,7 +32,7 @@ pub(crate) fn say_contrast_chart<S: TextSink>(
 )
     ensures { S.says out.old (contrast_chart number how origin rows.now) out.new }
 {
-    say_chart_head(out);
+    say(out, ChartHead);
     say_text(out, "<tbody>\n");
     say_rows_around(number, how, origin, rows, out);
     say_text(out, "</table>\n");

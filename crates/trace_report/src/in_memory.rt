@@ -85,12 +85,7 @@ pub fn pair_page(
 }
 
 /// What two logs say, as [`keep_two`](crate::keep_two) answers it.
-fn keep_both(
-    alloc: Global,
-    config: &Config,
-    left: &[u8],
-    right: &[u8],
-) -> Result<Two, CompareFault>
+fn keep_both(alloc: Global, config: &Config, left: &[u8], right: &[u8]) -> Result<Two, CompareFault>
     ensures { HoldsInMemory MESSAGE_LIMIT config.now left.now right.now result }
 {
     keep_two(alloc, config, &mut Bytes::new(left), &mut Bytes::new(right))

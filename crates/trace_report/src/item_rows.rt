@@ -9,7 +9,7 @@ ghost use Rattle.trace_report.specs.proving.Rowing.{IsKnown, placed_if, row_if};
 ghost use Rattle.trace_report.specs.proving.Lending.{item_of, message_of, pair_of};
 ghost use Rattle.uds_message.specs.Message.{is_suppressing as suppresses};
 
-use crate::blocks::{FULL_BLOCK, is_request_role, say_block_end};
+use crate::blocks::{BlockEnd, FULL_BLOCK, is_request_role};
 use crate::contrast::{LogName, contrast_of};
 use crate::items::{LentItem, LentMessage, LentPair};
 use crate::message_rows::{FurtherNote, NamedLines, RoleWords, asked_at};
@@ -49,7 +49,7 @@ pub(crate) fn say_pair_rows<S: TextSink>(
         );
         at += 1;
     }
-    say_block_end(placed, out);
+    say(out, BlockEnd(placed));
 }
 
 /// Says the row of a number, if there are items of it, and what begins before it, where so many rows stand in the last
@@ -118,7 +118,7 @@ fn say_row_opening<S: TextSink>(opened: bool, placed: u64, number: u64, out: &mu
 fn say_next_table<S: TextSink>(number: u64, out: &mut S)
     ensures { S.says out.old (next_table number) out.new }
 {
-    say_block_end(1, out);
+    say(out, BlockEnd(1));
     say_table_opening(false, number, out);
 }
 

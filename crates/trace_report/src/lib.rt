@@ -12,7 +12,7 @@
 //! begin. It answers the rows of a frame (`row`). The `chart` says them, in `blocks` that fold, and keeps a `tally` for the verdict.
 //!
 //! The text of a page is in pieces: its `front`; the rows of messages (`message_rows`, `brief_rows`) and of what is
-//! missing (`lost_rows`), by `cells` and `words`; the `verdict`, with `links` and `counts`; and the `help`. The style
+//! missing (`lost_rows`), by `cells` and `words`; the `verdict`, with `reasons`, `links` and `counts`; and the `help`. The style
 //! is no part of what is proved.
 //!
 //! Of two logs a page says first whether they are the same. So both are kept: [`keep_two`] keeps the rows of each
@@ -49,6 +49,7 @@ mod keeper;
 mod kept_rows;
 pub mod laws;
 mod links;
+mod log_names;
 mod lost_rows;
 mod marks;
 mod message_rows;
@@ -56,6 +57,8 @@ mod pair_items;
 mod pair_page;
 mod pair_verdict;
 mod places;
+mod reasons;
+mod refusal;
 mod reporter;
 mod row;
 mod rows;

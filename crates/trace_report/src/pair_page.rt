@@ -9,13 +9,15 @@ ghost use Rattle.trace_report.specs.PairPage as Spec;
 ghost use Rattle.trace_report.specs.PairPage.{pair_title_of};
 
 use crate::contrast::{LogName, say_log_letter};
-use crate::front::{say_identifiers, say_name, say_notice_with, say_page_start, say_shapes};
-use crate::help::say_pair_help;
+use crate::front::{Identifiers, Notice, PageStart, Shapes};
+use crate::help::PairHelp;
+use crate::log_names::Name;
 use crate::pair_items::say_items;
 use crate::pair_verdict::{look_exchanged_in, say_pair_verdict, say_sessions};
+use crate::refusal::Refusal;
 use crate::two::Two;
-use crate::verdict::say_refusal;
 use can_log::Id;
+use text_parts::say;
 use trace_io::{Target, TextSink};
 use trace_log::{CompareFault, Fault};
 use trace_run::{Printable, print};
@@ -87,7 +89,7 @@ fn say_pair_body<S: TextSink>(title: &PairTitle<'_>, two: &Two, out: &mut S)
     say_text(out, "<main id=\"session\">\n");
     say_items(title, two, &first, out);
     say_text(out, "</main>\n");
-    say_pair_help(out);
+    say(out, PairHelp);
 }
 
 /// Says the front of a page.
@@ -95,7 +97,7 @@ fn say_pair_front<S: TextSink>(title: &PairTitle<'_>, out: &mut S)
     ensures { S.says out.old (pair_front (pair_title_of title.now)) out.new }
 {
     say_pair_head(title, out);
-    say_shapes(out);
+    say(out, Shapes);
     say_pair_header(title, out);
 }
 
@@ -103,7 +105,7 @@ fn say_pair_front<S: TextSink>(title: &PairTitle<'_>, out: &mut S)
 fn say_pair_head<S: TextSink>(title: &PairTitle<'_>, out: &mut S)
     ensures { S.says out.old (pair_head (pair_title_of title.now)) out.new }
 {
-    say_page_start(out);
+    say(out, PageStart);
     say_text(out, "<title>");
     say_both_names(title.left, title.right, out);
     say_text(out, " - udsnorm report</title>\n<style>\n");
@@ -115,9 +117,9 @@ fn say_pair_head<S: TextSink>(title: &PairTitle<'_>, out: &mut S)
 fn say_both_names<S: TextSink>(left: &[u8], right: &[u8], out: &mut S)
     ensures { S.says out.old (both_names left.now right.now) out.new }
 {
-    say_name(left, out);
+    say(out, Name(left));
     say_text(out, " and ");
-    say_name(right, out);
+    say(out, Name(right));
 }
 
 /// Says what the page is about.
@@ -132,8 +134,8 @@ fn say_pair_header<S: TextSink>(title: &PairTitle<'_>, out: &mut S)
     say_text(out, "<br>");
     say_lettered_name(LogName::B, title.right, out);
     say_text(out, "</h1>\n");
-    say_identifiers(title.tester, title.unit, out);
-    say_notice_with("Verdict", "Items", out);
+    say(out, Identifiers(title.tester, title.unit));
+    say(out, Notice("Verdict", "Items"));
 }
 
 /// Says a log by its letter and its name.
@@ -141,7 +143,7 @@ pub(crate) fn say_lettered_name<S: TextSink>(log: LogName, name: &[u8], out: &mu
     ensures { S.says out.old (lettered_name log name.now) out.new }
 {
     say_letter_mark(log, out);
-    say_name(name, out);
+    say(out, Name(name));
 }
 
 /// Says a log by its letter.
@@ -184,10 +186,10 @@ fn say_refused_pair<S: TextSink>(title: &PairTitle<'_>, log: LogName, why: Fault
     );
     say_log_letter(log, out);
     say_text(out, " is refused, so nothing is compared</h2>\n<p><em>");
-    say_refusal(why, out);
+    say(out, Refusal(why));
     say_text(
         out,
         ".</em> A report of this log alone shows the lines before that.</p>\n</section>\n<main id=\"session\">\n<h2>Items</h2>\n<p>Nothing is compared.</p>\n</main>\n",
     );
-    say_pair_help(out);
+    say(out, PairHelp);
 }

@@ -9,11 +9,13 @@ ghost use Rattle.trace_report.specs.proving.Lending.{contrast_found};
 ghost use Rattle.trace_report.specs.PairPage.{pair_title_of};
 
 use crate::contrast::{LogName, say_contrast_words};
-use crate::counts::say_counts;
+use crate::counts::Counts;
 use crate::pair_page::{PairTitle, say_lettered_name};
+use crate::reasons::UncleanReasons;
 use crate::session::Session;
 use crate::two::{Difference, Two};
-use crate::verdict::{is_called_clean, say_span_of, say_unclean_reasons};
+use crate::verdict::{SpanOf, is_called_clean};
+use text_parts::{Either, say};
 use trace_io::TextSink;
 use trace_log::Summary;
 use trace_text::say::{say_number, say_place, say_text};
@@ -164,35 +166,36 @@ fn say_unclean_state<S: TextSink>(summary: &Summary, out: &mut S)
     ensures { S.says out.old (unclean_state summary.now) out.new }
 {
     say_state_start(summary.looks_exchanged, out);
-    say_unclean_reasons(summary, out);
+    say(out, UncleanReasons(summary));
 }
 
 /// Says that the sides of a recording look exchanged, or that it is else not clean.
 fn say_state_start<S: TextSink>(exchanged: bool, out: &mut S)
     ensures { S.says out.old (state_start exchanged) out.new }
 {
-    if exchanged {
-        say_text(out, "<b>Tester and unit look exchanged:</b> ");
-    } else {
-        say_text(out, "<b>The recording is not clean:</b> ");
-    }
+    say(
+        out,
+        Either(
+            exchanged,
+            "<b>Tester and unit look exchanged:</b> ",
+            "<b>The recording is not clean:</b> ",
+        ),
+    );
 }
 
 /// Says the counts of a session.
 fn say_counts_of<S: TextSink>(session: &Session, out: &mut S)
     ensures { S.says out.old (counts_text (counts_in session.now.rows) session.now.summary) out.new }
 {
-    say_counts(&session.rows().counts(), &session.summary(), out);
+    say(out, Counts(&session.rows().counts(), &session.summary()));
 }
 
 /// Says from when to when a session goes.
 fn say_span_of_session<S: TextSink>(session: &Session, out: &mut S)
     ensures { S.says out.old (span_of session.now.summary.frames session.now.first session.now.last) out.new }
 {
-    say_span_of(
-        session.summary().frames,
-        session.first(),
-        session.last(),
+    say(
         out,
+        SpanOf(session.summary().frames, session.first(), session.last()),
     );
 }

@@ -10,9 +10,9 @@ returns g c =
     let says = λ exchanged count. g.S.TextSink.says c.args.out.now (verdict_by exchanged count (option_map contrast_found c.difference-first.result)) c.say_pair_verdict.new.out in
     let verdict = subst (λ exchanged. says exchanged (length (pairs_in two))) c.look_exchanged_in.ensures
     (subst (says c.look_exchanged_in.result) c.numbers.ensures.value c.say_pair_verdict.ensures) in
-    subst (λ first. g.S.TextSink.says c.args.out.now (pair_body (pair_title_of c.args.title.now) two (pairs_in two) first) c.say_pair_help.new.out) c.difference-first.ensures.first
+    subst (λ first. g.S.TextSink.says c.args.out.now (pair_body (pair_title_of c.args.title.now) two (pairs_in two) first) c.say.new.out) c.difference-first.ensures.first
     (g.met.S.TextSink.onward _ _ _ _ _ (g.met.S.TextSink.onward _ _ _ _ _ (g.met.S.TextSink.onward _ _ _ _ _ (g.met.S.TextSink.onward _ _ _ _ _ (g.met.S.TextSink.onward _ _ _ _ _ verdict c.say_sessions.ensures)
     c.say_text.ensures)
     c.say_items.ensures)
     c.say_text-2.ensures)
-    c.say_pair_help.ensures)
+    c.say.ensures)

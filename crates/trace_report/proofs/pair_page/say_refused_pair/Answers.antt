@@ -5,6 +5,6 @@ returns g c =
     g.met.S.TextSink.onward _ _ _ _ _ (g.met.S.TextSink.onward _ _ _ _ _ (g.met.S.TextSink.onward _ _ _ _ _ (g.met.S.TextSink.onward _ _ _ _ _ (g.met.S.TextSink.onward _ _ _ _ _ (g.met.S.TextSink.onward _ _ _ _ _ c.say_pair_front.ensures c.say_text.ensures)
     c.say_log_letter.ensures)
     c.say_text-2.ensures)
-    c.say_refusal.ensures)
+    c.say.ensures)
     c.say_text-3.ensures)
-    c.say_pair_help.ensures
+    c.say-2.ensures

@@ -11,6 +11,6 @@ returns g c = record {
       let front = subst (λ (title : PageTitle). g.S.TextSink.says c.args.out.now (front_before title T) c.say_front_before-origin.new.out) known.same
       (c.say_front_before-origin.ensures.says T known.span) in
       g.met.S.TextSink.onward _ _ _ _ _ front
-      (subst (λ text. g.S.TextSink.says c.say_front_before-origin.new.out text c.say_refused_end.new.out)
-      (λ i. refused_end c.args.why (known.chart.blocks i) (known.chart.tally i) c.args.summary.now (origin i) (last i)) c.say_refused_end.ensures);
+      (subst (λ text. g.S.TextSink.says c.say_front_before-origin.new.out text c.say.new.out)
+      (λ i. refused_end c.args.why (known.chart.blocks i) (known.chart.tally i) c.args.summary.now (origin i) (last i)) c.say.ensures);
 }
