@@ -1,7 +1,7 @@
 //! The parts of a text that are values: numbers, bytes and names.
 use crate::say::{
-    say_bytes, say_code, say_digit, say_direction, say_number, say_service, say_six_decimals,
-    say_three_decimals,
+    say_bytes, say_code, say_digit, say_direction, say_number, say_place, say_service,
+    say_six_decimals, say_three_decimals,
 };
 use direction::Dir;
 use text_parts::Part;
@@ -19,6 +19,22 @@ impl Part for Number {
     #[inline(always)]
     fn say<S: TextSink>(self, out: &mut S) {
         say_number(out, self.0);
+    }
+}
+
+/// The number of what is at a place, counted from 1.
+#[derive(Clone, Copy)]
+pub struct Place(pub usize);
+
+impl Part for Place {
+    ghost use Rattle.std.specs.Prelude.{◌+◌};
+    ghost use Rattle.std.specs.Fmt.{decimal};
+
+    ghost text = { λ place. decimal (place.0 + 1) };
+
+    #[inline(always)]
+    fn say<S: TextSink>(self, out: &mut S) {
+        say_place(out, self.0);
     }
 }
 
@@ -124,5 +140,18 @@ impl<'a> Part for Bytes<'a> {
     #[inline(always)]
     fn say<S: TextSink>(self, out: &mut S) {
         say_bytes(out, self.0);
+    }
+}
+
+/// Bytes as they are.
+#[derive(Clone, Copy)]
+pub struct Spelled<'a>(pub &'a [u8]);
+
+impl<'a> Part for Spelled<'a> {
+    ghost text = { λ bytes. bytes.0.now };
+
+    #[inline(always)]
+    fn say<S: TextSink>(self, out: &mut S) {
+        out.put_whole(self.0);
     }
 }

@@ -1,4 +1,4 @@
-//! The parts of a line of text.
+//! Numbers as digits.
 ghost use Rattle.std.specs.Prelude.{◌≡◌, ◌<◌, [], ◌∷◌, ◌++◌, ◌%◌, codes};
 ghost use Rattle.can_log.specs.Digits.{decimal, digit, hexadecimal};
 
@@ -8,29 +8,6 @@ const DIGITS: [u8; 16] = *b"0123456789ABCDEF";
 /// The decimal digits of the numbers below 100, two of each.
 const PAIRS: [u8; 200] =
     *b"00010203040506070809101112131415161718192021222324252627282930313233343536373839404142434445464748495051525354555657585960616263646566676869707172737475767778798081828384858687888990919293949596979899";
-
-/// A part of a line.
-#[derive(Clone, Copy)]
-pub enum Part<'a> {
-    /// The text as it is.
-    Text(&'static str),
-    /// The number in decimal.
-    Number(u64),
-    /// The number of what is at this place, counted from 1.
-    Place(usize),
-    /// A number below 16, as one hexadecimal digit.
-    Digit(u8),
-    /// The last six decimal digits of the number.
-    Decimals(u64),
-    /// The bytes as they are.
-    Spelled(&'a [u8]),
-    /// Two hexadecimal digits for each byte.
-    Bytes(&'a [u8]),
-    /// The name of the service, or `service_` and two digits where it has none.
-    Service(u8),
-    /// The name of the response code, or `code_` and two digits where it has none.
-    Code(u8),
-}
 
 /// What is written for a service that has no name.
 #[tactic(auto, unfolding(can_log::specs::Digits::digits))]
