@@ -19,6 +19,7 @@ use Rattle.trace_report.specs.ItemRows.{pair_rows}
 use Rattle.trace_report.specs.Items.{ItemPair}
 use Rattle.trace_report.specs.Session.{SessionValue}
 use Rattle.trace_report.specs.Sorts.{counts_in}
+use Rattle.trace_log.specs.Summing.{is_clean}
 use Rattle.trace_report.specs.Verdict.{is_called_clean, refusal_words, span_of, unclean_reasons}
 use Rattle.trace_report.specs.declared.contrast.LogName.{LogName}
 use Rattle.trace_report.specs.declared.contrast.LogName.TheVariants.{A, B}
@@ -109,14 +110,17 @@ verdict_by exchanged count None =
     if count == 0 then nothing_verdict else if exchanged then same_exchanged_verdict count else same_verdict count
 verdict_by exchanged count (Some first) = different_verdict first
 
--- that the sides of a recording look exchanged, or that it is else not clean
-abbrev pub state_start : Bool → List ℕ
-state_start exchanged =
-    if exchanged then codes "<b>Tester and unit look exchanged:</b> " else codes "<b>The recording is not clean:</b> "
+-- that the sides of a recording look exchanged, that it is not clean, or both
+abbrev pub state_start : Summary → List ℕ
+state_start summary =
+    if summary.looks_exchanged
+    then (if is_clean summary then codes "<b>Tester and unit look exchanged:</b> "
+        else codes "<b>The recording is not clean, and tester and unit look exchanged:</b> ")
+    else codes "<b>The recording is not clean:</b> "
 
 -- why a recording is not called clean
 abbrev pub unclean_state : Summary → List ℕ
-unclean_state summary = state_start summary.looks_exchanged ++ unclean_reasons summary
+unclean_state summary = state_start summary ++ unclean_reasons summary
 
 -- whether it is
 abbrev pub state_text : Summary → List ℕ

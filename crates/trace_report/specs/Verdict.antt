@@ -45,6 +45,11 @@ empty_start = codes "<section id=\"verdict\" class=\"warn\">\n<h2><span aria-hid
 abbrev pub exchanged_start : List ℕ
 exchanged_start = codes "<section id=\"verdict\" class=\"warn\">\n<h2><span aria-hidden=\"true\">!</span> Tester and unit look exchanged</h2>\n<p>"
 
+-- and the recording is not clean, either
+abbrev pub unclean_exchanged_start : List ℕ
+unclean_exchanged_start =
+    codes "<section id=\"verdict\" class=\"warn\">\n<h2><span aria-hidden=\"true\">!</span> The recording is not clean, and tester and unit look exchanged</h2>\n<p>"
+
 -- a page calls the recording clean: it is clean, and its sides don't look exchanged
 abbrev pub is_called_clean : Summary → Bool
 is_called_clean summary = is_clean summary && not summary.looks_exchanged
@@ -69,6 +74,10 @@ lacking_words summary =
     clause (summary.tester_frames == 0) (codes ", no frame of the tester") ++ clause (summary.unit_frames == 0) (codes ", no frame of the unit")
     ++ clause (lacks_line_feed summary) (codes ", no line feed at the end") ++ codes ".</em>"
 
+-- both
+abbrev pub strict_words : Summary → List ℕ
+strict_words summary = lost_words summary ++ lacking_words summary
+
 -- what it means that no frame is of the two sides
 abbrev pub empty_words : Bool → List ℕ
 empty_words has_no_line =
@@ -90,11 +99,13 @@ meaning_words summary =
 -- each reason why a log is not called clean: a frame of each side is wanted, all of what they sent, the end of the last
 -- line, and that the sides don't look exchanged
 abbrev pub unclean_reasons : Summary → List ℕ
-unclean_reasons summary = lost_words summary ++ lacking_words summary ++ meaning_words summary
+unclean_reasons summary = clause (not (is_clean summary)) (strict_words summary) ++ meaning_words summary
 
--- the heading of a log that has no frame of the two sides, or whose sides look exchanged, or that is else not clean
+-- the heading of a log that has no frame of the two sides, or whose sides look exchanged, or that is not clean
 abbrev pub start_by : Summary → List ℕ
-start_by summary = if summary.frames == 0 then empty_start else if summary.looks_exchanged then exchanged_start else unclean_start
+start_by summary =
+    if summary.frames == 0 then empty_start
+    else if summary.looks_exchanged then (if is_clean summary then exchanged_start else unclean_exchanged_start) else unclean_start
 
 -- each reason, with that
 abbrev pub unclean_verdict : Summary → List ℕ

@@ -165,19 +165,23 @@ fn say_state<S: TextSink>(summary: &Summary, out: &mut S)
 fn say_unclean_state<S: TextSink>(summary: &Summary, out: &mut S)
     ensures { S.says out.old (unclean_state summary.now) out.new }
 {
-    say_state_start(summary.looks_exchanged, out);
+    say_state_start(summary, out);
     say(out, UncleanReasons(summary));
 }
 
-/// Says that the sides of a recording look exchanged, or that it is else not clean.
-fn say_state_start<S: TextSink>(exchanged: bool, out: &mut S)
-    ensures { S.says out.old (state_start exchanged) out.new }
+/// Says that the sides of a recording look exchanged, that it is not clean, or both.
+fn say_state_start<S: TextSink>(summary: &Summary, out: &mut S)
+    ensures { S.says out.old (state_start summary.now) out.new }
 {
     say(
         out,
         Either(
-            exchanged,
-            "<b>Tester and unit look exchanged:</b> ",
+            summary.looks_exchanged,
+            Either(
+                summary.is_clean(),
+                "<b>Tester and unit look exchanged:</b> ",
+                "<b>The recording is not clean, and tester and unit look exchanged:</b> ",
+            ),
             "<b>The recording is not clean:</b> ",
         ),
     );

@@ -7,8 +7,8 @@ use trace_io::TextSink;
 use trace_log::Summary;
 use trace_text::Number;
 
-/// Each reason why a recording is not called clean: what was lost of its frames and what it lacks, in the words that `--strict`
-/// tells it, and what that means for the messages.
+/// Each reason why a recording is not called clean: of one that is not clean what `--strict` tells of it; and what that means for
+/// the messages.
 #[derive(Clone, Copy)]
 pub(crate) struct UncleanReasons<'a>(pub &'a Summary);
 
@@ -19,7 +19,27 @@ impl<'a> Part for UncleanReasons<'a> {
 
     fn say<S: TextSink>(self, out: &mut S) {
         let summary = self.0;
-        let is_cut = lacks_line_feed(summary);
+        say(
+            out,
+            (
+                When(!summary.is_clean(), StrictWords(summary)),
+                MeaningWords(summary),
+            ),
+        );
+    }
+}
+
+/// What was lost of the frames of a recording, and what it lacks, in the words that `--strict` tells it.
+#[derive(Clone, Copy)]
+struct StrictWords<'a>(&'a Summary);
+
+impl<'a> Part for StrictWords<'a> {
+    ghost use Rattle.trace_report.specs.Verdict.{strict_words};
+
+    ghost text = { λ words. strict_words words.0.now };
+
+    fn say<S: TextSink>(self, out: &mut S) {
+        let summary = self.0;
         say(
             out,
             (
@@ -36,27 +56,47 @@ impl<'a> Part for UncleanReasons<'a> {
                 (
                     When(summary.tester_frames == 0, ", no frame of the tester"),
                     When(summary.unit_frames == 0, ", no frame of the unit"),
-                    When(is_cut, ", no line feed at the end"),
+                    When(lacks_line_feed(summary), ", no line feed at the end"),
                     ".</em>",
                 ),
-                (
-                    When(
-                        is_partial(summary),
-                        " Frames are missing, late, out of order or of no legal form. Messages that they belonged to are not below.",
+            ),
+        );
+    }
+}
+
+/// What that means for the messages.
+#[derive(Clone, Copy)]
+struct MeaningWords<'a>(&'a Summary);
+
+impl<'a> Part for MeaningWords<'a> {
+    ghost use Rattle.trace_report.specs.Verdict.{meaning_words};
+
+    ghost text = { λ words. meaning_words words.0.now };
+
+    fn say<S: TextSink>(self, out: &mut S) {
+        let summary = self.0;
+        say(
+            out,
+            (
+                When(
+                    is_partial(summary),
+                    " Frames are missing, late, out of order or of no legal form. Messages that they belonged to are not below.",
+                ),
+                When(
+                    lacks_line_feed(summary),
+                    " The log ends inside its last line: it may be cut.",
+                ),
+                When(
+                    summary.frames == 0,
+                    Either(
+                        summary.lines == 0,
+                        " The log is empty: it has no line.",
+                        " Either no line has a frame, or other identifiers are meant: see <code>--tester</code> and <code>--unit</code>.",
                     ),
-                    When(is_cut, " The log ends inside its last line: it may be cut."),
-                    When(
-                        summary.frames == 0,
-                        Either(
-                            summary.lines == 0,
-                            " The log is empty: it has no line.",
-                            " Either no line has a frame, or other identifiers are meant: see <code>--tester</code> and <code>--unit</code>.",
-                        ),
-                    ),
-                    When(
-                        summary.looks_exchanged,
-                        " No message is a request, but the tester sent responses, and the unit what is none: see <code>--tester</code> and <code>--unit</code>.",
-                    ),
+                ),
+                When(
+                    summary.looks_exchanged,
+                    " No message is a request, but the tester sent responses, and the unit what is none: see <code>--tester</code> and <code>--unit</code>.",
                 ),
             ),
         );

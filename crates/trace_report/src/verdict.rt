@@ -164,7 +164,7 @@ pub(crate) fn is_called_clean(summary: &Summary) -> bool
     summary.is_clean() && !summary.looks_exchanged
 }
 
-/// The heading of a log that has no frame of the two sides, or whose sides look exchanged, or that is else not clean.
+/// The heading of a log that has no frame of the two sides, or whose sides look exchanged, or that is not clean.
 #[derive(Clone, Copy)]
 struct StartOf<'a>(&'a Summary);
 
@@ -182,7 +182,11 @@ impl<'a> Part for StartOf<'a> {
                 "<section id=\"verdict\" class=\"warn\">\n<h2><span aria-hidden=\"true\">!</span> No frame of the tester or the unit</h2>\n<p>",
                 Either(
                     summary.looks_exchanged,
-                    "<section id=\"verdict\" class=\"warn\">\n<h2><span aria-hidden=\"true\">!</span> Tester and unit look exchanged</h2>\n<p>",
+                    Either(
+                        summary.is_clean(),
+                        "<section id=\"verdict\" class=\"warn\">\n<h2><span aria-hidden=\"true\">!</span> Tester and unit look exchanged</h2>\n<p>",
+                        "<section id=\"verdict\" class=\"warn\">\n<h2><span aria-hidden=\"true\">!</span> The recording is not clean, and tester and unit look exchanged</h2>\n<p>",
+                    ),
                     "<section id=\"verdict\" class=\"warn\">\n<h2><span aria-hidden=\"true\">!</span> The recording is not clean</h2>\n<p>",
                 ),
             ),
