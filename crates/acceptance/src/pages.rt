@@ -153,7 +153,9 @@ fn a_session_that_is_kept_is_printed(rt: HostRuntime) -> Result<(), Fail> {
     let left = shown(alloc, both.left())?;
     assert_text(&rt, "a session", left.as_str(), PRINTED);
     let right = shown(alloc, both.right())?;
-    let whole = format!(in alloc; "Two {{ left: {left}, right: {right}, comparison: Different {{ item: 0 }} }}")?;
+    let whole = format!(in alloc;
+        "Two {{ left: {left}, right: {right}, comparison: Different {{ item: 0 }} }}"
+    )?;
     assert_text(&rt, "both", shown(alloc, &both)?.as_str(), whole.as_str());
     Ok(())
 }

@@ -15,8 +15,8 @@ use trace_io::TextSink;
 use trace_log::Count;
 use trace_text::say::{
     say_byte, say_bytes, say_cause, say_code, say_counts, say_digit, say_direction,
-    say_layout_fault, say_length, say_number, say_place, say_service, say_six_decimals,
-    say_text, say_three_decimals,
+    say_layout_fault, say_length, say_number, say_place, say_service, say_six_decimals, say_text,
+    say_three_decimals,
 };
 use trace_text::{Bytes, Code, Digit, Number, Place, Service, SixDecimals, Spelled, say_items};
 

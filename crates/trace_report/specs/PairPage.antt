@@ -115,7 +115,7 @@ abbrev pub state_start : Summary → List ℕ
 state_start summary =
     if summary.looks_exchanged
     then (if is_clean summary then codes "<b>Tester and unit look exchanged:</b> "
-        else codes "<b>The recording is not clean, and tester and unit look exchanged:</b> ")
+    else codes "<b>The recording is not clean, and tester and unit look exchanged:</b> ")
     else codes "<b>The recording is not clean:</b> "
 
 -- why a recording is not called clean

@@ -7,11 +7,11 @@ ghost use Rattle.can_log.specs.Digits as digits;
 ghost use Rattle.trace_text.specs.ExplainText.{cause_text, layout_fault_text};
 ghost use Rattle.trace_text.specs.Words.{bytes_text, code_text, direction_text, service_text};
 
-use crate::names::{cause_name, direction_name, layout_fault_name};
 use crate::digits::{
-    four_decimals, hexadecimal_digits, last_digit, numbered_code, numbered_service,
-    six_decimals, three_decimals, two_decimals,
+    four_decimals, hexadecimal_digits, last_digit, numbered_code, numbered_service, six_decimals,
+    three_decimals, two_decimals,
 };
+use crate::names::{cause_name, direction_name, layout_fault_name};
 use can_log::digits_of_bytes;
 use direction::Dir;
 use isotp_pdu::PduFault;
