@@ -117,7 +117,13 @@ impl<M: Machine, W: Target> Receiver<M, W> {
 
     /// Takes one more frame of a direction. A pair asks for memory only where the frame's bytes are kept for a message of
     /// several frames.
-    fn receive(&mut self, device: &mut W, line: u64, dir: Dir, stamped: &Stamped) -> Result<(), Fault>
+    fn receive(
+        &mut self,
+        device: &mut W,
+        line: u64,
+        dir: Dir,
+        stamped: &Stamped,
+    ) -> Result<(), Fault>
         ensures same { (self.new.config ≡ self.old.config) × (self.new.lines ≡ self.old.lines) }
         ensures fault { IfErr result IsOfTaker }
         ensures pair { OnOk result ((T : List Entry) → self.old.pair.receptions ≡ receptions_after MESSAGE_LIMIT T

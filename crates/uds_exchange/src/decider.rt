@@ -113,7 +113,12 @@ impl Decider {
 }
 
 /// Puts the exchange of a request that waits, with its answer, and the strays behind it.
-fn put_answered<S: ItemSink>(request: &Option<Vec<u8>>, answer: &[u8], held: &HeldMessages, sink: &mut S)
+fn put_answered<S: ItemSink>(
+    request: &Option<Vec<u8>>,
+    answer: &[u8],
+    held: &HeldMessages,
+    sink: &mut S,
+)
     ensures { PutsItems S.takes sink.old (answered_items (option_map (λ bytes. bytes.items) request.now) answer.now held.now) sink.new }
 {
     if let Some(request) = request {

@@ -134,7 +134,11 @@ impl JudgedOrderer {
 }
 
 /// Puts what has its place by what becomes of a message.
-fn put_due<S: MessageSink>(message: Judged<'_>, held: &HeldMessages, sink: &mut S) -> Result<(), S::Fault>
+fn put_due<S: MessageSink>(
+    message: Judged<'_>,
+    held: &HeldMessages,
+    sink: &mut S,
+) -> Result<(), S::Fault>
     ensures ok { OnOk result (Puts S.after_ok sink.old (due_for message.entry.step held.now (sent message.entry)) sink.new) }
     ensures err { IfErr result (λ e. Fails S.after_ok S.after_err sink.old
         (due_for message.entry.step held.now (sent message.entry)) e sink.new) }

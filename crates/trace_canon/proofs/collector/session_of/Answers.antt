@@ -13,11 +13,13 @@ run-requires-clause-machine g c = rw (c.new.ensures) (collects_none c.args.confi
 pub returns : goal.returns
 returns g c =
     let ran = c.run.ensures.ran in
-    record { ran = record {
-      answer = λ log agrees. session_is_the_same c.args.config.now log _ c.run.result _ _ (ran.answer log agrees);
-      near = search rules;
-      memory = search rules;
-      read = search rules;
-      never_write = never_write silent_script silent_tells_nothing (answers_session c.args.config.now) MESSAGE_LIMIT c.args.config.now ran.read.gave.bytes _ _ _ c.run.result
-          (ran.answer ran.read.gave.bytes (given_agrees ran.read.gave));
-    }; }
+    record {
+      ran = record {
+        answer = λ log agrees. session_is_the_same c.args.config.now log _ c.run.result _ _ (ran.answer log agrees);
+        near = search rules;
+        memory = search rules;
+        read = search rules;
+        never_write = never_write silent_script silent_tells_nothing (answers_session c.args.config.now) MESSAGE_LIMIT c.args.config.now ran.read.gave.bytes _ _ _ c.run.result
+            (ran.answer ran.read.gave.bytes (given_agrees ran.read.gave));
+      };
+    }
