@@ -17,7 +17,8 @@
 - what docs/proved.md prints of the source stands there;
 - what docs/proved.md cites is written as tests/documents/clauses.txt lists it, with each definition that it is made of; no law says nothing,
   and no edit of a table of edits that takes a promise away passes these tests;
-- each law has a wrong body that makes it false, one of the headline in the gate;
+- each law has a line in attacks/laws.txt, of a wrong body that makes it false, one of the headline in the gate; each line is one of a law
+  and of a wrong body that are there, and no copy of a table of wrong copies passes this;
 - scripts/clauses prints a row for each call and law that docs/proved.md cites, with the clauses that it cites, and what a law is
   made of are the definitions that its `use` lines name, and no others of the same names; a name that means nothing is told;
 - each decision of docs/DECISIONS.md says what would change it;
@@ -316,7 +317,6 @@ def named_clauses(cases):
         cases.report(f"{name_of(PROVED)} cites no clause that {crate} has not", wrong)
 
 
-@lru_cache(maxsize=None)
 def printed_tables():
     """The tables that scripts/clauses prints, by their crates."""
     printed = subprocess.run([TOP / "scripts" / "clauses"], check=True, capture_output=True, text=True, timeout=60).stdout
@@ -409,21 +409,50 @@ def texts_of_clauses(cases):
     cases.report("no law says nothing", list(found.empty()))
 
 
+# Wrong copies of attacks/laws.txt: what is taken from its lines, and what is put there.
+LINES_OF_LAWS = [
+    ("a law without a line", r"^can_log log_tells_one .*\n", ""),
+    ("a law that is not there", r"^can_log log_tells_one (.*)", r"\g<0>\ncan_log log_tells_two \1"),
+    ("a wrong body that is not there", "^can_log log_tells_one ", r"\g<0>definition_of_two_logs\n\g<0>"),
+    ("a wrong body of another crate", "^can_log log_tells_one ", r"\g<0>definition_of_early_as_all\n\g<0>"),
+    ("a line without a wrong body", "^(can_log log_tells_one) ", r"\1\n\g<0>"),
+    ("a law of the headline that the gate tries nothing of", "definition_of_a_report_without_the_refused_place", "definition_of_meanings_of_some_of_the_lines"),
+]
+
+
 def bodies_of_laws(cases):
-    """By what scripts/clauses prints: a row for each law, whose last two cells are its wrong bodies."""
-    there = {(crate, edit.stem) for crate in crates() for edit in [*edits.of_the_gate(crate), *edits.beyond_it(crate)]}
-    laws = {(crate, law.path.partition("::")[2]) for crate in crates() for law in clauses.Contracts(TOP / "crates" / crate).laws()}
-    wrong = [f"no {body} of {crate}" for crate, _, body in edits.laws() if (crate, body) not in there]
-    wrong += [f"no law {law} of {crate}" for crate, law, _ in edits.laws() if (crate, law) not in laws]
-    cases.report("the laws and wrong bodies that attacks/laws.txt names are there", wrong)
+    lines = edits.LAWS.read_text()
+    cases.report("each law has a wrong body that makes it false, one of the headline in the gate", wrong_lines(lines))
+    for name, old, new in LINES_OF_LAWS:
+        edited, count = re.subn(old, new, lines, flags=re.M)
+        wrong = [] if count == 1 else [f"it changes {count} places"]
+        wrong += [] if wrong_lines(edited) else ["no test sees it"]
+        cases.report(f"attacks/laws.txt is not taken with {name}", wrong)
+
+
+def wrong_lines(text):
+    """What is wrong with lines of attacks/laws.txt: each names a law and a wrong body that are there, each law has one, and a law
+    of the headline one whose wrong body the gate tries."""
+    laws, of_headline, gate, bodies = laws_and_bodies()
+    whole = [line for line in edits.laws(text) if len(line) == 3]
+    wrong = [f"{' '.join(line)} is no line" for line in edits.laws(text) if len(line) != 3]
+    wrong += [f"no law {law} of {crate}" for crate, law, _ in whole if (crate, law) not in laws]
+    wrong += [f"no {body} of {crate}" for crate, _, body in whole if (crate, body) not in bodies]
+    having = {(crate, law) for crate, law, _ in whole}
+    tried = {(crate, law) for crate, law, body in whole if (crate, body) in gate}
+    wrong += [f"{law} of {crate} has no line" for crate, law in sorted(laws - having)]
+    return wrong + [f"{law} of {crate} has none in the gate" for crate, law in sorted(laws - tried) if law in of_headline]
+
+
+@lru_cache(maxsize=None)
+def laws_and_bodies():
+    """The laws, each with its crate; the names of those of the headline; and the wrong bodies with their crates: those of the gate, and
+    all."""
     page = PROVED.read_text()
     of_headline = {name for _, cell in list(clauses.cells(page))[: clauses.rows_of_the_headline(page)] for name in laws_in(cell)}
-    for crate, table in printed_tables().items():
-        laws = re.findall(r"^\| law `laws::(\w+)` \| [^|]* \| ([^|]*)\| ([^|]*)\|$", table, re.M)
-        wrong = [name for name, gate, beyond in laws if not gate.strip() + beyond.strip()]
-        wrong += [f"{name} in the gate" for name, gate, _ in laws if name in of_headline and not gate.strip()]
-        if laws:
-            cases.report(f"each law of {crate} has a wrong body", wrong)
+    laws = {(crate, law.path.partition("::")[2]) for crate in crates() for law in clauses.Contracts(TOP / "crates" / crate).laws()}
+    gate = {(crate, edit.stem) for crate in crates() for edit in edits.of_the_gate(crate)}
+    return laws, of_headline, gate, gate | {(crate, edit.stem) for crate in crates() for edit in edits.beyond_it(crate)}
 
 
 def laws_in(cell):

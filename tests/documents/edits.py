@@ -1,10 +1,11 @@
 """The wrong bodies as files: those of a crate's must-fail/, which the gate tries, and those of attacks/, which `make attack` does; and
-attacks/laws.txt, which says what law a wrong body makes false that is about one."""
+attacks/laws.txt, which says of each law what wrong bodies make its statement false."""
 
 import re
 from pathlib import Path
 
 TOP = Path(__file__).resolve().parents[2]
+LAWS = TOP / "attacks/laws.txt"
 
 
 def of_the_gate(crate):
@@ -27,6 +28,6 @@ def changes(edit):
             old = rest
 
 
-def laws():
-    """The laws that wrong bodies make false, by attacks/laws.txt: crate, law and wrong body of each line."""
-    return [tuple(line.split()) for line in (TOP / "attacks/laws.txt").read_text().splitlines()]
+def laws(text=None):
+    """The laws that wrong bodies make false, by the lines of attacks/laws.txt, or of this text: crate, law and wrong body of each."""
+    return [tuple(line.split()) for line in (LAWS.read_text() if text is None else text).splitlines()]
