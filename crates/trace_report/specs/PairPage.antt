@@ -1,10 +1,9 @@
 -- The page of two logs: whether they are the same session; the items before the first difference, that difference, and
 -- the items behind it. Both sessions are held, so the verdict is written first.
-use Rattle.std.specs.Prelude.{ℕ, ◌+◌, ◌==◌, Bool, true, false, List, [], ◌∷◌, ◌++◌, codes, length, take, drop, Option, Some, None, Result, Ok, Err, if◌then◌else◌}
+use Rattle.std.specs.Prelude.{ℕ, ◌+◌, ◌==◌, ◌||◌, Bool, true, false, List, [], ◌∷◌, ◌++◌, codes, length, take, drop, Option, Some, None, Result, Ok, Err, if◌then◌else◌}
 use Rattle.std.specs.Fmt.{decimal}
 use Rattle.can_log.specs.declared.frame.Id.{Id}
 use Rattle.trace_log.specs.Settings.{Settings}
-use Rattle.trace_log.specs.Summing.{is_clean}
 use Rattle.trace_log.specs.declared.fault.CompareFault.{CompareFault}
 use Rattle.trace_log.specs.declared.fault.CompareFault.TheVariants.{Left, Right}
 use Rattle.trace_log.specs.declared.fault.Fault.{Fault}
@@ -20,7 +19,7 @@ use Rattle.trace_report.specs.ItemRows.{pair_rows}
 use Rattle.trace_report.specs.Items.{ItemPair}
 use Rattle.trace_report.specs.Session.{SessionValue}
 use Rattle.trace_report.specs.Sorts.{counts_in}
-use Rattle.trace_report.specs.Verdict.{refusal_words, span_of, unclean_reasons}
+use Rattle.trace_report.specs.Verdict.{is_called_clean, refusal_words, span_of, unclean_reasons}
 use Rattle.trace_report.specs.declared.contrast.LogName.{LogName}
 use Rattle.trace_report.specs.declared.contrast.LogName.TheVariants.{A, B}
 use Rattle.trace_report.specs.declared.held_session.Held.{Held}
@@ -78,6 +77,16 @@ same_verdict count =
     codes "<section id=\"verdict\" class=\"good\">\n<h2><span aria-hidden=\"true\">=</span> The two sessions are the same</h2>\n<p>Items: "
     ++ decimal count ++ codes ". Each is equal in both, byte for byte.</p>\n"
 
+-- the same of sessions of which tester and unit look exchanged
+abbrev pub same_exchanged_verdict : ℕ → List ℕ
+same_exchanged_verdict count =
+    codes "<section id=\"verdict\" class=\"warn\">\n<h2><span aria-hidden=\"true\">!</span> The two sessions are the same, but tester and unit look exchanged</h2>\n<p>Items: "
+    ++ decimal count ++ codes ". Each is equal in both, byte for byte.</p>\n"
+
+-- tester and unit look exchanged in one of two logs, or in both
+abbrev pub look_exchanged_in : Held → Bool
+look_exchanged_in held = held.left.summary.looks_exchanged || held.right.summary.looks_exchanged
+
 -- none of the two has an item: nothing was compared
 abbrev pub nothing_verdict : List ℕ
 nothing_verdict =
@@ -95,19 +104,25 @@ different_verdict first =
     ++ decimal (first.before + 1) ++ codes "</h2>\n<p>" ++ contrast_words first.pair first.how ++ codes " <a href=\"#difference\">See it.</a>"
     ++ same_before first.before ++ codes "</p>\n"
 
--- by how many items there are, and their first difference
-abbrev pub verdict_by : ℕ → Option FirstContrast → List ℕ
-verdict_by count None = if count == 0 then nothing_verdict else same_verdict count
-verdict_by count (Some first) = different_verdict first
+-- by whether tester and unit look exchanged, how many items there are, and their first difference
+abbrev pub verdict_by : Bool → ℕ → Option FirstContrast → List ℕ
+verdict_by exchanged count None =
+    if count == 0 then nothing_verdict else if exchanged then same_exchanged_verdict count else same_verdict count
+verdict_by exchanged count (Some first) = different_verdict first
 
--- why a recording is not clean
+-- that the sides of a recording look exchanged, or that it is else not clean
+abbrev pub state_start : Bool → List ℕ
+state_start exchanged =
+    if exchanged then codes "<b>Tester and unit look exchanged:</b> " else codes "<b>The recording is not clean:</b> "
+
+-- why a recording is not called clean
 abbrev pub unclean_state : Summary → List ℕ
-unclean_state summary = codes "<b>The recording is not clean:</b> " ++ unclean_reasons summary
+unclean_state summary = state_start summary.looks_exchanged ++ unclean_reasons summary
 
 -- whether it is
 abbrev pub state_text : Summary → List ℕ
 state_text summary =
-    if is_clean summary then codes "The recording is clean." else unclean_state summary
+    if is_called_clean summary then codes "The recording is clean." else unclean_state summary
 
 -- what was found of one log
 abbrev pub session_text : LogName → List ℕ → SessionValue → List ℕ
@@ -168,7 +183,7 @@ items_text title held pairs (Some first) =
 -- the page behind its front
 abbrev pub pair_body : PairTitleValue → Held → List ItemPair → Option FirstContrast → List ℕ
 pair_body title held pairs first =
-    verdict_by (length pairs) first ++ sessions_text title held ++ codes "<main id=\"session\">\n" ++ items_text title held pairs first ++ codes "</main>\n"
+    verdict_by (look_exchanged_in held) (length pairs) first ++ sessions_text title held ++ codes "<main id=\"session\">\n" ++ items_text title held pairs first ++ codes "</main>\n"
     ++ pair_help_text
 
 -- the page of two logs that can be read

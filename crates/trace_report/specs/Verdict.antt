@@ -38,6 +38,14 @@ unclean_start = codes "<section id=\"verdict\" class=\"warn\">\n<h2><span aria-h
 abbrev pub empty_start : List ℕ
 empty_start = codes "<section id=\"verdict\" class=\"warn\">\n<h2><span aria-hidden=\"true\">!</span> No frame of the tester or the unit</h2>\n<p>"
 
+-- tester and unit look exchanged
+abbrev pub exchanged_start : List ℕ
+exchanged_start = codes "<section id=\"verdict\" class=\"warn\">\n<h2><span aria-hidden=\"true\">!</span> Tester and unit look exchanged</h2>\n<p>"
+
+-- a page calls the recording clean: it is clean, and its sides don't look exchanged
+abbrev pub is_called_clean : Summary → Bool
+is_called_clean summary = is_clean summary && not summary.looks_exchanged
+
 -- of what was recorded something is in part
 abbrev pub is_partial : Summary → Bool
 is_partial summary = not (summary.dropped == 0) || (not (summary.ended == 0) || not (summary.unfinished == 0))
@@ -64,28 +72,34 @@ empty_words has_no_line =
     if has_no_line then codes " The log is empty: it has no line."
     else codes " Either no line has a frame, or other identifiers are meant: see <code>--tester</code> and <code>--unit</code>."
 
+-- what it means that tester and unit look exchanged
+abbrev pub exchanged_words : List ℕ
+exchanged_words =
+    codes " No message is a request, but the tester sent responses, and the unit what is none: see <code>--tester</code> and <code>--unit</code>."
+
 -- what that means for the messages below
 abbrev pub meaning_words : Summary → List ℕ
 meaning_words summary =
     clause (is_partial summary) (codes " Frames are missing, late, out of order or of no legal form. Messages that they belonged to are not below.")
     ++ clause (lacks_line_feed summary) (codes " The log ends inside its last line: it may be cut.")
-    ++ clause (summary.frames == 0) (empty_words (summary.lines == 0))
+    ++ clause (summary.frames == 0) (empty_words (summary.lines == 0)) ++ clause summary.looks_exchanged exchanged_words
 
--- each reason why a log is not clean: a frame of each side is wanted, all of what they sent, and the end of the last line
+-- each reason why a log is not called clean: a frame of each side is wanted, all of what they sent, the end of the last
+-- line, and that the sides don't look exchanged
 abbrev pub unclean_reasons : Summary → List ℕ
 unclean_reasons summary = lost_words summary ++ lacking_words summary ++ meaning_words summary
 
--- the heading of a log that has no frame of the two sides, or is else not clean
-abbrev pub start_by : Bool → List ℕ
-start_by has_no_frame = if has_no_frame then empty_start else unclean_start
+-- the heading of a log that has no frame of the two sides, or whose sides look exchanged, or that is else not clean
+abbrev pub start_by : Summary → List ℕ
+start_by summary = if summary.frames == 0 then empty_start else if summary.looks_exchanged then exchanged_start else unclean_start
 
 -- each reason, with that
 abbrev pub unclean_verdict : Summary → List ℕ
-unclean_verdict summary = start_by (summary.frames == 0) ++ unclean_reasons summary
+unclean_verdict summary = start_by summary ++ unclean_reasons summary
 
 -- the heading, and its sentences
 abbrev pub heading_text : Summary → List ℕ
-heading_text summary = if is_clean summary then clean_verdict else unclean_verdict summary
+heading_text summary = if is_called_clean summary then clean_verdict else unclean_verdict summary
 
 -- whether each answer is positive, where there are so many requests, negative answers, and requests without an answer
 abbrev pub answers_text : ℕ → ℕ → ℕ → List ℕ

@@ -83,7 +83,7 @@ fn say_pair_body<S: TextSink>(title: &PairTitle<'_>, held: &Held, out: &mut S)
     ensures { S.says out.old (pair_body (pair_title_of title.now) held.now (pairs_in held.now) (first_contrast (pairs_in held.now))) out.new }
 {
     let compared = compare_held(held);
-    say_pair_verdict(&compared, out);
+    say_pair_verdict(held, &compared, out);
     say_sessions(title, held, out);
     say_text(out, "<main id=\"session\">\n");
     say_items(title, held, &compared, out);

@@ -1,7 +1,8 @@
 //! The verdict of a page of two logs, and what was found of each of them.
 ghost use Rattle.std.specs.Prelude.{◌≡◌, ℕ, None};
 ghost use Rattle.trace_report.specs.Counts.{counts_text};
-ghost use Rattle.trace_report.specs.PairPage.{different_verdict, nothing_verdict, same_before, same_verdict, session_text, sessions_text, state_text, unclean_state, verdict_by};
+ghost use Rattle.trace_report.specs.PairPage.{different_verdict, nothing_verdict, same_before, same_exchanged_verdict, same_verdict, session_text, sessions_text, state_start, state_text, unclean_state, verdict_by};
+ghost use Rattle.trace_report.specs.PairPage as Spec;
 ghost use Rattle.trace_report.specs.Sorts.{counts_in};
 ghost use Rattle.trace_report.specs.Verdict.{span_of};
 ghost use Rattle.trace_report.specs.proving.Holding.{IfSame, contrast_found, first_compared};
@@ -12,27 +13,29 @@ use crate::counts::say_counts;
 use crate::held_session::{Held, HeldSession};
 use crate::pair_page::{PairTitle, say_lettered_name};
 use crate::pairs::{Compared, FoundContrast, counts_of};
-use crate::verdict::{say_span_of, say_unclean_reasons};
+use crate::verdict::{is_called_clean, say_span_of, say_unclean_reasons};
 use trace_io::TextSink;
 use trace_log::Summary;
 use trace_text::say::{say_number, say_place, say_text};
 
 /// Says whether the two sessions are the same, if they have items.
-pub(crate) fn say_pair_verdict<S: TextSink>(compared: &Compared<'_>, out: &mut S)
-    ensures { (count : ℕ) → IfSame compared.now (λ same. same ≡ count) → S.says out.old (verdict_by count (first_compared compared.now)) out.new }
+pub(crate) fn say_pair_verdict<S: TextSink>(held: &Held, compared: &Compared<'_>, out: &mut S)
+    ensures { (count : ℕ) → IfSame compared.now (λ same. same ≡ count) → S.says out.old (verdict_by (Spec.look_exchanged_in held.now) count (first_compared compared.now)) out.new }
 {
     match compared {
-        Compared::Same(count) => say_verdict_of_same(*count, out),
+        Compared::Same(count) => say_verdict_of_same(look_exchanged_in(held), *count, out),
         Compared::Different(found) => say_different_verdict(found, out),
     }
 }
 
 /// Says that the two sessions don't differ, with so many items.
-fn say_verdict_of_same<S: TextSink>(count: usize, out: &mut S)
-    ensures { S.says out.old (verdict_by count None) out.new }
+fn say_verdict_of_same<S: TextSink>(exchanged: bool, count: usize, out: &mut S)
+    ensures { S.says out.old (verdict_by exchanged count None) out.new }
 {
     if count == 0 {
         say_nothing_verdict(out);
+    } else if exchanged {
+        say_same_exchanged_verdict(count, out);
     } else {
         say_same_verdict(count, out);
     }
@@ -62,6 +65,25 @@ fn say_same_verdict<S: TextSink>(count: usize, out: &mut S)
     );
     say_number(out, count as u64);
     say_text(out, ". Each is equal in both, byte for byte.</p>\n");
+}
+
+/// Says the same of sessions of which tester and unit look exchanged.
+fn say_same_exchanged_verdict<S: TextSink>(count: usize, out: &mut S)
+    ensures { S.says out.old (same_exchanged_verdict count) out.new }
+{
+    say_text(
+        out,
+        "<section id=\"verdict\" class=\"warn\">\n<h2><span aria-hidden=\"true\">!</span> The two sessions are the same, but tester and unit look exchanged</h2>\n<p>Items: ",
+    );
+    say_number(out, count as u64);
+    say_text(out, ". Each is equal in both, byte for byte.</p>\n");
+}
+
+/// Whether tester and unit look exchanged in one of two logs, or in both.
+fn look_exchanged_in(held: &Held) -> bool
+    ensures { result ≡ Spec.look_exchanged_in held.now }
+{
+    held.left.summary().looks_exchanged || held.right.summary().looks_exchanged
 }
 
 /// Says where the two sessions first differ.
@@ -124,19 +146,30 @@ fn say_state_of<S: TextSink>(session: &HeldSession, out: &mut S)
 fn say_state<S: TextSink>(summary: &Summary, out: &mut S)
     ensures { S.says out.old (state_text summary.now) out.new }
 {
-    if summary.is_clean() {
+    if is_called_clean(summary) {
         say_text(out, "The recording is clean.");
     } else {
         say_unclean_state(summary, out);
     }
 }
 
-/// Says why a recording is not clean.
+/// Says why a recording is not called clean.
 fn say_unclean_state<S: TextSink>(summary: &Summary, out: &mut S)
     ensures { S.says out.old (unclean_state summary.now) out.new }
 {
-    say_text(out, "<b>The recording is not clean:</b> ");
+    say_state_start(summary.looks_exchanged, out);
     say_unclean_reasons(summary, out);
+}
+
+/// Says that the sides of a recording look exchanged, or that it is else not clean.
+fn say_state_start<S: TextSink>(exchanged: bool, out: &mut S)
+    ensures { S.says out.old (state_start exchanged) out.new }
+{
+    if exchanged {
+        say_text(out, "<b>Tester and unit look exchanged:</b> ");
+    } else {
+        say_text(out, "<b>The recording is not clean:</b> ");
+    }
 }
 
 /// Says the counts of a session.

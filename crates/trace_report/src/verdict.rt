@@ -129,11 +129,18 @@ fn say_look_lines<S: TextSink>(tally: &Tally, out: &mut S)
 pub(crate) fn say_heading<S: TextSink>(summary: &Summary, out: &mut S)
     ensures { S.says out.old (heading_text summary.now) out.new }
 {
-    if summary.is_clean() {
+    if is_called_clean(summary) {
         say_clean_verdict(out);
     } else {
         say_unclean_verdict(summary, out);
     }
+}
+
+/// Whether a page calls the recording clean: it is, and tester and unit don't look exchanged.
+pub(crate) fn is_called_clean(summary: &Summary) -> bool
+    ensures { result ≡ Spec.is_called_clean summary.now }
+{
+    summary.is_clean() && !summary.looks_exchanged
 }
 
 /// Says that nothing of the two sides is known to be missing.
@@ -154,18 +161,24 @@ fn say_clean_verdict<S: TextSink>(out: &mut S)
 fn say_unclean_verdict<S: TextSink>(summary: &Summary, out: &mut S)
     ensures { S.says out.old (unclean_verdict summary.now) out.new }
 {
-    say_start_by(summary.frames == 0, out);
+    say_start_by(summary, out);
     say_unclean_reasons(summary, out);
 }
 
-/// Says the heading of a log that has no frame of the two sides, or is else not clean.
-fn say_start_by<S: TextSink>(has_no_frame: bool, out: &mut S)
-    ensures { S.says out.old (start_by has_no_frame) out.new }
+/// Says the heading of a log that has no frame of the two sides, or whose sides look exchanged, or that is else not
+/// clean.
+fn say_start_by<S: TextSink>(summary: &Summary, out: &mut S)
+    ensures { S.says out.old (start_by summary.now) out.new }
 {
-    if has_no_frame {
+    if summary.frames == 0 {
         say_text(
             out,
             "<section id=\"verdict\" class=\"warn\">\n<h2><span aria-hidden=\"true\">!</span> No frame of the tester or the unit</h2>\n<p>",
+        );
+    } else if summary.looks_exchanged {
+        say_text(
+            out,
+            "<section id=\"verdict\" class=\"warn\">\n<h2><span aria-hidden=\"true\">!</span> Tester and unit look exchanged</h2>\n<p>",
         );
     } else {
         say_text(
@@ -175,7 +188,7 @@ fn say_start_by<S: TextSink>(has_no_frame: bool, out: &mut S)
     }
 }
 
-/// Says each reason why a recording is not clean.
+/// Says each reason why a recording is not called clean.
 pub(crate) fn say_unclean_reasons<S: TextSink>(summary: &Summary, out: &mut S)
     ensures { S.says out.old (unclean_reasons summary.now) out.new }
 {
@@ -228,6 +241,11 @@ fn say_meaning_words<S: TextSink>(summary: &Summary, out: &mut S)
         out,
     );
     say_if_empty(summary, out);
+    say_clause(
+        summary.looks_exchanged,
+        " No message is a request, but the tester sent responses, and the unit what is none: see <code>--tester</code> and <code>--unit</code>.",
+        out,
+    );
 }
 
 /// Says a text, where of what was recorded something is in part.
