@@ -45,6 +45,9 @@ hint_line matter.NoPair log =
 hint_line (matter.Foreign tester unit) log =
     codes "hint: " ++ named log ++ codes " has no frame of " ++ identifier_text tester ++ codes " or " ++ identifier_text unit ++ codes "; udsnorm find" ++ behind_command log
     ++ codes " names its identifiers\n"
+hint_line (matter.Exchanged tester unit) log =
+    codes "hint: tester and unit look exchanged in " ++ named log ++ codes ": udsnorm list --tester " ++ identifier_text unit ++ codes " --unit "
+    ++ identifier_text tester ++ behind_command log ++ codes "\n"
 hint_line matter.Empty log = codes "hint: " ++ named log ++ codes " is empty\n"
 hint_line (matter.Looks look) log = look_line look log
 hint_line matter.Cut log = codes "hint: the last line of " ++ named log ++ codes " looks cut; sed '$d' leaves it out, and a frame is missing\n"

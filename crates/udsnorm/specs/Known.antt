@@ -67,11 +67,13 @@ knows_no_pair summary taken =
 abbrev pub knows_dropped : ℕ → Option Known
 knows_dropped count = if nat_lt 0 count then knows First (matter.Dropped count) else None
 
--- What is known of this log by its counts: that it has no line, or no frame with one of the identifiers.
+-- What is known of this log by its counts: that it has no line, or no frame with one of the identifiers, or that these
+-- look exchanged.
 abbrev pub known_by_counts : Which → Settings → Summary → Option Known
 known_by_counts which settings summary =
     if summary.lines == 0 then knows which matter.Empty
     else if summary.frames == 0 then knows which (matter.Foreign settings.tester settings.unit)
+    else if summary.looks_exchanged then knows which (matter.Exchanged settings.tester settings.unit)
     else None
 
 -- the one that is known, or else the other

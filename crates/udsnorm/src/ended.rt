@@ -87,6 +87,8 @@ pub enum Matter {
     Empty,
     /// It has lines, and no frame with one of these identifiers.
     Foreign { tester: Id, unit: Id },
+    /// Tester and unit look exchanged in it, where these are their identifiers.
+    Exchanged { tester: Id, unit: Id },
     /// It is no log, and looks like something else.
     Looks(Look),
     /// It is a log up to its end, where the last line breaks off.
@@ -154,7 +156,7 @@ fn known_of_done<W: Target>(job: Job, config: &Config, summary: &Summary, out: &
     }
 }
 
-/// What is known of a log by its counts: that it is empty, or has no frame of either side.
+/// What is known of a log by its counts: that it is empty, or has no frame of either side, or that these look exchanged.
 fn known_by_counts(which: Which, config: &Config, summary: &Summary) -> Option<Known>
     ensures { result ≡ known_by_counts which config.now summary.now }
 {
@@ -164,6 +166,8 @@ fn known_by_counts(which: Which, config: &Config, summary: &Summary) -> Option<K
         knows(which, Matter::Empty)
     } else if summary.frames == 0 {
         knows(which, Matter::Foreign { tester, unit })
+    } else if summary.looks_exchanged {
+        knows(which, Matter::Exchanged { tester, unit })
     } else {
         None
     }

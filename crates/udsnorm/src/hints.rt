@@ -194,6 +194,19 @@ fn hint_line(alloc: Global, matter: Matter, log: Option<&str>) -> Result<Vec<u8>
                 Piece::Words(" names its identifiers\n"),
             ],
         ),
+        Matter::Exchanged { tester, unit } => line_of(
+            alloc,
+            &[
+                Piece::Words("hint: tester and unit look exchanged in "),
+                log,
+                Piece::Words(": udsnorm list --tester "),
+                Piece::Identifier(unit),
+                Piece::Words(" --unit "),
+                Piece::Identifier(tester),
+                behind,
+                end,
+            ],
+        ),
         Matter::Empty => line_of(
             alloc,
             &[Piece::Words("hint: "), log, Piece::Words(" is empty\n")],
