@@ -23,3 +23,4 @@ mod RowTargets
 mod Identifiers
 pub mod Harmless
 mod PagesInMemory
+pub mod Signs

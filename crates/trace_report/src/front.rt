@@ -9,13 +9,14 @@ use trace_io::TextSink;
 use trace_text::Part;
 use trace_text::say::{say_byte, say_parts, say_text};
 
-/// What a page is made for: its style, the name of the log, and the identifiers.
+/// What a page is made for: its style, the name of the log, the identifiers, and the limit of the log.
 #[derive(Clone, Copy)]
 pub(crate) struct Title<'a> {
     pub style: &'a str,
     pub name: &'a [u8],
     pub tester: Id,
     pub unit: Id,
+    pub most: u64,
 }
 
 /// Says what stands before the rows of a report.

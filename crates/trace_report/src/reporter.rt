@@ -2,7 +2,7 @@
 ghost use Rattle.std.specs.Prelude.{◌≡◌, List, [], ◌∷◌, ◌++◌, length, Option};
 ghost use Rattle.isotp_receive.specs.declared.TheConstants.{MESSAGE_LIMIT};
 ghost use Rattle.isotp_receive.specs.Trace.{Entry};
-ghost use Rattle.trace_run.specs.Told.{RanLenient, answers_counts, needs_none};
+ghost use Rattle.trace_run.specs.Told.{RanLenient, answers_counts, glimpse_of, needs_none};
 ghost use Rattle.trace_io.specs.Counted.{IsLowCount, AreLowCounts};
 ghost use Rattle.trace_report.specs.Front.{page_title};
 ghost use Rattle.trace_report.specs.Page.{first_time, front_before, last_time, page_end, refused_end, report_script};
@@ -10,6 +10,7 @@ ghost use Rattle.trace_report.specs.proving.Following.{times_of};
 ghost use Rattle.trace_report.specs.proving.Pages.{title_of};
 
 use crate::blocks::say_block_end;
+use crate::cause::{Cause, cause_of};
 use crate::chart::Chart;
 use crate::follower::Follower;
 use crate::front::{Title, say_front};
@@ -19,7 +20,7 @@ use isotp_receive::Pair;
 use std::alloc::{AllocError, Global};
 use trace_io::{Source, Target, TextSink};
 use trace_log::{Config, Fault, Summary};
-use trace_run::{Machine, Seen, Stop, run_lenient};
+use trace_run::{Glimpse, Machine, Seen, Stop, run_lenient};
 use trace_text::say::say_text;
 
 /// Reads a log and writes its session as a page of HTML, with this style and the name of the log: each row as its frame comes, and
@@ -38,7 +39,7 @@ pub fn report<R: Source, W: Target>(
     requires writer { IsLowCount (W.failures writer.old) }
 
     // What is answered and written; that it is written before more is read; and what was done with the devices.
-    ensures ran { RanLenient R.Source W.Target (report_script (page_title style.now name.now config.now) MESSAGE_LIMIT) answers_counts needs_none MESSAGE_LIMIT config.now reader.old writer.old result reader.new writer.new }
+    ensures ran { RanLenient R.Source W.Target (report_script (page_title style.now name.now config.now) MESSAGE_LIMIT (glimpse_of R.Source reader.new)) answers_counts needs_none MESSAGE_LIMIT config.now reader.old writer.old result reader.new writer.new }
 {
     let machine = Reporter {
         title: Title {
@@ -46,6 +47,7 @@ pub fn report<R: Source, W: Target>(
             name,
             tester: config.tester(),
             unit: config.unit(),
+            most: config.max_bytes(),
         },
         span: None,
         follower: Follower::start(),
@@ -74,7 +76,7 @@ pub(crate) struct Reporter<'a> {
 impl<'a> Machine for Reporter<'a> {
     ghost use Rattle.isotp_receive.specs.declared.TheConstants.{MESSAGE_LIMIT};
     ghost use Rattle.trace_run.specs.Told.{answers_counts};
-    ghost use Rattle.trace_report.specs.Page.{report_script};
+    ghost use Rattle.trace_report.specs.Page.{nothing_seen, refused_text, report_script};
     ghost use Rattle.trace_report.specs.proving.Following.{Reports};
     ghost use Rattle.trace_report.specs.proving.Pages.{title_of};
 
@@ -82,7 +84,9 @@ impl<'a> Machine for Reporter<'a> {
 
     ghost stands = { λ start T now. Reports (title_of start.title) T now };
 
-    ghost script = { λ start. report_script (title_of start.title) MESSAGE_LIMIT };
+    ghost script = { λ start. report_script (title_of start.title) MESSAGE_LIMIT nothing_seen };
+
+    ghost refusal = { λ start. refused_text (title_of start.title) MESSAGE_LIMIT };
 
     ghost answers = { λ start. answers_counts };
 
@@ -123,7 +127,7 @@ impl<'a> Machine for Reporter<'a> {
         Ok(*summary)
     }
 
-    fn refused<S: TextSink>(self, summary: &Summary, why: Fault, out: &mut S) {
+    fn refused<S: TextSink>(self, summary: &Summary, why: Fault, source: Glimpse<'_>, out: &mut S) {
         let Reporter {
             title,
             span,
@@ -131,7 +135,8 @@ impl<'a> Machine for Reporter<'a> {
             chart,
         } = self;
         let origin = say_front_before(&title, span, 0, out);
-        say_refused_end(why, &chart, summary, origin, last_of(span), out);
+        let cause = cause_of(why, title.most, source);
+        say_refused_end(why, cause, &chart, summary, origin, last_of(span), out);
     }
 }
 
@@ -178,17 +183,18 @@ fn say_page_end<S: TextSink>(chart: &Chart, summary: &Summary, first: u64, last:
 /// Says the same of the page of a log that is refused.
 fn say_refused_end<S: TextSink>(
     why: Fault,
+    cause: Option<Cause>,
     chart: &Chart,
     summary: &Summary,
     first: u64,
     last: u64,
     out: &mut S,
 )
-    ensures { S.says out.old (refused_end why chart.now.blocks chart.now.tally summary.now first last) out.new }
+    ensures { S.says out.old (refused_end why cause chart.now.blocks chart.now.tally summary.now first last) out.new }
 {
     say_block_end(chart.blocks.count, out);
     say_stop_line(why, out);
     say_text(out, "</main>\n");
-    say_refused_verdict(why, &chart.tally, summary, first, last, out);
+    say_refused_verdict(why, cause, &chart.tally, summary, first, last, out);
     say_help(out);
 }

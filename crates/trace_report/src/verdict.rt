@@ -7,6 +7,7 @@ ghost use Rattle.trace_report.specs.Links as Links;
 ghost use Rattle.trace_report.specs.Verdict.{answers_text, clean_verdict, empty_words, findings_text, heading_text, lacking_words, lost_words, meaning_words, place_words, refusal_words, refused_heading, refused_verdict, span_of, span_text, start_by, stop_line, unclean_reasons, unclean_verdict, verdict_text};
 ghost use Rattle.trace_report.specs.Verdict as Spec;
 
+use crate::cause::{Cause, say_cause_line};
 use crate::counts::{SortCounts, say_answers_of, say_counts};
 use crate::links::{Link, say_look_line};
 use crate::tally::Tally;
@@ -35,15 +36,16 @@ pub(crate) fn say_verdict<S: TextSink>(
 /// Says the verdict of a log that is refused, by what the lines before say.
 pub(crate) fn say_refused_verdict<S: TextSink>(
     why: Fault,
+    cause: Option<Cause>,
     tally: &Tally,
     summary: &Summary,
     first: u64,
     last: u64,
     out: &mut S,
 )
-    ensures { S.says out.old (refused_verdict why tally.now summary.now first last) out.new }
+    ensures { S.says out.old (refused_verdict why cause tally.now summary.now first last) out.new }
 {
-    say_refused_heading(why, out);
+    say_refused_heading(why, cause, out);
     say_findings(tally, summary, first, last, out);
 }
 
@@ -357,9 +359,9 @@ pub(crate) fn say_stop_line<S: TextSink>(why: Fault, out: &mut S)
     say_text(out, ".</p>\n");
 }
 
-/// Says the heading of a log that is refused, and its sentences.
-pub(crate) fn say_refused_heading<S: TextSink>(why: Fault, out: &mut S)
-    ensures { S.says out.old (refused_heading why) out.new }
+/// Says the heading of a log that is refused, its sentences, and the cause, where there is one.
+pub(crate) fn say_refused_heading<S: TextSink>(why: Fault, cause: Option<Cause>, out: &mut S)
+    ensures { S.says out.old (refused_heading why cause) out.new }
 {
     say_text(
         out,
@@ -370,6 +372,7 @@ pub(crate) fn say_refused_heading<S: TextSink>(why: Fault, out: &mut S)
         out,
         ".</em> Below is what the lines before that say; what comes after it is not read, and the counts are of the lines before.</p>\n",
     );
+    say_cause_line(cause, out);
 }
 
 /// Says why a log is refused, as the program tells it.
