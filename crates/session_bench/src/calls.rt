@@ -106,7 +106,7 @@ pub(crate) fn run_pair_page(
         unit: config.unit(),
     };
     let held = hold_two(alloc, config, &mut Bytes::new(left), &mut Bytes::new(right));
-    let _ = write_pair_page(&title, &held, &mut writer);
+    let _ = write_pair_page(&title, &held, None, &mut writer);
     match &held {
         Ok(both) => {
             digest.count(Some(&both.left.summary()));
