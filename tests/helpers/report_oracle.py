@@ -466,12 +466,18 @@ def heading(log, frames, counts):
     is_exchanged = oracle.look_exchanged(oracle.messages(frames))
     if not told and not is_exchanged:
         return "good", "&#10003;", "The recording is clean", "No frame of the two identifiers was dropped, and no message is in part."
-    words = EXCHANGED if is_exchanged else "The recording is not clean" if frames else "No frame of the tester or the unit"
-    told = told or lost_words(frames, counts)
-    return "warn", "!", words, " ".join([f"<em>{told}.</em>", *meant(log, frames, counts), *([EXCHANGED_MEANS] if is_exchanged else [])])
+    words = state_words(told, is_exchanged) if frames else "No frame of the tester or the unit"
+    counted = f"<em>{told}.</em>" if told else ""
+    return "warn", "!", words, " ".join([counted, *meant(log, frames, counts), *([EXCHANGED_MEANS] if is_exchanged else [])])
 
 
-EXCHANGED = "Tester and unit look exchanged"
+def state_words(is_unclean, is_exchanged):
+    """What a recording is called that is not clean, or whose sides look exchanged, or both."""
+    if not is_exchanged:
+        return "The recording is not clean"
+    return "The recording is not clean, and tester and unit look exchanged" if is_unclean else "Tester and unit look exchanged"
+
+
 EXCHANGED_MEANS = (
     "No message is a request, but the tester sent responses, and the unit what is none: "
     "see <code>--tester</code> and <code>--unit</code>."
@@ -485,12 +491,8 @@ def unclean_words(log, frames, counts):
     lacking += ["line feed at the end"] if is_cut(log) else []
     if not lacking and not lost(counts):
         return None
-    return lost_words(frames, counts) + "".join(f", no {what}" for what in lacking)
-
-
-def lost_words(frames, counts):
-    """What was lost of its frames."""
-    return " ".join(f"{name} {number}" for name, number in [("frames", len(frames)), *((name, counts[name]) for name in LOSSES)])
+    told = " ".join(f"{name} {number}" for name, number in [("frames", len(frames)), *((name, counts[name]) for name in LOSSES)])
+    return told + "".join(f", no {what}" for what in lacking)
 
 
 def meant(log, frames, counts):
@@ -968,7 +970,7 @@ def session_text(session):
 def state_text(session, counts):
     """Whether a recording is clean."""
     look, _, words, reason = heading(session.log, session.frames, counts)
-    return f"{words}." if look == "good" else f"<b>{words if words == EXCHANGED else 'The recording is not clean'}:</b> {reason}"
+    return f"{words}." if look == "good" else f"<b>{words if session.frames else 'The recording is not clean'}:</b> {reason}"
 
 
 def counts_of_session(session):
