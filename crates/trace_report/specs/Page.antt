@@ -62,8 +62,8 @@ abbrev pub last_text : PageTitle → ℕ → List Entry → Summary → List ℕ
 last_text title limit T summary =
     front_before title T ++ rows_after limit (first_time T) T (end_rows limit T) ++ page_end_behind (all_rows limit T) T summary
 
--- what is told where a log is refused for this reason, behind the frames T, with its cause by what is seen of the source. What is open there is neither unfinished
--- nor without an answer: so no row is told of it.
+-- what is told where a log is refused for this reason, behind the frames T, with its cause by what is seen of the
+-- source. What is open there is neither unfinished nor without an answer: so no row is told of it.
 abbrev pub refused_text : PageTitle → ℕ → Refusal
 refused_text title limit T summary why source =
     front_before title T ++ refused_end why (cause_of why title.most source) (blocks_of (rows_of limit T)) (tally_of (rows_of limit T)) summary (first_time T) (last_time 0 T)

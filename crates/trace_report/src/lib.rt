@@ -12,9 +12,8 @@
 //! begin. It answers the rows of a frame (`row`). The `chart` says them, in `blocks` that fold, and keeps a `tally` for the verdict.
 //!
 //! The text of a page is in pieces: its `front`; the rows of messages (`message_rows`, `brief_rows`) and of what is
-//! missing (`lost_rows`), by `cells` and `words`; the `verdict`, with `reasons`, `links` and `counts`, and of a refused log
-//! the `refusal` with its `cause`, by what it `looks` like; and the `help`. The style
-//! is no part of what is proved.
+//! missing (`lost_rows`), by `cells` and `words`; the `verdict`, with `reasons`, `links` and `counts`; of a refused log
+//! the `refusal`, with its `cause`, by what it `looks` like; and the `help`. The style is no part of what is proved.
 //!
 //! Of two logs a page says first whether they are the same. So both are kept: [`keep_two`] keeps the rows of each
 //! (`keeper`), and [`write_pair_page`] writes the page of both.
