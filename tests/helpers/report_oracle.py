@@ -14,6 +14,7 @@ import sys
 from collections import Counter, namedtuple
 from pathlib import Path
 
+import causes
 import oracle
 from oracle import GIBIBYTE, SIDES, TESTER, UNIT, Outcome
 
@@ -462,10 +463,25 @@ def span_text(frames):
 def heading(log, frames, counts):
     """The look, the sign and the words of the heading, and the sentences below it, of a log that is not refused."""
     told = unclean_words(log, frames, counts)
-    if not told:
+    is_exchanged = oracle.look_exchanged(oracle.messages(frames))
+    if not told and not is_exchanged:
         return "good", "&#10003;", "The recording is clean", "No frame of the two identifiers was dropped, and no message is in part."
-    words = "The recording is not clean" if frames else "No frame of the tester or the unit"
-    return "warn", "!", words, " ".join([f"<em>{told}.</em>", *meant(log, frames, counts)])
+    words = state_words(told, is_exchanged) if frames else "No frame of the tester or the unit"
+    counted = f"<em>{told}.</em>" if told else ""
+    return "warn", "!", words, " ".join([counted, *meant(log, frames, counts), *([EXCHANGED_MEANS] if is_exchanged else [])])
+
+
+def state_words(is_unclean, is_exchanged):
+    """What a recording is called that is not clean, or whose sides look exchanged, or both."""
+    if not is_exchanged:
+        return "The recording is not clean"
+    return "The recording is not clean, and tester and unit look exchanged" if is_unclean else "Tester and unit look exchanged"
+
+
+EXCHANGED_MEANS = (
+    "No message is a request, but the tester sent responses, and the unit what is none: "
+    "see <code>--tester</code> and <code>--unit</code>."
+)
 
 
 def unclean_words(log, frames, counts):
@@ -509,6 +525,12 @@ def answers_text(counts):
     if counts["negative"] or counts["no answer"]:
         return " Not every request has a positive answer."
     return " No answer is negative, and none is missing."
+
+
+def cause_text(log, limit, fault):
+    """The line with the cause of a refusal, where one is known."""
+    cause = causes.cause(log, limit, fault)
+    return f"<p><b>Cause:</b> {cause}.</p>\n" if cause else ""
 
 
 def refused_heading(fault):
@@ -574,7 +596,7 @@ VERDICT = """\
 <section id="verdict" class="{look}">
 <h2><span aria-hidden="true">{sign}</span> {heading}</h2>
 <p>{sentence}{answers}</p>
-{looks}{counts}{span}</section>
+{cause}{looks}{counts}{span}</section>
 """
 
 HELP = """\
@@ -611,7 +633,7 @@ which the messages were complete. """,
 )
 
 
-def page(log, name, refused=None, sides=SIDES):
+def page(log, name, refused=None, sides=SIDES, limit=GIBIBYTE):
     """The page of a log with this name, or of what stands before the place where it is refused. What is open there is called
     neither unanswered nor unfinished."""
     lines = refused.lines if refused else oracle.cut(log)
@@ -624,6 +646,7 @@ def page(log, name, refused=None, sides=SIDES):
         sign=mark,
         heading=words,
         sentence=sentence,
+        cause=cause_text(log, limit, refused.fault) if refused else "",
         answers="" if refused else answers_text(counts),
         looks=look_text(rows),
         counts=counts_text(counts),
@@ -651,7 +674,7 @@ def begun(log, name=STANDARD_INPUT, sides=SIDES):
 def reported(log, limit=GIBIBYTE, sides=SIDES, name=STANDARD_INPUT):
     """The page of a log, which is refused as `explain` refuses it."""
     refused = oracle.refusal(log, limit, is_long_refused=False)
-    written = page(log, name, refused, sides)
+    written = page(log, name, refused, sides, limit)
     return Outcome(oracle.REFUSED, refused.fault, written) if refused else Outcome(oracle.DONE, None, written)
 
 
@@ -845,6 +868,12 @@ SAME_VERDICT = """\
 <p>Items: {count}. Each is equal in both, byte for byte.</p>
 """
 
+SAME_EXCHANGED_VERDICT = """\
+<section id="verdict" class="warn">
+<h2><span aria-hidden="true">!</span> The two sessions are the same, but tester and unit look exchanged</h2>
+<p>Items: {count}. Each is equal in both, byte for byte.</p>
+"""
+
 NOTHING_VERDICT = """\
 <section id="verdict" class="warn">
 <h2><span aria-hidden="true">!</span> Neither session has an item</h2>
@@ -871,7 +900,7 @@ REFUSED_PAIR = """\
 <section id="verdict" class="bad">
 <h2><span aria-hidden="true">&#10005;</span> {letter} is refused, so nothing is compared</h2>
 <p><em>{fault}.</em> A report of this log alone shows the lines before that.</p>
-</section>
+{cause}</section>
 <main id="session">
 <h2>Items</h2>
 <p>Nothing is compared.</p>
@@ -922,8 +951,11 @@ def lettered(letter, name):
 
 
 def pair_verdict(left, right, numbers, first):
+    if first is None and numbers:
+        is_exchanged = any(oracle.look_exchanged(oracle.messages(session.frames)) for session in (left, right))
+        return (SAME_EXCHANGED_VERDICT if is_exchanged else SAME_VERDICT).format(count=len(numbers))
     if first is None:
-        return SAME_VERDICT.format(count=len(numbers)) if numbers else NOTHING_VERDICT
+        return NOTHING_VERDICT
     words = difference(item_at(left, first), item_at(right, first)).words
     before = " The items before it are the same." if first > 1 else ""
     return DIFFERENT_VERDICT.format(number=first, words=words, before=before)
@@ -938,7 +970,7 @@ def session_text(session):
 def state_text(session, counts):
     """Whether a recording is clean."""
     look, _, words, reason = heading(session.log, session.frames, counts)
-    return f"{words}." if look == "good" else f"<b>The recording is not clean:</b> {reason}"
+    return f"{words}." if look == "good" else f"<b>{words if session.frames else 'The recording is not clean'}:</b> {reason}"
 
 
 def counts_of_session(session):
@@ -963,9 +995,10 @@ def difference_text(left, right, first):
     return DIFFERENCE.format(number=first, words=how.words, sides=sides)
 
 
-def refused_pair(letter, fault, left_name, right_name, sides=SIDES):
+def refused_pair(letter, fault, cause, left_name, right_name, sides=SIDES):
     """The page of two logs of which one is refused."""
-    return f"{pair_front(left_name, right_name, sides)}{REFUSED_PAIR.format(letter=letter, fault=fault)}{HELP_OF_TWO}".encode("ascii")
+    refusal = REFUSED_PAIR.format(letter=letter, fault=fault, cause=cause)
+    return f"{pair_front(left_name, right_name, sides)}{refusal}{HELP_OF_TWO}".encode("ascii")
 
 
 def pair_reported(left, right, limit=GIBIBYTE, sides=SIDES, names=(b"left.log", b"right.log"), is_strict=False):
@@ -974,7 +1007,7 @@ def pair_reported(left, right, limit=GIBIBYTE, sides=SIDES, names=(b"left.log", 
     for letter, side, log in ((A, "left", left), (B, "right", right)):
         refused = oracle.refusal(log, limit, is_long_refused=False)
         if refused:
-            return Outcome(oracle.REFUSED, f"{side}: {refused.fault}", refused_pair(letter, refused.fault, *names, sides))
+            return Outcome(oracle.REFUSED, f"{side}: {refused.fault}", refused_pair(letter, refused.fault, cause_text(log, limit, refused.fault), *names, sides))
     page, first = pair_page(left, right, *names, sides)
     told = [f"{side}: {oracle.unclean(log)}" for side, log in (("left", left), ("right", right)) if is_strict and oracle.unclean(log)]
     if told:

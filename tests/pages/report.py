@@ -8,6 +8,7 @@ and its rows alone tell what `list` and `explain` write. Then come names of file
 memory. Prints a line for each case and ends with `N passed, M failed`; its status is 1 where a case failed.
 """
 
+import gzip
 import itertools
 import os
 import re
@@ -95,7 +96,7 @@ def log_of(*frames):
 
 def pages(cases):
     """Each log has its page, of which the rows alone tell the texts of the other jobs."""
-    for name, log, sides in itertools.chain(sample_logs(), table_logs(), made_logs(), some_random_logs()):
+    for name, log, sides in itertools.chain(sample_logs(), table_logs(), exchanged_logs(), made_logs(), some_random_logs()):
         wrong = page_faults(cases, log, sides)
         cases.report(name, wrong + ([f"the log {log!r}"] if wrong and len(log) < 2000 else []))
 
@@ -173,6 +174,23 @@ def table_logs():
         for row in tables.lines(table):
             line = row.partition(" ")[2].encode()
             yield f"{table}: {row!r}", log_of(REQUEST, FIRST) + line + (b"\n" if table == "refused_lines" else b""), oracle.SIDES
+
+
+def exchanged_logs():
+    """Logs whose sides look exchanged, and some that lack one thing of that, where 7E8 is the tester's."""
+    sides = {TESTER: "7E8", UNIT: "7E0"}
+    for name, log in [
+        ("vin.log", VIN),
+        ("a request and its answer", log_of(REQUEST, ANSWER)),
+        ("a negative answer", log_of(REQUEST, REFUSED)),
+        ("keep-alives", log_of(ANSWER, "7E0#023E80", "7E8#023E80")),
+        ("a log that is not clean", log_of(REQUEST, ANSWER, FIRST)),
+        ("a log that is cut", log_of(REQUEST, ANSWER).removesuffix(b"\n")),
+        ("a request beside them", log_of(REQUEST, ANSWER, "7E8#0322F190")),
+        ("no answer", log_of(REQUEST)),
+        ("no request", log_of(ANSWER)),
+    ]:
+        yield f"exchanged sides: {name}", log, sides
 
 
 def made_logs():
@@ -321,6 +339,29 @@ def refused_logs(cases):
         cases.report(f"a log that is refused {name}", wrong + refusal_faults(found, told, rows))
 
 
+def causes_of_refusals(cases):
+    """The page of a refused log has the cause in the words of the hint, and none where there is no hint."""
+    lines = VIN.splitlines(keepends=True)
+    for name, log, limit, is_known in [
+        ("compressed", gzip.compress(VIN), None, True),
+        ("a table", b"timestamp,id,data\n", None, True),
+        ("with nine decimals", b"(1700000000.000000000) can0 7E0#00\n", None, True),
+        ("cut", VIN[:-3], None, True),
+        ("with a notice", VIN + b"DROPCOUNT: dropped 1 CAN frame\n", None, True),
+        ("that begins with a notice", b"DROPCOUNT: dropped 1 CAN frame\n" + VIN, None, True),
+        ("longer than its limit", VIN, 40, True),
+        ("of no known kind", b"no log\n", None, False),
+        ("with a line that breaks off", lines[0][:-3] + b"\n" + VIN, None, False),
+    ]:
+        words = ["report", "--hints", *(["--limit", str(limit)] if limit else [])]
+        found = cases.run(words, log)
+        wrong = page_differences(found, report_oracle.reported(log, limit or oracle.GIBIBYTE), REFUSAL, found.error)
+        hints = [line for line in found.error.decode().splitlines() if line.startswith("hint: ")]
+        shown = re.findall(r"^<p><b>Cause:</b> (.*)\.</p>$", found.output.decode(), re.M)
+        wrong += differences("the cause", shown, [hint.removeprefix("hint: ").replace("standard input", "this log") for hint in hints])
+        cases.report(f"the cause of a log {name}", wrong + differences("causes", len(shown), 1 if is_known else 0))
+
+
 def refusal_faults(found, told, rows):
     """What is wrong with the page of a refused log with these kinds of rows."""
     page, reason = found.output.decode(), told.decode().removesuffix("\n")
@@ -390,7 +431,7 @@ def main():
     if len(sys.argv) < 2:
         sys.exit(__doc__)
     cases = Cases(os.path.abspath(sys.argv[1]), sys.argv[2:])
-    cases.each([pages, names, options, strict_runs, refused_logs, growing_page, devices, sizes, memory])
+    cases.each([pages, names, options, strict_runs, refused_logs, causes_of_refusals, growing_page, devices, sizes, memory])
     cases.end()
 
 

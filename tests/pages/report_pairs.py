@@ -114,6 +114,8 @@ REFUSALS = [
     ("both logs", TWO + b"x\n", b"x\n", None, b"left: " + place(3, 1)),
     ("an empty log beside a refused one", b"", b"(x\n", None, b"right: " + place(1, 2)),
     ("a log inside its last line", log_of(REQUEST) + b"(1.000000) can0 7E0#0", TWO, None, b"left: " + place(2, 22)),
+    ("a compressed left log", b"\x1f\x8b\x08\0", TWO, None, b"left: " + place(1, 1)),
+    ("a notice in the right log", TWO, TWO + b"DROPCOUNT: dropped 1 CAN frame\n", None, b"right: " + place(3, 1)),
     ("the left log by the limit", TWO + TWO, TWO, len(TWO), b"left: " + LONG_LOG),
     ("the right log by the limit", TWO, TWO + b"\n", len(TWO), b"right: " + LONG_LOG),
     ("both logs by the limit", TWO, TWO, 1, b"left: " + LONG_LOG),
@@ -224,6 +226,8 @@ def sample_pairs():
     extended = dict(logs)["extended-identifiers"]
     for other in (extended, b"", extended[: extended.rindex(b"(")]):
         yield f"29 bits and {len(other)} bytes", extended, other, {"sides": EXTENDED}
+    for one, other in itertools.product((VIN, TWO, TWO[: TWO.index(b"\n") + 1], b""), repeat=2):
+        yield f"exchanged sides, {len(one)} and {len(other)} bytes", one, other, {"sides": {TESTER: "7E8", UNIT: "7E0"}}
 
 
 def table_pairs():

@@ -56,7 +56,7 @@ fn page_in(writer: Writing<Vec<u8>>) -> Result<String, Fail> {
 fn page_of_two(alloc: Global, left: &str, right: &str) -> Result<String, Fail> {
     let (answer, _) = held(alloc, left.as_bytes(), right.as_bytes())?;
     let mut writer = Writing::new(Vec::new(alloc));
-    write_pair_page(&TITLE, &answer, &mut writer)?;
+    write_pair_page(&TITLE, &answer, None, &mut writer)?;
     page_in(writer)
 }
 
@@ -143,7 +143,7 @@ first: FramePlace { line: 5, micros: 4000 }, last: FramePlace { line: 5, micros:
 Unfinished { dir: Unit, line: 6, len: 10 }, \
 NoAnswer { number: 2, silent: false }], \
 summary: Summary { lines: 6, frames: 6, tester_frames: 2, unit_frames: 4, messages: 3, dropped: 1, ended: 1, unfinished: 1, \
-pending: 0, ends_in_line_feed: true }, span: Some(Span { first: 0, last: 5000 }) }";
+pending: 0, ends_in_line_feed: true, looks_exchanged: false }, span: Some(Span { first: 0, last: 5000 }) }";
 
 #[test]
 fn a_session_that_is_kept_is_printed(rt: HostRuntime) -> Result<(), Fail> {
@@ -230,12 +230,12 @@ fn two_sessions_whose_page_can_not_be_written(rt: HostRuntime) -> Result<(), Fai
     let page = page_of_two(alloc, LOG, CANONICAL)?;
     let (answer, _) = held(alloc, LOG.as_bytes(), CANONICAL.as_bytes())?;
     let mut writer = Writing::new(full(alloc));
-    let written = write_pair_page(&TITLE, &answer, &mut writer);
+    let written = write_pair_page(&TITLE, &answer, None, &mut writer);
     assert!(rt; written == Err(Fault::Write) && writer.failures() == 1);
     assert_front(&rt, writer.into_inner().inner.inner.as_slice(), &page, 50);
     let (answer, _) = held(alloc, failing(), LOG.as_bytes())?;
     let mut writer = Writing::new(Vec::new(alloc));
-    write_pair_page(&TITLE, &answer, &mut writer)?;
+    write_pair_page(&TITLE, &answer, None, &mut writer)?;
     assert!(rt; writer.into_inner().is_empty());
     Ok(())
 }

@@ -375,7 +375,7 @@ fn held(alloc: Global, session: Session) -> Result<Made, Fail> {
         let mut canonical = Reading::new(session.canonical);
         let answer = trace_report::keep_two(alloc, &config()?, &mut log, &mut canonical);
         let mut writer = Writing::new(Page::new());
-        trace_report::write_pair_page(&title, &answer, &mut writer)?;
+        trace_report::write_pair_page(&title, &answer, None, &mut writer)?;
         let page = writer.into_inner();
         match answer {
             Err(CompareFault::Left(Fault::Memory) | CompareFault::Right(Fault::Memory)) => {

@@ -106,7 +106,7 @@ pub(crate) fn run_pair_page(
         unit: config.unit(),
     };
     let kept = keep_two(alloc, config, &mut Bytes::new(left), &mut Bytes::new(right));
-    let _ = write_pair_page(&title, &kept, &mut writer);
+    let _ = write_pair_page(&title, &kept, None, &mut writer);
     match &kept {
         Ok(both) => {
             digest.count(Some(&both.left().summary()));

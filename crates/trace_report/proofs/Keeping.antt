@@ -1,8 +1,9 @@
 -- The rows of a session as they are kept, with one row more.
 use Rattle.std.proofs.Common.{◌≡◌, ℕ, ◌<◌, ◌^◌, ◌-◌, suc, zero, List, [], ◌∷◌, ◌++◌, length, get_or, Option, None, refl, ap, sym, subst, ◌∙◌, arith, append-nil}
 use Rattle.std.proofs.lemmas.List.{map-append, length-map}
-use Rattle.uds_exchange.specs.Blocks.{GoesOn, block_at}
-use Rattle.uds_exchange.proofs.Promises.{message_lies_still, message_stays}
+use Rattle.uds_exchange.specs.Blocks.{GoesOn, Holds, IsInside, block_at, bytes_at}
+use Rattle.uds_exchange.specs.declared.messages.Span.{Span}
+use Rattle.uds_exchange.proofs.Promises.{message_stays}
 use Rattle.trace_report.specs.Rows.{RowValue, message}
 use Rattle.trace_report.specs.Sorts.{counts_in, sort_of}
 use Rattle.trace_report.specs.declared.counts.SortCounts.{SortCounts}
@@ -30,15 +31,18 @@ pub goes-on-so : (blocks : List (List ℕ)) → GoesOn blocks blocks
 goes-on-so blocks = record { blocks = omega arith; bytes = λ number. ([], sym (append-nil (block_at blocks number))) }
 
 module _ (old new : List (List ℕ)) (on : GoesOn old new) where
+  lies-still : (span : Span) → IsInside old span → Holds new span (bytes_at old span)
+  lies-still span inside = message_stays old new on span (bytes_at old span) (record { inside = inside; bytes = refl })
+
   row-stays : (row : KeptRow) → IsLaid old row → row_at new row ≡ row_at old row
-  row-stays (kept.Message sent) laid = ap (message sent.role sent.dir sent.place) (message_stays old new on sent.bytes laid)
+  row-stays (kept.Message sent) laid = ap (message sent.role sent.dir sent.place) (lies-still sent.bytes laid).bytes
   row-stays (kept.NoAnswer number silent) laid = refl
   row-stays (kept.Dropped place d named why) laid = refl
   row-stays (kept.Ended place end) laid = refl
   row-stays (kept.Unfinished d line len) laid = refl
 
   laid-still : (row : KeptRow) → IsLaid old row → IsLaid new row
-  laid-still (kept.Message sent) laid = message_lies_still old new on sent.bytes laid
+  laid-still (kept.Message sent) laid = (lies-still sent.bytes laid).inside
   laid-still (kept.NoAnswer number silent) laid = tt
   laid-still (kept.Dropped place d named why) laid = tt
   laid-still (kept.Ended place end) laid = tt

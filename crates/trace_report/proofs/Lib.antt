@@ -24,3 +24,4 @@ mod RowTargets
 mod Identifiers
 pub mod Harmless
 mod PagesInMemory
+pub mod Signs

@@ -1,5 +1,5 @@
 -- What is known of calls over devices is known of pages in memory.
-use Rattle.std.proofs.Common.{◌≡◌, ◌≢◌, ℕ, List, [], ◌++◌, Result, Ok, Err, ap, sym, subst, ◌∙◌}
+use Rattle.std.proofs.Common.{◌≡◌, ◌≢◌, ℕ, List, [], ◌++◌, Result, Ok, Err, None, ap, sym, subst, ◌∙◌}
 use Rattle.std.specs.Prelude.{IfErr}
 use Rattle.trace_canon.specs.Compared.{fault_in}
 use Rattle.trace_canon.specs.declared.counted.CountedComparison.{CountedComparison}
@@ -36,7 +36,7 @@ text_in_memory {A = A} result value old taken held text is old_is held_is wrote 
 
 -- the page of two logs that are held
 pub page_of_held : (title : PairTitleValue) (limit : ℕ) (settings : Settings) (one other text : List ℕ) (answer : Result TwoValue CompareFault) (held : TwoValue) (counted : CountedComparison)
-    → answer ≡ Ok held → HoldsInMemory limit settings one other answer → text ≡ pair_page title answer → counted ≡ counted_held held
+    → answer ≡ Ok held → HoldsInMemory limit settings one other answer → text ≡ pair_page title answer None → counted ≡ counted_held held
     → IsPairPageWith title limit settings one other text counted
 page_of_held title limit settings one other text answer held counted is holds said counts =
-    (held, subst (HoldsInMemory limit settings one other) is holds, said ∙ ap (pair_page title) is, counts)
+    (held, subst (HoldsInMemory limit settings one other) is holds, said ∙ ap (λ (a : Result TwoValue CompareFault). pair_page title a None) is, counts)

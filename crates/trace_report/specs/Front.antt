@@ -28,16 +28,17 @@ name_byte b =
 abbrev pub name_text : List ℕ → List ℕ
 name_text name = flat_map name_byte name
 
--- What a page is made for: its style, the name of the log, and the identifiers.
+-- What a page is made for: its style, the name of the log, the identifiers, and the limit of the log.
 pub record PageTitle : Type 0 where
   pub style : List ℕ
   pub name : List ℕ
   pub tester : Id
   pub unit : Id
+  pub most : ℕ
 
 -- of a log with this name and this configuration
 abbrev pub page_title : List ℕ → List ℕ → Settings → PageTitle
-page_title style name settings = record { style = style; name = name; tester = settings.tester; unit = settings.unit }
+page_title style name settings = record { style = style; name = name; tester = settings.tester; unit = settings.unit; most = settings.max_bytes }
 
 -- nothing may be fetched and nothing may run
 abbrev pub page_start : List ℕ

@@ -7,6 +7,8 @@ pub mod Events
 pub mod Sorts
 pub mod Links
 pub mod Counts
+pub mod Looks
+pub mod Causes
 pub mod Verdict
 pub mod Help
 pub mod Page

@@ -1,12 +1,14 @@
 -- The verdict of a report: whether the recording is clean, what needs a look, and all counts. It is known at the end,
 -- and written there; the style shows it first.
 use Rattle.std.specs.Fmt.{decimal}
-use Rattle.std.specs.Prelude.{ℕ, ◌==◌, ◌&&◌, ◌||◌, not, nat_lt, Bool, List, [], ◌++◌, codes, if◌then◌else◌}
+use Rattle.std.specs.Prelude.{ℕ, ◌==◌, ◌&&◌, ◌||◌, not, nat_lt, Bool, List, [], ◌++◌, codes, Option, if◌then◌else◌}
 use Rattle.trace_canon.specs.MessageLines.{stamp_text}
+use Rattle.trace_report.specs.Causes.{cause_line}
 use Rattle.trace_report.specs.Counts.{counts_text}
 use Rattle.trace_report.specs.Links.{look_text}
 use Rattle.trace_report.specs.Words.{seconds_between}
 use Rattle.trace_log.specs.Summing.{is_clean}
+use Rattle.trace_report.specs.declared.cause.Cause.{Cause}
 use Rattle.trace_report.specs.declared.counts.SortCounts.{SortCounts}
 use Rattle.trace_report.specs.declared.tally.Tally.{Tally}
 use Rattle.trace_log.specs.declared.fault.Fault.{Fault}
@@ -155,13 +157,14 @@ refusal_words fault.Memory = []
 abbrev pub stop_line : Fault → List ℕ
 stop_line why = codes "<p class=\"stop\"><b>Refused here:</b> " ++ refusal_words why ++ codes ".</p>\n"
 
--- the heading, and its sentences
-abbrev pub refused_heading : Fault → List ℕ
-refused_heading why =
+-- the heading, its sentences, and the cause, where there is one
+abbrev pub refused_heading : Fault → Option Cause → List ℕ
+refused_heading why cause =
     codes "<section id=\"verdict\" class=\"bad\">\n<h2><span aria-hidden=\"true\">&#10005;</span> The log is refused</h2>\n<p><em>"
     ++ refusal_words why
     ++ codes ".</em> Below is what the lines before that say; what comes after it is not read, and the counts are of the lines before.</p>\n"
+    ++ cause_line cause
 
 -- the verdict of a log that is refused, by what the lines before say
-abbrev pub refused_verdict : Fault → Tally → Summary → ℕ → ℕ → List ℕ
-refused_verdict why tally summary first last = refused_heading why ++ findings_text tally summary first last
+abbrev pub refused_verdict : Fault → Option Cause → Tally → Summary → ℕ → ℕ → List ℕ
+refused_verdict why cause tally summary first last = refused_heading why cause ++ findings_text tally summary first last

@@ -4,13 +4,14 @@ use can_log::{Id, identifier_text};
 use text_parts::{Part, say};
 use trace_io::TextSink;
 
-/// What a page is made for: its style, the name of the log, and the identifiers.
+/// What a page is made for: its style, the name of the log, the identifiers, and the limit of the log.
 #[derive(Clone, Copy)]
 pub(crate) struct Title<'a> {
     pub style: &'a str,
     pub name: &'a [u8],
     pub tester: Id,
     pub unit: Id,
+    pub most: u64,
 }
 
 /// What stands before the rows of a report.

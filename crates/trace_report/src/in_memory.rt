@@ -1,5 +1,5 @@
 //! The pages of logs that lie in memory, gathered there. No device is asked.
-ghost use Rattle.std.specs.Prelude.{◌≡◌, Ok, IfOk, MatchResult};
+ghost use Rattle.std.specs.Prelude.{◌≡◌, Ok, None, IfOk, MatchResult};
 ghost use Rattle.isotp_receive.specs.declared.TheConstants.{MESSAGE_LIMIT};
 ghost use Rattle.trace_canon.specs.InMemory.{IsUnread};
 ghost use Rattle.trace_report.specs.Front.{page_title};
@@ -97,10 +97,10 @@ fn text_of(
     title: &PairTitle<'_>,
     answer: &Result<Two, CompareFault>,
 ) -> Result<Vec<u8>, Fault>
-    ensures { IfOk result (λ text. text.items ≡ Spec.pair_page (Spec.pair_title_of title.now) answer.now) }
+    ensures { IfOk result (λ text. text.items ≡ Spec.pair_page (Spec.pair_title_of title.now) answer.now None) }
 {
     let mut writer = Writing::new(Vec::new(alloc));
-    match write_pair_page(title, answer, &mut writer) {
+    match write_pair_page(title, answer, None, &mut writer) {
         Ok(()) => Ok(writer.into_inner()),
         Err(fault) => Err(fault),
     }

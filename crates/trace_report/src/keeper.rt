@@ -23,7 +23,7 @@ use isotp_receive::Pair;
 use std::alloc::{AllocError, Global};
 use trace_io::{Source, TextSink};
 use trace_log::{CompareFault, Config, Fault, Summary};
-use trace_run::{Machine, Nowhere, Seen, Stop, run};
+use trace_run::{Glimpse, Machine, Nowhere, Seen, Stop, run};
 
 /// Reads two logs, the first one whole before the second, and answers what both say. No announcement and no canonical
 /// log is too long for it.
@@ -173,12 +173,15 @@ pub(crate) struct Keeper {
 impl Machine for Keeper {
     ghost use Rattle.std.specs.Prelude.{⊤};
     ghost use Rattle.trace_report.specs.proving.Heard.{Keeps, answers_heard, quiet_script};
+    ghost use Rattle.trace_run.specs.Told.{tells_no_refusal};
 
     type Answer = Heard;
 
     ghost stands = { λ start T now. Keeps T now };
 
     ghost script = { λ start. quiet_script };
+
+    ghost refusal = { λ start. tells_no_refusal };
 
     ghost answers = { λ start. answers_heard };
 
@@ -211,5 +214,11 @@ impl Machine for Keeper {
         })
     }
 
-    fn refused<S: TextSink>(self, _summary: &Summary, _why: Fault, _out: &mut S) {}
+    fn refused<S: TextSink>(
+        self,
+        _summary: &Summary,
+        _why: Fault,
+        _source: Glimpse<'_>,
+        _out: &mut S,
+    ) {}
 }

@@ -12,8 +12,8 @@
 //! begin. It answers the rows of a frame (`row`). The `chart` says them, in `blocks` that fold, and keeps a `tally` for the verdict.
 //!
 //! The text of a page is in pieces: its `front`; the rows of messages (`message_rows`, `brief_rows`) and of what is
-//! missing (`lost_rows`), by `cells` and `words`; the `verdict`, with `reasons`, `links` and `counts`; and the `help`. The style
-//! is no part of what is proved.
+//! missing (`lost_rows`), by `cells` and `words`; the `verdict`, with `reasons`, `links` and `counts`; of a refused log
+//! the `refusal`, with its `cause`, by what it `looks` like; and the `help`. The style is no part of what is proved.
 //!
 //! Of two logs a page says first whether they are the same. So both are kept: [`keep_two`] keeps the rows of each
 //! (`keeper`), and [`write_pair_page`] writes the page of both.
@@ -32,6 +32,7 @@
 
 mod blocks;
 mod brief_rows;
+mod cause;
 mod cells;
 mod chart;
 mod contrast;
@@ -50,6 +51,7 @@ mod kept_rows;
 pub mod laws;
 mod links;
 mod log_names;
+mod looks;
 mod lost_rows;
 mod marks;
 mod message_rows;
@@ -70,7 +72,9 @@ mod two;
 mod verdict;
 mod words;
 
+pub use cause::{Cause, CauseRow, cause_of, row_of_cause};
 pub use keeper::keep_two;
+pub use looks::{Look, look_told};
 pub use pair_page::{PairTitle, write_pair_page};
 pub use reporter::report;
 pub use session::Session;

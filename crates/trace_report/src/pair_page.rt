@@ -8,6 +8,7 @@ ghost use Rattle.trace_report.specs.PairPage.{both_names, held_page, letter_mark
 ghost use Rattle.trace_report.specs.PairPage as Spec;
 ghost use Rattle.trace_report.specs.PairPage.{pair_title_of};
 
+use crate::cause::{Cause, CauseLine};
 use crate::contrast::{LogName, say_log_letter};
 use crate::front::{Identifiers, Notice, PageStart, Shapes};
 use crate::help::PairHelp;
@@ -33,20 +34,27 @@ pub struct PairTitle<'a> {
     pub unit: Id,
 }
 
-/// Writes the page of what is answered of two logs. Nothing is written where a device failed or memory was refused.
+/// Writes the page of what is answered of two logs, where this is the cause of a refusal. Nothing is written where a
+/// device failed or memory was refused.
 ///
 /// The target is not flushed.
 pub fn write_pair_page<W: Target>(
     title: &PairTitle<'_>,
     answer: &Result<Two, CompareFault>,
+    cause: Option<Cause>,
     target: &mut W,
 ) -> Result<(), Fault>
     requires { IsLowCount (W.failures target.old) }
 
     // Its text was written, or a front of it where writing failed; and what that did with the target.
-    ensures printed { Prints W.Target (pair_page (pair_title_of title.now) answer.now) target.old result target.new }
+    ensures printed { Prints W.Target (pair_page (pair_title_of title.now) answer.now cause) target.old result target.new }
 {
-    print(&PairPage { title, answer }, target)
+    let page = PairPage {
+        title,
+        answer,
+        cause,
+    };
+    print(&page, target)
 }
 
 /// A page of two logs.
@@ -54,19 +62,32 @@ pub fn write_pair_page<W: Target>(
 struct PairPage<'a> {
     title: &'a PairTitle<'a>,
     answer: &'a Result<Two, CompareFault>,
+    cause: Option<Cause>,
 }
 
 impl<'a> Printable for PairPage<'a> {
     ghost use Rattle.trace_report.specs.PairPage.{pair_page};
     ghost use Rattle.trace_report.specs.PairPage.{pair_title_of};
 
-    ghost text = { λ t. pair_page (pair_title_of t.title.now) t.answer.now };
+    ghost text = { λ t. pair_page (pair_title_of t.title.now) t.answer.now t.cause };
 
     fn say<S: TextSink>(&self, out: &mut S) {
         match self.answer {
             Ok(two) => say_held_page(self.title, two, out),
-            Err(CompareFault::Left(why)) => say_unread_page(self.title, LogName::A, *why, out),
-            Err(CompareFault::Right(why)) => say_unread_page(self.title, LogName::B, *why, out),
+            Err(CompareFault::Left(why)) => say_unread_page(
+                self.title,
+                LogName::A,
+                *why,
+                self.cause,
+                out,
+            ),
+            Err(CompareFault::Right(why)) => say_unread_page(
+                self.title,
+                LogName::B,
+                *why,
+                self.cause,
+                out,
+            ),
         }
     }
 }
@@ -156,11 +177,17 @@ fn say_letter_mark<S: TextSink>(log: LogName, out: &mut S)
 }
 
 /// Says the page where a log can't be read, if that has one.
-fn say_unread_page<S: TextSink>(title: &PairTitle<'_>, log: LogName, why: Fault, out: &mut S)
-    ensures { S.says out.old (unread_page (pair_title_of title.now) log why) out.new }
+fn say_unread_page<S: TextSink>(
+    title: &PairTitle<'_>,
+    log: LogName,
+    why: Fault,
+    cause: Option<Cause>,
+    out: &mut S,
+)
+    ensures { S.says out.old (unread_page (pair_title_of title.now) log why cause) out.new }
 {
     if has_page(why) {
-        say_refused_pair(title, log, why, out);
+        say_refused_pair(title, log, why, cause, out);
     }
 }
 
@@ -176,8 +203,14 @@ fn has_page(why: Fault) -> bool
 }
 
 /// Says the page where a log is refused.
-fn say_refused_pair<S: TextSink>(title: &PairTitle<'_>, log: LogName, why: Fault, out: &mut S)
-    ensures { S.says out.old (refused_pair (pair_title_of title.now) log why) out.new }
+fn say_refused_pair<S: TextSink>(
+    title: &PairTitle<'_>,
+    log: LogName,
+    why: Fault,
+    cause: Option<Cause>,
+    out: &mut S,
+)
+    ensures { S.says out.old (refused_pair (pair_title_of title.now) log why cause) out.new }
 {
     say_pair_front(title, out);
     say_text(
@@ -186,10 +219,14 @@ fn say_refused_pair<S: TextSink>(title: &PairTitle<'_>, log: LogName, why: Fault
     );
     say_log_letter(log, out);
     say_text(out, " is refused, so nothing is compared</h2>\n<p><em>");
-    say(out, Refusal(why));
-    say_text(
+    say(
         out,
-        ".</em> A report of this log alone shows the lines before that.</p>\n</section>\n<main id=\"session\">\n<h2>Items</h2>\n<p>Nothing is compared.</p>\n</main>\n",
+        (
+            Refusal(why),
+            ".</em> A report of this log alone shows the lines before that.</p>\n",
+            CauseLine(cause),
+            "</section>\n<main id=\"session\">\n<h2>Items</h2>\n<p>Nothing is compared.</p>\n</main>\n",
+            PairHelp,
+        ),
     );
-    say(out, PairHelp);
 }

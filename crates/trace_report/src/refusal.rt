@@ -1,4 +1,5 @@
 //! Why a log is refused.
+use crate::cause::{Cause, CauseLine};
 use text_parts::{Part, say};
 use trace_io::TextSink;
 use trace_log::Fault;
@@ -25,14 +26,14 @@ impl Part for StopLine {
     }
 }
 
-/// The heading of a log that is refused, and its sentences.
+/// The heading of a log that is refused, its sentences, and the cause, if one is known.
 #[derive(Clone, Copy)]
-pub(crate) struct RefusedHeading(pub Fault);
+pub(crate) struct RefusedHeading(pub Fault, pub Option<Cause>);
 
 impl Part for RefusedHeading {
     ghost use Rattle.trace_report.specs.Verdict.{refused_heading};
 
-    ghost text = { λ heading. refused_heading heading.0 };
+    ghost text = { λ heading. refused_heading heading.0 heading.1 };
 
     fn say<S: TextSink>(self, out: &mut S) {
         say(
@@ -41,6 +42,7 @@ impl Part for RefusedHeading {
                 "<section id=\"verdict\" class=\"bad\">\n<h2><span aria-hidden=\"true\">&#10005;</span> The log is refused</h2>\n<p><em>",
                 Refusal(self.0),
                 ".</em> Below is what the lines before that say; what comes after it is not read, and the counts are of the lines before.</p>\n",
+                CauseLine(self.1),
             ),
         );
     }

@@ -2,7 +2,7 @@
 ghost use Rattle.std.specs.Prelude.{◌≡◌, List, [], ◌∷◌, ◌++◌, Option};
 ghost use Rattle.isotp_receive.specs.declared.TheConstants.{MESSAGE_LIMIT};
 ghost use Rattle.isotp_receive.specs.Trace.{Entry};
-ghost use Rattle.trace_run.specs.Told.{RanLenient, answers_counts, needs_none};
+ghost use Rattle.trace_run.specs.Told.{RanLenient, answers_counts, glimpse_of, needs_none};
 ghost use Rattle.trace_io.specs.Counted.{IsLowCount};
 ghost use Rattle.trace_report.specs.Front.{page_title};
 ghost use Rattle.trace_report.specs.Page.{first_time, front_before, last_time, report_script};
@@ -11,6 +11,7 @@ ghost use Rattle.trace_report.specs.proving.Pages.{title_of};
 ghost use Rattle.trace_log.specs.Devices.{HasLowCounts};
 
 use crate::blocks::BlockEnd;
+use crate::cause::{Cause, cause_of};
 use crate::chart::Chart;
 use crate::follower::Follower;
 use crate::front::{Front, Title};
@@ -22,7 +23,7 @@ use std::alloc::{AllocError, Global};
 use text_parts::{Part, say};
 use trace_io::{Source, Target, TextSink};
 use trace_log::{Config, Fault, Summary};
-use trace_run::{Machine, Seen, Stop, run_lenient};
+use trace_run::{Glimpse, Machine, Seen, Stop, run_lenient};
 
 /// Reads a log and writes its session as a page of HTML, with this style and the name of the log: each row as its frame comes, and
 /// at the end the verdict, which the style shows first.
@@ -40,7 +41,7 @@ pub fn report<R: Source, W: Target>(
     requires writer { IsLowCount (W.failures writer.old) }
 
     // What is answered and written; that it is written before more is read; and what was done with the devices.
-    ensures ran { RanLenient R.Source W.Target (report_script (page_title style.now name.now config.now) MESSAGE_LIMIT) answers_counts needs_none MESSAGE_LIMIT config.now reader.old writer.old result reader.new writer.new }
+    ensures ran { RanLenient R.Source W.Target (report_script (page_title style.now name.now config.now) MESSAGE_LIMIT (glimpse_of R.Source reader.new)) answers_counts needs_none MESSAGE_LIMIT config.now reader.old writer.old result reader.new writer.new }
 {
     let machine = Reporter {
         title: Title {
@@ -48,6 +49,7 @@ pub fn report<R: Source, W: Target>(
             name,
             tester: config.tester(),
             unit: config.unit(),
+            most: config.max_bytes(),
         },
         span: None,
         follower: Follower::start(),
@@ -76,7 +78,7 @@ pub(crate) struct Reporter<'a> {
 impl<'a> Machine for Reporter<'a> {
     ghost use Rattle.isotp_receive.specs.declared.TheConstants.{MESSAGE_LIMIT};
     ghost use Rattle.trace_run.specs.Told.{answers_counts};
-    ghost use Rattle.trace_report.specs.Page.{report_script};
+    ghost use Rattle.trace_report.specs.Page.{nothing_seen, refused_text, report_script};
     ghost use Rattle.trace_report.specs.proving.Following.{Reports};
     ghost use Rattle.trace_report.specs.proving.Pages.{title_of};
 
@@ -84,7 +86,9 @@ impl<'a> Machine for Reporter<'a> {
 
     ghost stands = { λ start T now. Reports (title_of start.title) T now };
 
-    ghost script = { λ start. report_script (title_of start.title) MESSAGE_LIMIT };
+    ghost script = { λ start. report_script (title_of start.title) MESSAGE_LIMIT nothing_seen };
+
+    ghost refusal = { λ start. refused_text (title_of start.title) MESSAGE_LIMIT };
 
     ghost answers = { λ start. answers_counts };
 
@@ -125,7 +129,7 @@ impl<'a> Machine for Reporter<'a> {
         Ok(*summary)
     }
 
-    fn refused<S: TextSink>(self, summary: &Summary, why: Fault, out: &mut S) {
+    fn refused<S: TextSink>(self, summary: &Summary, why: Fault, source: Glimpse<'_>, out: &mut S) {
         let Reporter {
             title,
             span,
@@ -133,7 +137,11 @@ impl<'a> Machine for Reporter<'a> {
             chart,
         } = self;
         let origin = say_front_before(&title, span, 0, out);
-        say(out, RefusedEnd(why, &chart, summary, origin, last_of(span)));
+        let cause = cause_of(why, title.most, source);
+        say(
+            out,
+            RefusedEnd(why, cause, &chart, summary, origin, last_of(span)),
+        );
     }
 }
 
@@ -192,22 +200,22 @@ impl<'a> Part for PageEnd<'a> {
 
 /// The same of the page of a log that is refused.
 #[derive(Clone, Copy)]
-struct RefusedEnd<'a>(Fault, &'a Chart, &'a Summary, u64, u64);
+struct RefusedEnd<'a>(Fault, Option<Cause>, &'a Chart, &'a Summary, u64, u64);
 
 impl<'a> Part for RefusedEnd<'a> {
     ghost use Rattle.trace_report.specs.Page.{refused_end};
 
-    ghost text = { λ end. refused_end end.0 end.1.now.blocks end.1.now.tally end.2.now end.3 end.4 };
+    ghost text = { λ end. refused_end end.0 end.1 end.2.now.blocks end.2.now.tally end.3.now end.4 end.5 };
 
     fn say<S: TextSink>(self, out: &mut S) {
-        let RefusedEnd(why, chart, summary, first, last) = self;
+        let RefusedEnd(why, cause, chart, summary, first, last) = self;
         say(
             out,
             (
                 BlockEnd(chart.blocks.count),
                 StopLine(why),
                 "</main>\n",
-                RefusedVerdict(why, &chart.tally, summary, first, last),
+                RefusedVerdict(why, cause, &chart.tally, summary, first, last),
                 Help,
             ),
         );

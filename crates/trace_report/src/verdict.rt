@@ -4,6 +4,7 @@ ghost use Rattle.std.specs.Prelude.{◌≡◌};
 ghost use Rattle.trace_report.specs.Links as Links;
 ghost use Rattle.trace_report.specs.Verdict as Spec;
 
+use crate::cause::Cause;
 use crate::counts::{AnswersOf, Counts, SortCounts};
 use crate::links::{Link, LookLine};
 use crate::reasons::UncleanReasons;
@@ -37,20 +38,30 @@ impl<'a> Part for Verdict<'a> {
     }
 }
 
-/// The verdict of a log that is refused, by what the lines before say.
+/// The verdict of a log that is refused, with the cause, if one is known, by what the lines before say.
 #[derive(Clone, Copy)]
-pub(crate) struct RefusedVerdict<'a>(pub Fault, pub &'a Tally, pub &'a Summary, pub u64, pub u64);
+pub(crate) struct RefusedVerdict<'a>(
+    pub Fault,
+    pub Option<Cause>,
+    pub &'a Tally,
+    pub &'a Summary,
+    pub u64,
+    pub u64,
+);
 
 impl<'a> Part for RefusedVerdict<'a> {
     ghost use Rattle.trace_report.specs.Verdict.{refused_verdict};
 
-    ghost text = { λ verdict. refused_verdict verdict.0 verdict.1.now verdict.2.now verdict.3 verdict.4 };
+    ghost text = { λ verdict. refused_verdict verdict.0 verdict.1 verdict.2.now verdict.3.now verdict.4 verdict.5 };
 
     fn say<S: TextSink>(self, out: &mut S) {
-        let RefusedVerdict(why, tally, summary, first, last) = self;
+        let RefusedVerdict(why, cause, tally, summary, first, last) = self;
         say(
             out,
-            (RefusedHeading(why), Findings(tally, summary, first, last)),
+            (
+                RefusedHeading(why, cause),
+                Findings(tally, summary, first, last),
+            ),
         );
     }
 }

@@ -9,10 +9,10 @@ ghost use Rattle.isotp_receive.specs.StandingReception.{receptions_after};
 ghost use Rattle.isotp_receive.specs.Trace.{Entry};
 ghost use Rattle.isotp_receive.specs.Verdict.{told_message};
 ghost use Rattle.uds_exchange.specs.Judging.{HasJudged, IsJudgeOf, IsJudgedOf};
-ghost use Rattle.trace_run.specs.Seen.{IsSeen};
+ghost use Rattle.trace_run.specs.Seen.{IsSeen, glimpse_value};
 ghost use Rattle.trace_run.specs.proving.Carrying.{SaysToPage, stops_for};
 
-use crate::machine::{Machine, Seen, Stop};
+use crate::machine::{Glimpse, Machine, Seen, Stop};
 use crate::page::{Drain, Page, settle};
 use direction::Dir;
 use isotp_receive::{Event, Pair, Reason, Verdict};
@@ -207,10 +207,11 @@ pub(crate) fn tell_refusal<M: Machine, W: Target>(
     page: &mut Page,
     summary: &Summary,
     why: Fault,
+    source: Glimpse<'_>,
 )
     ensures says { (start : M) (T : List Entry) → M.stands start T machine
-        → SaysToPage W.Target page.old target.old ((M.script start).refused T summary.now why) page.new target.new }
+        → SaysToPage W.Target page.old target.old (M.refusal start T summary.now why (glimpse_value source.entry)) page.new target.new }
 {
     let mut out = Drain { target, page };
-    machine.refused(summary, why, &mut out);
+    machine.refused(summary, why, source, &mut out);
 }

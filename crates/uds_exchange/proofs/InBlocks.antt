@@ -107,3 +107,6 @@ module _ (old new : List (List ℕ)) (on : GoesOn old new) where
       let block = block_at old span.block in
       rw (more.1, drop-append-le span.start block more.0 (omega (arith, inside.end)))
       (take-append-le span.len (drop span.start block) more.0 (omega (arith, inside.end, length-drop span.start block)))
+
+  pub holds-on : (span : Span) (message : List ℕ) → Holds old span message → Holds new span message
+  holds-on span message lies = record { inside = inside-on span lies.inside; bytes = bytes_at-on span lies.inside ∙ lies.bytes }

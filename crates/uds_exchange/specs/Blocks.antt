@@ -25,6 +25,11 @@ pub record GoesOn (old new : List (List ℕ)) : Type 0 where
   pub blocks : length old ≤ length new
   pub bytes : (number : ℕ) → (more : List ℕ) × (block_at new number ≡ block_at old number ++ more)
 
+-- so what lies in a block lies there still, whatever was laid since
+abbrev pub MessageStays : Type 0
+MessageStays = (old new : List (List ℕ)) → GoesOn old new → (span : Span) (message : List ℕ)
+    → Holds old span message → Holds new span message
+
 -- this message was laid there, and what lay in the blocks stays
 pub record Lays (old : List (List ℕ)) (span : Span) (message : List ℕ) (new : List (List ℕ)) : Type 0 where
   pub goes_on : GoesOn old new

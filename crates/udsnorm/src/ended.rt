@@ -2,19 +2,20 @@
 
 ghost use Rattle.std.specs.Prelude.{◌≡◌, ◌⊎◌, option_map};
 ghost use Rattle.udsnorm.specs.Hints.{name_in};
-ghost use Rattle.udsnorm.specs.Known.{IsKnownBy, IsKnownByFault, IsKnownByTwo, known_by_counts, known_of_done, known_of_pair, knows, knows_dropped, knows_dropped_for, knows_limit, knows_no_pair, knows_refused, knows_unopened};
+ghost use Rattle.udsnorm.specs.Known.{IsKnownBy, IsKnownByFault, IsKnownByTwo, known_by_counts, known_of_done, known_of_pair, knows, knows_dropped, knows_dropped_for, knows_no_pair, knows_refused, knows_unopened};
 ghost use Rattle.udsnorm.specs.declared.ended.Matter.TheVariants as matter;
 
 use crate::commands::Job;
 use crate::job::{Plan, WordsFault};
-use crate::looks::{Look, lacks_stamp, look_of};
 use crate::noticing::Noticing;
 use crate::opening::OpenFault;
 use crate::pair_jobs::PairAnswer;
 use can_log::Id;
 use std::fs::OpenFile;
 use trace_io::Target;
-use trace_log::{CompareFault, Config, Fault, LARGEST_LIMIT, Summary};
+use trace_log::{CompareFault, Config, Fault, Summary};
+use trace_report::{Cause, cause_of};
+use trace_run::Glimpse;
 
 /// What the words asked for, and how that ended.
 #[derive(Drop)]
@@ -79,8 +80,8 @@ pub enum Matter {
     Unopened,
     /// Reading it failed.
     Unread,
-    /// It, or its canonical log, is longer than this limit, and a larger one can be given.
-    Limit(u64),
+    /// It is refused, and this is why.
+    Refused(Cause),
     /// No identifier in it answers another one.
     NoPair,
     /// It has no bytes.
@@ -89,12 +90,6 @@ pub enum Matter {
     Foreign { tester: Id, unit: Id },
     /// Tester and unit look exchanged in it, where these are their identifiers.
     Exchanged { tester: Id, unit: Id },
-    /// It is no log, and looks like something else.
-    Looks(Look),
-    /// It is a log up to its end, where the last line breaks off.
-    Cut,
-    /// This line begins with no stamp, as a notice of dropped frames does.
-    NoStamp(u64),
     /// So many of its frames were dropped.
     Dropped(u64),
 }
@@ -280,8 +275,9 @@ fn known_of<R>(which: Which, config: &Config, fault: Fault, log: &Noticing<R>) -
     ensures { IsKnownByFault which config.now log.now.given log.now.is_over fault result }
 {
     match fault {
-        Fault::BadLine { line, column } => known_of_place(which, line, column, log),
-        Fault::LogLimit | Fault::OutputLimit => known_of_limit(which, config.max_bytes()),
+        Fault::BadLine { .. } | Fault::LogLimit | Fault::OutputLimit => {
+            known_of_refused(which, config, fault, log)
+        }
         Fault::Read => Some(Known {
             which,
             matter: Matter::Unread,
@@ -290,43 +286,25 @@ fn known_of<R>(which: Which, config: &Config, fault: Fault, log: &Noticing<R>) -
     }
 }
 
-/// What is known of a log that is refused at this place. Nothing is read behind a refused byte: so where all of the log
-/// was, the place is behind its last one.
-fn known_of_place<R>(which: Which, line: u64, column: u32, log: &Noticing<R>) -> Option<Known>
-    ensures { result ≡ knows_refused which log.now.given log.now.is_over line column }
+/// What is known of a log that is refused: the cause.
+fn known_of_refused<R>(
+    which: Which,
+    config: &Config,
+    fault: Fault,
+    log: &Noticing<R>,
+) -> Option<Known>
+    ensures { result ≡ knows_refused which config.now log.now.given log.now.is_over fault }
 {
-    if log.has_ended() {
-        return Some(Known {
+    let seen = Glimpse {
+        first: log.first(),
+        is_over: log.has_ended(),
+    };
+    match cause_of(fault, config.max_bytes(), seen) {
+        Some(cause) => Some(Known {
             which,
-            matter: Matter::Cut,
-        });
-    }
-    if lacks_stamp(log.first(), line, column) {
-        return Some(Known {
-            which,
-            matter: Matter::NoStamp(line),
-        });
-    }
-    match look_of(log.first(), line, column) {
-        Some(look) => Some(Known {
-            which,
-            matter: Matter::Looks(look),
+            matter: Matter::Refused(cause),
         }),
         None => None,
-    }
-}
-
-/// What is known of a log that passes this limit: that, where a larger one can be given.
-fn known_of_limit(which: Which, most: u64) -> Option<Known>
-    ensures { result ≡ knows_limit which most }
-{
-    if most < LARGEST_LIMIT {
-        Some(Known {
-            which,
-            matter: Matter::Limit(most),
-        })
-    } else {
-        None
     }
 }
 

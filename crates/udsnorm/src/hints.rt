@@ -4,14 +4,14 @@ ghost use Rattle.std.specs.Prelude.{◌≡◌, ◌<◌, ◌++◌, IfOk, OnOk, If
 ghost use Rattle.std.specs.List.{flat_map, list_all};
 ghost use Rattle.can_log.specs.Digits.{digit};
 ghost use Rattle.trace_io.specs.Counted.{IsLowCount};
-ghost use Rattle.udsnorm.specs.Hints.{GaveHint, IsHint, ToldAwaited, asks_for_hints, awaited_line, hint_line, hint_of_plan, look_line, missing_words};
-ghost use Rattle.udsnorm.specs.Names.{before_name, behind_command, is_plain, is_plain_name, is_printable, quoted, quoted_byte};
+ghost use Rattle.udsnorm.specs.Hints.{GaveHint, IsHint, ToldAwaited, asks_for_hints, awaited_line, hint_line, hint_of_plan, missing_words};
+ghost use Rattle.trace_report.specs.Causes.{named_text, number_text, row_text, row_value};
+ghost use Rattle.udsnorm.specs.Names.{before_name, behind_command, is_plain, is_plain_name, is_printable, named, quoted, quoted_byte};
 ghost use Rattle.udsnorm.specs.proving.Pieces.{piece_text, pieces_text};
 
 use crate::advice::advice_for;
 use crate::ended::{Known, Matter, Run, name_of};
 use crate::job::{Plan, WordsFault};
-use crate::looks::{Look, row_of};
 use crate::tell::tell_text;
 use crate::words::plan;
 use can_log::{Id, identifier_text};
@@ -19,14 +19,11 @@ use itoa::Buffer;
 use std::alloc::{AllocError, Global};
 use std::rt::Files;
 use trace_io::Target;
+use trace_report::{Cause, CauseRow, row_of_cause};
 
 /// What is said of a log in which `find` finds no pair, behind its name.
 const NO_PAIR: &str =
     " answers another identifier; find needs the frames of both sides, and looks at each identifier up to 1FFFFFFF\n";
-
-/// What is said of a line that begins with no stamp, behind the log's name.
-const NO_STAMP: &str =
-    " begins with no stamp; if it is a notice of candump -d, grep -v ^DROPCOUNT leaves it out\n";
 
 /// A piece of a hint.
 #[derive(Clone, Copy)]
@@ -164,14 +161,6 @@ fn hint_line(alloc: Global, matter: Matter, log: Option<&str>) -> Result<Vec<u8>
                 Piece::Words(" failed\n"),
             ],
         ),
-        Matter::Limit(limit) => line_of(
-            alloc,
-            &[
-                Piece::Words("hint: the limit is "),
-                Piece::Number(limit),
-                Piece::Words(" bytes; --limit sets it, up to 1099511627776\n"),
-            ],
-        ),
         Matter::NoPair => line_of(
             alloc,
             &[
@@ -211,25 +200,7 @@ fn hint_line(alloc: Global, matter: Matter, log: Option<&str>) -> Result<Vec<u8>
             alloc,
             &[Piece::Words("hint: "), log, Piece::Words(" is empty\n")],
         ),
-        Matter::Looks(look) => look_line(alloc, look, name),
-        Matter::Cut => line_of(
-            alloc,
-            &[
-                Piece::Words("hint: the last line of "),
-                log,
-                Piece::Words(" looks cut; sed '$d' leaves it out, and a frame is missing\n"),
-            ],
-        ),
-        Matter::NoStamp(line) => line_of(
-            alloc,
-            &[
-                Piece::Words("hint: line "),
-                Piece::Number(line),
-                Piece::Words(" of "),
-                log,
-                Piece::Words(NO_STAMP),
-            ],
-        ),
+        Matter::Refused(cause) => cause_line(alloc, cause, name),
         Matter::Dropped(count) => line_of(
             alloc,
             &[
@@ -243,23 +214,48 @@ fn hint_line(alloc: Global, matter: Matter, log: Option<&str>) -> Result<Vec<u8>
     }
 }
 
-/// The line about a log that looks so.
-fn look_line(alloc: Global, look: Look, log: Option<&str>) -> Result<Vec<u8>, AllocError>
-    ensures { IfOk result (λ line. line.items ≡ look_line look (option_map (λ t. t.now) log.entry)) }
+/// The line about a log that is refused.
+fn cause_line(alloc: Global, cause: Cause, log: Option<&str>) -> Result<Vec<u8>, AllocError>
+    ensures { IfOk result (λ line. line.items ≡ hint_line (Matter.Refused cause) (option_map (λ t. t.now) log.entry)) }
 {
-    let row = row_of(look);
-    line_of(
-        alloc,
-        &[
-            Piece::Words("hint: "),
-            Piece::Log(log),
-            Piece::Words(" "),
-            Piece::Words(row.words),
-            Piece::Words("; "),
-            Piece::Words(row.command),
-            Piece::Words("\n"),
-        ],
-    )
+    let mut line = line_of(alloc, &[Piece::Words("hint: ")])?;
+    push_row(&mut line, &row_of_cause(cause), log)?;
+    push_piece(&mut line, Piece::Words("\n"))?;
+    Ok(line)
+}
+
+/// Puts at the end of the line what a row of the table of causes says of a log.
+fn push_row(line: &mut Vec<u8>, row: &CauseRow, log: Option<&str>) -> Result<(), AllocError>
+    ensures { OnOk result (line.new.items ≡ line.old.items ++ row_text (row_value row.now) (named (option_map (λ t. t.now) log.entry))) }
+{
+    push_piece(line, Piece::Words(row.before))?;
+    push_piece(line, number_piece(row.number))?;
+    push_piece(line, Piece::Words(row.between))?;
+    push_name(line, row.is_named, log)?;
+    push_piece(line, Piece::Words(row.words))?;
+    push_piece(line, Piece::Words("; "))?;
+    push_piece(line, Piece::Words(row.command))
+}
+
+/// Puts there the name of a log before what is said of it, where it is said.
+fn push_name(line: &mut Vec<u8>, is_named: bool, log: Option<&str>) -> Result<(), AllocError>
+    ensures { OnOk result (line.new.items ≡ line.old.items ++ named_text is_named (named (option_map (λ t. t.now) log.entry))) }
+{
+    if !is_named {
+        return Ok(());
+    }
+    push_piece(line, Piece::Log(log))?;
+    push_piece(line, Piece::Words(" "))
+}
+
+/// A number, where there is one.
+fn number_piece(number: Option<u64>) -> Piece<'static>
+    ensures { piece_text result ≡ number_text number }
+{
+    match number {
+        Some(number) => Piece::Number(number),
+        None => Piece::Words(""),
+    }
 }
 
 /// What is said of a file that is not there, behind its name. A dash is meant for standard input.

@@ -35,7 +35,6 @@ mod fault_lines;
 mod hints;
 mod identifiers;
 mod job;
-mod looks;
 mod noticing;
 mod opening;
 mod pair_jobs;

@@ -74,6 +74,11 @@ impl<R: Read> Source for Noticing<R> {
 
     ghost remaining = { λ n. R.remaining n.inner };
 
+    ghost use Rattle.std.specs.Prelude.{take};
+    ghost use Rattle.udsnorm.specs.declared.noticing.TheConstants.{KEPT};
+
+    ghost first = { λ n. take KEPT n.given };
+
     ghost reads = { λ n. n.reads };
 
     ghost failures = { λ n. n.failures };
@@ -90,6 +95,14 @@ impl<R: Read> Source for Noticing<R> {
                 Err(fault)
             }
         }
+    }
+
+    fn first(&self) -> &[u8] {
+        self.first.as_slice()
+    }
+
+    fn has_ended(&self) -> bool {
+        self.is_over
     }
 
     fn reads(&self) -> u64 {

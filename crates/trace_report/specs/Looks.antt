@@ -2,9 +2,9 @@
 use Prim.Native.Char.{code}
 use Rattle.std.specs.Prelude.{ℕ, ◌-◌, ◌==◌, ◌&&◌, ◌||◌, not, nat_le, nat_lt, Bool, List, [], ◌∷◌, ◌++◌, codes, length, slice_index, Option, Some, None, map, if◌then◌else◌}
 use Rattle.std.specs.List.{find, flat_map, list_any, starts_with}
-use Rattle.udsnorm.specs.declared.looks.Look.{Look}
-use Rattle.udsnorm.specs.declared.looks.Look.TheVariants as look
-use Rattle.udsnorm.specs.declared.looks.TheConstants.{TOLD}
+use Rattle.trace_report.specs.declared.looks.Look.{Look}
+use Rattle.trace_report.specs.declared.looks.Look.TheVariants as look
+use Rattle.trace_report.specs.declared.looks.TheConstants.{TOLD}
 
 -- the bytes begin with these
 abbrev pub begins : List ℕ → List ℕ → Bool

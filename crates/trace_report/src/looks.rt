@@ -2,7 +2,7 @@
 
 ghost use Rattle.std.specs.Prelude.{◌≡◌, ◌++◌, ℕ, List, Some, map};
 ghost use Rattle.std.specs.List.{list_any};
-ghost use Rattle.udsnorm.specs.Looks.{begins, has_at, has_more_decimals, is_dated, is_table, is_told, lacks_stamp, look_of, look_told, row_of, signs, text_look};
+ghost use Rattle.trace_report.specs.Looks.{begins, has_at, has_more_decimals, is_dated, is_table, is_told, lacks_stamp, look_of, look_told, row_of, signs, text_look};
 
 /// What a log looks like that is refused in its first line, or by the bytes that it begins with.
 #[derive(Clone, Copy)]
