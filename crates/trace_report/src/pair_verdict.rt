@@ -187,17 +187,6 @@ fn say_state_start<S: TextSink>(summary: &Summary, out: &mut S)
     );
 }
 
-/// Says that the sides of a recording look exchanged, or that it is else not clean.
-fn say_state_start<S: TextSink>(exchanged: bool, out: &mut S)
-    ensures { S.says out.old (state_start exchanged) out.new }
-{
-    if exchanged {
-        say_text(out, "<b>Tester and unit look exchanged:</b> ");
-    } else {
-        say_text(out, "<b>The recording is not clean:</b> ");
-    }
-}
-
 /// Says the counts of a session.
 fn say_counts_of<S: TextSink>(session: &Session, out: &mut S)
     ensures { S.says out.old (counts_text (counts_in session.now.rows) session.now.summary) out.new }
