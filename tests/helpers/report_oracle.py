@@ -479,8 +479,8 @@ def state_words(is_unclean, is_exchanged):
 
 
 EXCHANGED_MEANS = (
-    "No message is a request, but the tester sent responses, and the unit what is none: "
-    "see <code>--tester</code> and <code>--unit</code>."
+    "No message is a request: the tester sent responses, and the unit messages that are none. "
+    "See <code>--tester</code> and <code>--unit</code>."
 )
 
 

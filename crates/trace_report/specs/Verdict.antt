@@ -90,7 +90,7 @@ empty_words has_no_line =
 abbrev pub exchanged_words : Summary → List ℕ
 exchanged_words summary =
     clause (not (is_clean summary)) (codes " ")
-    ++ codes "No message is a request, but the tester sent responses, and the unit what is none: see <code>--tester</code> and <code>--unit</code>."
+    ++ codes "No message is a request: the tester sent responses, and the unit messages that are none. See <code>--tester</code> and <code>--unit</code>."
 
 -- what that means for the messages below
 abbrev pub meaning_words : Summary → List ℕ

@@ -20,8 +20,8 @@ use trace_io::TextSink;
 use trace_log::Summary;
 use trace_text::say::{say_number, say_place, say_text};
 
-/// Says whether two sessions with items of so many numbers are the same, if they have items. In one of them tester and unit
-/// look exchanged, or in none.
+/// Says whether two sessions with items of so many numbers are the same, if they have items, by whether tester and unit
+/// look exchanged in one of them.
 pub(crate) fn say_pair_verdict<S: TextSink>(
     exchanged: bool,
     count: usize,
