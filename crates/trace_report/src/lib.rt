@@ -73,7 +73,7 @@ mod two;
 mod verdict;
 mod words;
 
-pub use cause::{Cause, CauseRow, cause_of, row_of_cause};
+pub use cause::{Cause, CauseOf, CauseRow, cause_of, row_of_cause};
 pub use keeper::keep_two;
 pub use looks::{Look, look_told};
 pub use pair_page::{PairTitle, write_pair_page};
