@@ -141,11 +141,7 @@ impl Part for CauseLine {
         match self.0 {
             Some(cause) => say(
                 out,
-                (
-                    "<p><b>Cause:</b> ",
-                    CauseOf(cause, "this log"),
-                    ".</p>\n",
-                ),
+                ("<p><b>Cause:</b> ", CauseOf(cause, "this log"), ".</p>\n"),
             ),
             None => {}
         }
