@@ -22,7 +22,7 @@ sys.path.insert(0, str(Path(__file__).resolve().parents[1] / "helpers"))
 
 import commands
 import oracle
-import report_oracle
+import report_facts
 import tables
 from cases import DIFFERENT, DONE, REFUSAL, UNCLEAN, WORDS, Cases
 from counts import counts_in, counts_line
@@ -104,7 +104,7 @@ def again(program, row, found):
     canonical = row.canonical()
     clean = counts_line(canonical, canonical, row.sides())
     places = placed_one_by_one(found.listed)
-    page = report_oracle.reported(canonical, sides=dict(zip((oracle.TESTER, oracle.UNIT), row.sides()))).written
+    page = report_facts.reported(canonical, sides=dict(zip((oracle.TESTER, oracle.UNIT), row.sides()))).written
     wants = [Ended(DONE, canonical, b""), found.listed, *(Ended(DONE, text, b"") for text in (clean, places, page))]
     ended = [program.run([job, *sides(row)], canonical) for job in JOBS]
     return differences("the canonical log again", ended, wants)
