@@ -56,8 +56,13 @@ class Cases:
                 test(self, *given)
             except Exception:
                 self.report(f"{test.__name__} comes to its end", [traceback.format_exc()])
-            if self.failed > before and not self.named:
-                print(f"This test alone: {shlex.join(['python3', *sys.argv, test.__name__])}", flush=True)
+            if self.failed > before:
+                self.tell_alone(test.__name__)
+
+    def tell_alone(self, name):
+        """Says how this test runs alone, where it is one of several."""
+        if not self.named:
+            print(f"This test alone: {shlex.join(['python3', *sys.argv, name])}", flush=True)
 
     def end(self):
         print(f"{self.passed} passed, {self.failed} failed")

@@ -450,11 +450,11 @@ class Page:
 def fact_differences(came, want):
     """How facts differ: of each kind what differs first."""
     return [
-        *first_difference("the names", came.names, want.names),
-        *first_difference("the identifiers", came.sides, want.sides),
-        *first_difference("the rows", rows_in(came), rows_in(want)),
-        *first_difference("the blocks", list(map(shape_of, came.blocks)), list(map(shape_of, want.blocks))),
-        *first_difference("where it is refused", [came.refused], [want.refused]),
+        *first_difference("name", came.names, want.names),
+        *first_difference("identifier", came.sides, want.sides),
+        *first_difference("row", rows_in(came), rows_in(want)),
+        *first_difference("block", list(map(shape_of, came.blocks)), list(map(shape_of, want.blocks))),
+        *first_difference("refusal", [came.refused], [want.refused]),
         *(text for name in Verdict._fields for text in verdict_difference(name, came.verdict, want.verdict)),
     ]
 
@@ -471,10 +471,20 @@ def verdict_difference(name, came, want):
 
 def first_difference(what, came, want):
     """The first place, from 1, at which two lists differ."""
-    for place, (ours, theirs) in enumerate(itertools.zip_longest(came, want, fillvalue="nothing"), 1):
+    for place, (ours, theirs) in enumerate(itertools.zip_longest(came, want), 1):
         if ours != theirs:
-            return [f"{what} at {place}: {ours}, not {theirs}"]
+            return [f"{what} {place}: {apart(ours, theirs)}"]
     return []
+
+
+def apart(came, want):
+    """How two values differ; of two of one kind the parts that do."""
+    if type(came) is type(want) and hasattr(came, "_fields"):
+        return apart(came._asdict(), want._asdict())
+    if isinstance(came, dict) and isinstance(want, dict):
+        differing = [name for name in want | came if came.get(name) != want.get(name)]
+        return ", and ".join(f"{name} {apart(came.get(name), want.get(name))}" for name in differing)
+    return f"{came!r}, not {want!r}"
 
 
 def reported(log, limit=GIBIBYTE, sides=SIDES, name=STANDARD_INPUT):

@@ -637,12 +637,16 @@ def main():
             sessions, places, pages, commands_of_rows, decided_items, pairs_found, logs_without_message, frames_without_part, refused_lines, recording_that_breaks_off, names_listed,
             limits, strict_runs, configurations, comparisons, recordings, long_logs, devices,
         ])
-        names, checks = zip(*(case for test in tests for case in test(program)))
+        of_tests, names, checks = zip(*((test.__name__, *case) for test in tests for case in test(program)))
         if not cases.named:
             cases.report("each table of rows/ is taken", [f"{name} is not" for name in tables.left()])
-        for name, (wrong, last) in zip(names, workers.map(answer_of, checks)):
+        failing = []
+        for test, name, (wrong, last) in zip(of_tests, names, workers.map(answer_of, checks)):
             asked.extend(last)
             cases.report(name, wrong)
+            failing += [test] if wrong and test not in failing else []
+    for test in failing:
+        cases.tell_alone(test)
     cases.end()
 
 
