@@ -105,6 +105,8 @@ def golden(cases):
         wrong = first_difference("line", golden_pages.shortened(found.output.decode()).split("\n"), path.read_text().split("\n"))
         wrong += [] if report_facts.STYLE.encode() in found.output else ["the style is not that of report.css"]
         cases.report(f"golden/{path.name}", wrong + text_faults(found.output))
+    names = {f"{name}.html" for name in golden_pages.PAGES}
+    cases.report("golden/ has no other page", differences("its pages", {path.name for path in golden_pages.GOLDEN.glob("*.html")}, names))
     for log, lines in golden_pages.refused_logs():
         page = cases.run(["report"], log).output.decode()
         cases.report(f"golden/refused.txt: {log!r}", differences("why it is refused", golden_pages.reasons(page), lines))
