@@ -25,6 +25,7 @@ PAGES = {
     "clean": [],
     "answered": [],
     "not_clean": [],
+    "unfinished": [],
     "cut": [],
     "no_unit": [],
     "no_tester": [],

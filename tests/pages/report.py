@@ -410,12 +410,12 @@ def causes_of_refusals(cases):
         ("compressed", gzip.compress(VIN), None, True),
         ("a table", b"timestamp,id,data\n", None, True),
         ("with nine decimals", b"(1700000000.000000000) can0 7E0#00\n", None, True),
-        ("cut", VIN[:-3], None, True),
+        ("cut", VIN[:-2], None, True),
         ("with a notice", VIN + b"DROPCOUNT: dropped 1 CAN frame\n", None, True),
         ("that begins with a notice", b"DROPCOUNT: dropped 1 CAN frame\n" + VIN, None, True),
         ("longer than its limit", VIN, 40, True),
         ("of no known kind", b"no log\n", None, False),
-        ("with a line that breaks off", lines[0][:-3] + b"\n" + VIN, None, False),
+        ("with a line that breaks off", lines[0][:-2] + b"\n" + VIN, None, False),
     ]:
         words = ["report", "--hints", *(["--limit", str(limit)] if limit else [])]
         found = cases.run(words, log)

@@ -185,7 +185,10 @@ def verdict_of(page):
     item = re.search(rb"</span> The two sessions differ, first at item (\d+)</h2>", page)
     if item:
         return b"different at item %s\n" % item[1]
-    same = (b"</span> The two sessions are the same</h2>", b"</span> Neither session has an item</h2>")
+    same = (
+        b"</span> The two sessions are the same</h2>", b"</span> The two sessions are the same, but tester and unit look exchanged</h2>",
+        b"</span> Neither session has an item</h2>",
+    )
     return b"same\n" if any(words in page for words in same) else b""
 
 

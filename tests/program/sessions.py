@@ -36,6 +36,9 @@ from told import LONG_CANONICAL, LONG_LOG, OVERSIZE, place
 
 JOBS = ["normalise", "list", "explain", "messages", "report"]
 
+# The line of a page with the cause of a refusal.
+CAUSE = re.compile(rb"^<p><b>Cause:</b> .*\n", re.M)
+
 # Why a log is refused that can be explained all the same, and whose messages can be told.
 ONLY_NORMALISED = (OVERSIZE, LONG_CANONICAL)
 
@@ -54,7 +57,7 @@ def taken(program, log, options=()):
     ended, wrong = [], []
     for job in JOBS:
         ended.append(program.run([job, *options], log))
-        wrong += differences(f"{job} byte by byte", program.run_short([job, *options], log), ended[-1])
+        wrong += byte_by_byte(job, program.run_short([job, *options], log), ended[-1])
     normalised, listed, explained, placed, reported = ended
     wrong += differences("how list ends", how(listed), how(normalised))
     wrong += differences("what is listed of a refused log", listed.output if listed.status else b"", b"")
@@ -71,6 +74,13 @@ def taken(program, log, options=()):
     if listed.status == DONE:
         wrong += differences("the list by the messages", oracle.listed_again(placed.output.decode()), listed.output.decode())
     return Taken(*ended, wrong)
+
+
+def byte_by_byte(job, found, whole):
+    """How a job ends otherwise where each read gives a byte. Then less is seen of a log that is refused, and its page may have no cause."""
+    wrong = differences(f"{job} byte by byte", found._replace(output=CAUSE.sub(b"", found.output)), whole._replace(output=CAUSE.sub(b"", whole.output)))
+    seen, known = CAUSE.findall(found.output), CAUSE.findall(whole.output)
+    return wrong + (differences(f"the cause of {job} byte by byte", seen, known) if seen else [])
 
 
 def watched_otherwise(program, log, options, listed, explained):
