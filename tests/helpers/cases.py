@@ -27,11 +27,11 @@ class Cases:
         """A case passed where nothing is wrong."""
         if wrong:
             self.failed += 1
-            print("\n  asked: ".join([f"FAILED {name}: {'; '.join(wrong)}", *map(runs.spelled, runs.asked)]), flush=True)
+            print("\n  asked: ".join([f"FAILED {name}: {'; '.join(wrong)}", *map(runs.spelled, runs.asked_in_vain())]), flush=True)
         else:
             self.passed += 1
             print(f"ok {name}", flush=True)
-        runs.asked.clear()
+        runs.forget()
 
     def case(self, name, found, status, output=b"", error=b""):
         """Compares a run with its status and texts. A text that is None may be any."""

@@ -30,7 +30,7 @@ from devices import devices
 from objects import in_objects
 from recordings import CANONICAL, SIZES, Style, message_of, recorded
 from refuser import Refuser
-from runs import Ended, Program, asked, differences, files, how, pipe
+from runs import Ended, Program, asked, asked_in_vain, differences, files, forget, how, pipe
 from tables import CANONICAL_LINE, VIN, VIN_PLACED, Row
 from told import LONG_CANONICAL, LONG_LOG, OVERSIZE, place
 
@@ -628,13 +628,13 @@ def thousands_of_exchanges(program):
 
 
 def answer_of(check):
-    """What is wrong by a check, and what it asked last. An answer that it can't read is wrong, too."""
-    asked.clear()
+    """What is wrong by a check, and what it asked. An answer that it can't read is wrong, too."""
+    forget()
     try:
         wrong = check()
     except (LookupError, ValueError) as error:
         wrong = [f"an answer that can't be read: {error!r}"]
-    return wrong, [*asked] if wrong else []
+    return wrong, asked_in_vain() if wrong else []
 
 
 def main():
