@@ -1,7 +1,7 @@
 """A reader of the page that `udsnorm report` writes of a log: the facts that it tells, and all its other words.
 
-Facts are kept as they are spelled. What is not of the forms below is an error. The other words are sentences of which nothing here
-depends but where they stand: they are compared with those of the pages of tests/pages/golden, which were read whole.
+Facts are kept as they are spelled, and what has none of the forms below is an error. All other words are kept with the place where they
+stand: those of any page have to be those of a page of tests/pages/golden, which somebody has read whole.
 """
 
 import re
@@ -48,8 +48,14 @@ ROW = re.compile(
 )
 
 OF, PARTIAL = r"(?P<of>tester|unit)", r"message from line (?P<begun>\d+), (?P<announced>\d+) bytes announced:"
-NOTE = rf"(?:<br><i>(?P<length>\d+) bytes in (?P<frames>\d+) frames(?:, after (?P<after>{MILLISECONDS}))?</i>| <i>after (?P<after_>{MILLISECONDS})</i>)?"
-FOLDED = rf" <details><summary>(?P<more>\d+) bytes more</summary><code>(?P<folded>{BYTES})</code>(?: <samp>(?P<letters_>[^<]+)</samp>)?</details>"
+NOTE = (
+    rf"(?:<br><i>(?P<length>\d+) bytes in (?P<frames>\d+) frames(?:, after (?P<after>{MILLISECONDS}))?</i>"
+    rf"| <i>after (?P<after_>{MILLISECONDS})</i>)?"
+)
+FOLDED = (
+    rf" <details><summary>(?P<more>\d+) bytes more</summary><code>(?P<folded>{BYTES})</code>(?: <samp>(?P<letters_>[^<]+)</samp>)?"
+    "</details>"
+)
 DATA = rf"<code>(?P<shown>{BYTES})</code>(?: <samp>(?P<letters>[^<]+)</samp>|{FOLDED}| <i>(?P<hidden>\d+) bytes more, not shown</i>)?{NOTE}"
 BRIEF_DATA = rf"(?P<shown>{BYTES})(?: and (?P<hidden>\d+) bytes more)?"
 
@@ -109,8 +115,8 @@ PAGE = re.compile(
 )
 # What is no fact has no name.
 FRONT = re.compile(
-    r"(.*<title>)(?P<title>[^<]*)( - .*<style>\n)(?P<style>.*)(</style>\n.*<h1>)(?P<name>[^<]*)(</h1>\n.*>tester )(?P<tester>[0-9A-F]+)(<.*>unit )"
-    r"(?P<unit>[0-9A-F]+)(<.*)",
+    r"(.*<title>)(?P<title>[^<]*)( - .*<style>\n)(?P<style>.*)(</style>\n.*<h1>)(?P<name>[^<]*)(</h1>\n.*>tester )(?P<tester>[0-9A-F]+)"
+    r"(<.*>unit )(?P<unit>[0-9A-F]+)(<.*)",
     re.DOTALL,
 )
 BLOCK = re.compile(
@@ -118,12 +124,16 @@ BLOCK = re.compile(
     r"(?P<bodies>(?:<tbody>\n(?:<tr [^\n]*\n)+)+)</table>\n</details>\n"
 )
 BODY, LINE = re.compile(r"<tbody>\n((?:<tr [^\n]*\n)+)"), re.compile(r"[^\n]*\n")
-TITLE = rf"From item (?P<item>\d+)(?:, line (?P<line>\d+), (?P<time>{TIME}) s)?|From line (?P<line_>\d+), (?P<time_>{TIME}) s|(?P<end>At the end of the log)"
+TITLE = (
+    rf"From item (?P<item>\d+)(?:, line (?P<line>\d+), (?P<time>{TIME}) s)?|From line (?P<line_>\d+), (?P<time_>{TIME}) s"
+    "|(?P<end>At the end of the log)"
+)
 
 VERDICT = re.compile(
     r'<section id="verdict" class="(?P<look>\w+)">\n<h2><span aria-hidden="true">(?P<sign>[^<]+)</span> (?P<heading>[^<]+)</h2>\n'
     r"<p>(?:<em>(?P<told>[^<]+)\.</em>(?: |(?=</p>)))?(?P<sentences>.*)</p>\n(?:<p><b>Cause:</b> (?P<cause>.*)\.</p>\n)?"
-    r'(?:<ul class="look">\n(?P<looks>(?:<li>.*\n)+)</ul>\n)?<dl class="counts">\n(?P<counts>(?:<div.*\n)+)</dl>\n(?:<p class="span">(?P<span>.*)</p>\n)?</section>\n'
+    r'(?:<ul class="look">\n(?P<looks>(?:<li>.*\n)+)</ul>\n)?<dl class="counts">\n(?P<counts>(?:<div.*\n)+)</dl>\n'
+    r'(?:<p class="span">(?P<span>.*)</p>\n)?</section>\n'
 )
 VERDICTS = {
     "The recording is clean": "clean",

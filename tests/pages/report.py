@@ -103,7 +103,7 @@ def golden(cases):
     for name, log in golden_pages.logs().items():
         found, path = cases.run(["report", *golden_pages.PAGES[name]], log), golden_pages.GOLDEN / f"{name}.html"
         wrong = first_difference("line", golden_pages.shortened(found.output.decode()).split("\n"), path.read_text().split("\n"))
-        wrong += [] if report_facts.STYLE.encode() in found.output else ["the style is not that of report.css"]
+        wrong += [] if f"<style>\n{report_facts.STYLE}</style>\n".encode() in found.output else ["the style is not that of report.css"]
         cases.report(f"golden/{path.name}", wrong + text_faults(found.output))
     names = {f"{name}.html" for name in golden_pages.PAGES}
     cases.report("golden/ has no other page", differences("its pages", {path.name for path in golden_pages.GOLDEN.glob("*.html")}, names))

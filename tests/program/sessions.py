@@ -78,7 +78,8 @@ def taken(program, log, options=()):
 
 def byte_by_byte(job, found, whole):
     """How a job ends otherwise where each read gives a byte. Then less is seen of a log that is refused, and its page may have no cause."""
-    wrong = differences(f"{job} byte by byte", found._replace(output=CAUSE.sub(b"", found.output)), whole._replace(output=CAUSE.sub(b"", whole.output)))
+    came, want = (ended._replace(output=CAUSE.sub(b"", ended.output)) for ended in (found, whole))
+    wrong = differences(f"{job} byte by byte", came, want)
     seen, known = CAUSE.findall(found.output), CAUSE.findall(whole.output)
     return wrong + (differences(f"the cause of {job} byte by byte", seen, known) if seen else [])
 
