@@ -66,7 +66,10 @@ struct udsnorm_answer {
     uint64_t announced; /* UDSNORM_OVERSIZE: bytes */
     uint64_t length;    /* UDSNORM_DONE, UDSNORM_ROOM: the bytes of the text */
     uint64_t item;      /* of two logs, UDSNORM_DONE, UDSNORM_ROOM: the first item that differs, from 1; 0: none does */
-    uint32_t side;      /* of two logs, any fault of a log: 1 the left one, 2 the right one */
+    uint16_t side;      /* of two logs, any fault of a log: 1 the left one, 2 the right one */
+    uint16_t exchanged; /* UDSNORM_DONE, UDSNORM_ROOM, but of udsnorm_find: 1 where tester and unit look exchanged in
+                           the log, or in one of two: no message is a request, one of the tester has bit 6 of its first
+                           byte set, as a response has, and one of the unit has not. Else 0. */
     uint32_t clean;     /* UDSNORM_DONE, UDSNORM_ROOM, but of udsnorm_find: 1 where the log is clean, or both are, which
                            the program asks with --strict: it has a frame of the tester and one of the unit, nothing
                            was dropped, ended or unfinished, and its last byte is a line feed. Else 0. */

@@ -154,7 +154,7 @@ def explain(log: Log, *, tester: Identifier = TESTER, unit: Identifier = UNIT, l
     counts = Counts(
         answer.lines, answer.frames, answer.messages, answer.dropped, answer.ended, answer.unfinished, answer.pending
     )
-    counts.clean = bool(answer.clean)
+    counts.clean, counts.exchanged = bool(answer.clean), bool(answer.exchanged)
     return Explanation(text.decode("ascii"), counts)
 
 

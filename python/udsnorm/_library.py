@@ -28,6 +28,7 @@ class Answer(ctypes.Structure):
     length: int
     item: int
     side: int
+    exchanged: int
     clean: int
     lines: int
     frames: int
@@ -44,7 +45,8 @@ class Answer(ctypes.Structure):
         ("announced", ctypes.c_uint64),
         ("length", ctypes.c_uint64),
         ("item", ctypes.c_uint64),
-        ("side", ctypes.c_uint32),
+        ("side", ctypes.c_uint16),
+        ("exchanged", ctypes.c_uint16),
         ("clean", ctypes.c_uint32),
         ("lines", ctypes.c_uint64),
         ("frames", ctypes.c_uint64),

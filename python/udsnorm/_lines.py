@@ -148,9 +148,11 @@ class Counts(_CountsFields):
     belongs to a message that was received whole. A single frame that was lost is not seen.
 
     `clean` stands beside the seven: it is what the program asks with `--strict`, that these three are 0, each side has a
-    frame, and the last byte of the log is a line feed."""
+    frame, and the last byte of the log is a line feed. So does `exchanged`: tester and unit look exchanged, since no
+    message is a request, one of the tester has the first byte of a response, and one of the unit has not."""
 
     clean: bool = False
+    exchanged: bool = False
 
 
 def _shown(item: Union[Exchange, Stray, Message]) -> str:

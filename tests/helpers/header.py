@@ -24,7 +24,7 @@ IN_C = {
     "&mut UdsnormAnswer": ["struct udsnorm_answer *"],
 }
 RESULTS_IN_C = {"u32": "uint32_t", "UdsnormWords": "struct udsnorm_words"}
-SIZES = {"u32": 4, "u64": 8}
+SIZES = {"u16": 2, "u32": 4, "u64": 8}
 
 # The names that the header gives to the styles of the crate, and to constants of it.
 STYLES = {

@@ -34,7 +34,7 @@ Session = namedtuple("Session", "name log tester unit limit")
 class Answer(ctypes.Structure):
     """The answer of a call, by the crate's source."""
 
-    _fields_ = [(name, {"u32": ctypes.c_uint32, "u64": ctypes.c_uint64}[of]) for name, of in header.fields()]
+    _fields_ = [(name, {"u16": ctypes.c_uint16, "u32": ctypes.c_uint32, "u64": ctypes.c_uint64}[of]) for name, of in header.fields()]
 
 
 class Words(ctypes.Structure):

@@ -554,6 +554,13 @@ def unclean(log):
     return None
 
 
+def look_exchanged(listed):
+    """Whether tester and unit look exchanged in a list of messages: none is a request, one of the tester has bit 6 of its
+    first byte set, and one of the unit has not."""
+    has_bit = {(direction, bool(message[0] & 0x40)) for direction, message in listed}
+    return not any(is_request(*one) for one in listed) and {(TESTER, True), (UNIT, False)} <= has_bit
+
+
 # --- The places of messages ---------------------------------------------------------------------------------------------
 
 

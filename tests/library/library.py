@@ -6,8 +6,8 @@
 - the header says of statuses, styles, answer, calls and version what the crate has, for each compiler (header.py);
 - no symbol but its calls leaves the shared library, and it has its name; the static one shows no other either;
 - the examples are compiled, and do what they say;
-- over the sample logs and those of tests/rows, each call answers what the program writes and tells, and whether a log is
-  clean as the program does with --strict;
+- over the sample logs and those of tests/rows, each call answers what the program writes and tells, whether a log is
+  clean as the program does with --strict, and whether its sides look exchanged as oracle.py does;
 - a page shows the names that it is given, and each status has a text;
 - rooms of every size, logs and texts at the edges of pages, 16 threads, growths of memory refused in turn, the
   sanitizers: by library_calls.c, compiled by each of gcc, g++, clang and clang++ as strictly as they can;
@@ -19,6 +19,7 @@ with `N passed, M failed`; its status is 1 where a case failed.
 
 import argparse
 import ctypes
+import functools
 import os
 import random
 import re
@@ -31,6 +32,7 @@ from pathlib import Path
 sys.path.insert(0, str(Path(__file__).resolve().parents[1] / "helpers"))
 
 import header
+import oracle
 import tables
 import told
 from cases import DIFFERENT, DONE, REFUSAL, UNCLEAN, Cases
@@ -174,8 +176,28 @@ def sessions():
         column, _, text = line.partition(" ")
         yield Session(f"refused_lines: {column} {text}", text.encode(), 0x7E0, 0x7E8, LIMIT)
     vin = (EXAMPLES / "vin.log").read_bytes()
+    for name, log in exchanged_logs(vin):
+        yield Session(f"exchanged sides: {name}", log, 0x7E8, 0x7E0, LIMIT)
     for limit in (1, len(vin) - 1, len(vin), 229, 230):
         yield Session(f"vin.log with a limit of {limit}", vin, 0x7E0, 0x7E8, limit)
+
+
+def exchanged_logs(vin):
+    """Logs whose sides look exchanged, and others that lack one thing of that, where 7E8 is the tester's."""
+    request, answer = b"(1.000000) can0 7E0#0322F190\n", b"(1.010000) can0 7E8#0462F19041\n"
+    yield "vin.log", vin
+    yield "a request and its answer", request + answer
+    yield "a request beside them", request + answer + request.replace(b"7E0", b"7E8")
+    yield "a keep-alive beside them", request + answer + b"(1.020000) can0 7E8#023E80\n"
+    yield "no answer", request
+    yield "no request", answer
+
+
+@functools.lru_cache(maxsize=None)
+def looks_exchanged(log, *options):
+    """Whether tester and unit look exchanged in a log that can be read, by these options."""
+    sides = {oracle.TESTER: options[1], oracle.UNIT: options[3]}
+    return oracle.look_exchanged(oracle.messages(oracle.trace(oracle.cut(log), sides)))
 
 
 def lines_of(folder, chosen):
@@ -226,8 +248,10 @@ def beside_the_program(loaded, program, job, session):
     if found.status == DONE:
         status = run(program, [*JOBS[job], "--strict", *words_of(session)], session.log).status if has_sides else UNCLEAN
         wrong += differences(f"clean of {job}", answer.clean, 1 if status == DONE else 0)
+        is_exchanged = has_sides and looks_exchanged(session.log, *words_of(session))
+        wrong += differences(f"exchanged of {job}", answer.exchanged, 1 if is_exchanged else 0)
     else:
-        wrong += differences(f"clean of {job}", answer.clean, 0)
+        wrong += differences(f"clean and exchanged of {job}", (answer.clean, answer.exchanged), (0, 0))
     return wrong
 
 
@@ -238,7 +262,7 @@ def compared(loaded, program, session, other):
         strict = run(program, ["compare", "--strict", *words_of(session), *names])
     answer = loaded.compare(session, other)
     line = f"different at item {answer.item}\n".encode() if answer.item else b"same\n"
-    return beside(answer, found, strict, "compare") + differences("compare", b"" if answer.status else line, found.output)
+    return beside(answer, found, strict, "compare", session, other) + differences("compare", b"" if answer.status else line, found.output)
 
 
 def paged(loaded, program, session, other):
@@ -247,16 +271,18 @@ def paged(loaded, program, session, other):
         found = run(program, ["report", *words_of(session), *names])
         strict = run(program, ["report", "--strict", *words_of(session), *names])
         answer, text = loaded.page(session, other, [name.name.encode() for name in names])
-    return beside(answer, found, strict, "report of two") + differences("the page of two", text, b"" if answer.status else found.output)
+    return beside(answer, found, strict, "report of two", session, other) + differences("the page of two", text, b"" if answer.status else found.output)
 
 
-def beside(answer, found, strict, job):
+def beside(answer, found, strict, job, session, other):
     """What is wrong with the answer about two logs beside how the program ends over them, and how with `--strict`."""
     if answer.status:
         side = {1: b"left: ", 2: b"right: "}[answer.side]
         wrong = differences(job, (REFUSAL, side + reason(answer)), (found.status, found.error))
-        return wrong + differences(f"clean of {job}", answer.clean, 0)
-    wrong = differences(job, (DIFFERENT if answer.item else DONE, 0), (found.status, answer.side))
+        return wrong + differences(f"clean and exchanged of {job}", (answer.clean, answer.exchanged), (0, 0))
+    is_exchanged = any(looks_exchanged(log, *words_of(session)) for log in (session.log, other))
+    wrong = differences(f"exchanged of {job}", answer.exchanged, 1 if is_exchanged else 0)
+    wrong += differences(job, (DIFFERENT if answer.item else DONE, 0), (found.status, answer.side))
     return wrong + differences(f"clean of {job}", answer.clean, 0 if strict.status == UNCLEAN else 1)
 
 
@@ -273,6 +299,9 @@ def rows(cases, loaded, program, chosen):
         for call in OF_TWO.values():
             cases.report(f"comparisons: {row.name}, {call.__name__}", call(loaded, program, session, row.side("right")))
     vin, lost = (Session(name, (EXAMPLES / name).read_bytes(), 0x7E0, 0x7E8, LIMIT) for name in ("vin.log", "lost-frame.log"))
+    for session, other in ((vin._replace(tester=0x7E8, unit=0x7E0), log) for log in (vin.log, lost.log, b"")):
+        for call in OF_TWO.values():
+            cases.report(f"exchanged sides, beside {other[:20]!r}, {call.__name__}", call(loaded, program, session, other))
     for session, other in ((vin, vin.log), (vin, lost.log), (lost, vin.log), (lost, b""), (vin, b"x"), (lost._replace(log=b"x"), b"y")):
         for call in OF_TWO.values():
             cases.report(f"{session.name} beside {other[:20]!r}, {call.__name__}", call(loaded, program, session, other))

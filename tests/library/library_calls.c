@@ -130,11 +130,12 @@ static void answers(const struct session *s)
     for (call = 0; call < TEXTS; call++) {
         struct udsnorm_answer a;
         uint8_t *out = whole(call, s, &a);
-        printf("%s %s: %llu %u %llu %llu %llu %llu %llu %llu %llu %llu %llu %llu %u %u\n", texts[call].name, udsnorm_status_text(a.status).text,
+        printf("%s %s: %llu %u %llu %llu %llu %llu %llu %llu %llu %llu %llu %llu %u %u %u\n", texts[call].name, udsnorm_status_text(a.status).text,
                (unsigned long long)a.line, (unsigned)a.column, (unsigned long long)a.announced, (unsigned long long)a.length,
                (unsigned long long)a.lines, (unsigned long long)a.frames, (unsigned long long)a.messages,
                (unsigned long long)a.dropped, (unsigned long long)a.ended, (unsigned long long)a.unfinished,
-               (unsigned long long)a.pending, (unsigned long long)a.item, (unsigned)a.side, (unsigned)a.clean);
+               (unsigned long long)a.pending, (unsigned long long)a.item, (unsigned)a.side, (unsigned)a.exchanged,
+               (unsigned)a.clean);
         fwrite(out, 1, (size_t)a.length, stdout);
         free(out);
     }

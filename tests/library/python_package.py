@@ -112,7 +112,10 @@ class BesideTheProgram(unittest.TestCase):
                     self.assertEqual((DONE, text), (found.status, found.output.decode()))
                     if name == "explain":
                         status = run(given.program, [*command, "--strict", *words], log).status
-                        self.assertEqual(udsnorm.explain(log, **settings).counts.clean, status == DONE)
+                        counts = udsnorm.explain(log, **settings).counts
+                        self.assertEqual(counts.clean, status == DONE)
+                        hinted = run(given.program, [*command, "--hints", *words], log).error
+                        self.assertEqual(counts.exchanged, b"look exchanged" in hinted)
 
     def same_difference(self, left, right, settings, words):
         with files(left, right) as names:
@@ -350,6 +353,16 @@ class Assertions(unittest.TestCase):
                 self.assertEqual("".join(f"{line}\n" for line in shown), want)
 
 
+class ExchangedSides(unittest.TestCase):
+    """A log of which tester and unit look exchanged says so beside its counts, and is clean all the same."""
+
+    def test_exchanged(self):
+        for settings, is_exchanged in (({}, False), ({"tester": "7E8", "unit": "7E0"}, True)):
+            counts = udsnorm.explain(VIN, **settings).counts
+            self.assertEqual((counts.exchanged, counts.clean), (is_exchanged, True))
+        self.assertFalse(udsnorm.explain(b"").counts.exchanged)
+
+
 class Arguments(unittest.TestCase):
     """Logs in every form, and settings that there are and are not."""
 
@@ -491,7 +504,7 @@ class Shipped(unittest.TestCase):
         statuses = re.findall(r"^    UDSNORM_(\w+) = (\d+)", (TOP / "library" / "udsnorm.h").read_text(), re.M)
         known = {name: getattr(library, name) for name, _ in statuses if hasattr(library, name)}
         self.assertEqual(known, {name: int(number) for name, number in statuses if name in known})
-        types = {"u32": ctypes.c_uint32, "u64": ctypes.c_uint64}
+        types = {"u16": ctypes.c_uint16, "u32": ctypes.c_uint32, "u64": ctypes.c_uint64}
         self.assertEqual(library.Answer._fields_, [(name, types[of]) for name, of in header.fields()])
 
     def test_the_oldest_python(self):
@@ -574,6 +587,7 @@ one_by_one: Iterator[udsnorm.Item] = udsnorm.iter_items("a.blf", tester="7E0", u
 recorded: bytes = udsnorm.from_messages([])
 assert_same_session("a.asc", b"", tester="18DA10F1", unit="18DAF110", page="page.html", clean=True)
 is_clean: bool = udsnorm.explain("a.log").counts.clean
+is_exchanged: bool = udsnorm.explain("a.log").counts.exchanged
 page: bytes = udsnorm.report("a.log", name="a") + udsnorm.report_pair("a.log", b"", names=("a", "b"), unit="7E9")
 udsnorm.normalise(1)  # type: ignore[arg-type]
 udsnorm.normalise(b"", tester=None)  # type: ignore[arg-type]

@@ -53,7 +53,7 @@ explain          2      0     2      -
 find             2      2     0      -
 compare          8      4    11      -
 report           2      0     2      -
-hold_two        10      8    13      -
+keep_two        10      6    13      -
 """
 
 # How many growths each job has over each log, apart from those of its words: of a job over two logs those over the left one, and
@@ -61,20 +61,20 @@ hold_two        10      8    13      -
 # beside its canonical log.
 JOB_GROWTHS = """
                                                        normalise  list  watch  explain  messages  find  report  compare  pages
-both-directions                                                3     5      5        3         3     2       3      5+4    8+5
-candump-any                                                    0     2      2        0         0     2       0      2+4    5+5
-candump-fd                                                     1     3      4        1         1     2       1      3+4    9+5
-candump-marks                                                  2     4      4        2         2     2       2      4+4    7+5
-extended-identifiers                                           0     2      1        0         0     2       0      2+4    2+5
-extended-identifiers --tester 18DA10F1 --unit 18DAF110           2     4      4        2         2     -       2      4+4    7+7
-first                                                          0     2      1        0         0     0       0      2+4    2+5
-lost-frame                                                     2     4      4        2         2     2       2      4+4    7+5
-pending                                                        4     4      6        2         2     2       2      4+4   12+5
-refused                                                        0     2      1        0         0     0       0      2+0    2+0
-single-frames                                                  0     2      2        0         0     2       0      2+4    8+5
+both-directions                                                3     5      5        3         3     2       3      5+4    6+5
+candump-any                                                    0     2      2        0         0     2       0      2+4    3+5
+candump-fd                                                     1     3      4        1         1     2       1      3+4    5+5
+candump-marks                                                  2     4      4        2         2     2       2      4+4    5+5
+extended-identifiers                                           0     2      1        0         0     2       0      2+4    3+5
+extended-identifiers --tester 18DA10F1 --unit 18DAF110           2     4      4        2         2     -       2      4+4    5+5
+first                                                          0     2      1        0         0     0       0      2+4    3+5
+lost-frame                                                     2     4      4        2         2     2       2      4+4    6+5
+pending                                                        4     4      6        2         2     2       2      4+4    6+5
+refused                                                        0     2      1        0         0     0       0      2+0    3+0
+single-frames                                                  0     2      2        0         0     2       0      2+4    4+5
 vin-fd-crlf                                                    0     2      1        0         0     2       0      2+4    3+5
 vin                                                            2     4      3        2         2     2       2      4+4    5+5
-stray                                                          2     2      3        0         0     2       0      2+4    4+5
+stray                                                          2     2      3        0         0     2       0      2+4    3+5
 both                                                           2     4      3        2         2     0       2      4+4    5+5
 long                                                           0     -      -        0         0     0       0        -      -
 """

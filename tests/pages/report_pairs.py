@@ -25,7 +25,8 @@ import tables
 from cases import DEVICE, DIFFERENT, DONE, REFUSAL, UNCLEAN, WORDS, Cases
 from oracle import TESTER, UNIT
 from random_logs import random_logs
-from report import ANSWER, EXTENDED, FIRST, NAMES, OUT_OF_ORDER, REFUSED, REQUEST, STRAY, UNKNOWN, WRONG_VALUES, log_of, page_differences, text_faults
+from report import ANSWER, EXTENDED, FIRST, NAMES, OUT_OF_ORDER, REFUSED, REQUEST, STRAY, UNKNOWN, WRONG_VALUES, log_of, text_faults
+from report_facts import first_difference, last_part
 from runs import differences, files, peak_kilobytes, start
 from tables import EXAMPLES, VIN
 from told import LONG_CANONICAL, LONG_LOG, READ_FAILED, WRITE_FAILED, oversize, place
@@ -114,6 +115,8 @@ REFUSALS = [
     ("both logs", TWO + b"x\n", b"x\n", None, b"left: " + place(3, 1)),
     ("an empty log beside a refused one", b"", b"(x\n", None, b"right: " + place(1, 2)),
     ("a log inside its last line", log_of(REQUEST) + b"(1.000000) can0 7E0#0", TWO, None, b"left: " + place(2, 22)),
+    ("a compressed left log", b"\x1f\x8b\x08\0", TWO, None, b"left: " + place(1, 1)),
+    ("a notice in the right log", TWO, TWO + b"DROPCOUNT: dropped 1 CAN frame\n", None, b"right: " + place(3, 1)),
     ("the left log by the limit", TWO + TWO, TWO, len(TWO), b"left: " + LONG_LOG),
     ("the right log by the limit", TWO, TWO + b"\n", len(TWO), b"right: " + LONG_LOG),
     ("both logs by the limit", TWO, TWO, 1, b"left: " + LONG_LOG),
@@ -157,6 +160,16 @@ def pair_faults(cases, left, right, sides=oracle.SIDES, limit=None, is_strict=Fa
     return page_differences(found, came) + page_faults(found.output) + compared_otherwise(found, compared)
 
 
+def page_differences(found, came):
+    """How a run of the program differs from what the oracle says; of a page the first line that does."""
+    fault = f"{came.fault}\n".encode() if came.fault else b""
+    return [
+        *differences("status", found.status, came.status),
+        *differences("error output", found.error, fault),
+        *first_difference("line of the page", *(page.decode().split("\n") for page in (found.output, came.written))),
+    ]
+
+
 def compared_otherwise(found, compared):
     """How a page says something else than `compare`. That also refuses logs by messages that they announce and by their canonical logs,
     of which `refused_by_compare` is."""
@@ -172,7 +185,10 @@ def verdict_of(page):
     item = re.search(rb"</span> The two sessions differ, first at item (\d+)</h2>", page)
     if item:
         return b"different at item %s\n" % item[1]
-    same = (b"</span> The two sessions are the same</h2>", b"</span> Neither session has an item</h2>")
+    same = (
+        b"</span> The two sessions are the same</h2>", b"</span> The two sessions are the same, but tester and unit look exchanged</h2>",
+        b"</span> Neither session has an item</h2>",
+    )
     return b"same\n" if any(words in page for words in same) else b""
 
 
@@ -224,6 +240,8 @@ def sample_pairs():
     extended = dict(logs)["extended-identifiers"]
     for other in (extended, b"", extended[: extended.rindex(b"(")]):
         yield f"29 bits and {len(other)} bytes", extended, other, {"sides": EXTENDED}
+    for one, other in itertools.product((VIN, TWO, TWO[: TWO.index(b"\n") + 1], b""), repeat=2):
+        yield f"exchanged sides, {len(one)} and {len(other)} bytes", one, other, {"sides": {TESTER: "7E8", UNIT: "7E0"}}
 
 
 def table_pairs():
@@ -460,7 +478,7 @@ def name_faults(cases, words, folder):
     """Two files of one name are called by their paths."""
     paths = words[-2:]
     found = cases.run(["report", *words], cwd=folder)
-    given = [report_oracle.last_part(os.fsencode(path)) for path in paths]
+    given = [last_part(os.fsencode(path)) for path in paths]
     shown = [NAMES[path.removeprefix(f"{folder}/")] for path in paths]
     if given[0] == given[1]:
         given, shown = [path.encode() for path in paths], paths

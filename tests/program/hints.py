@@ -263,6 +263,39 @@ def foreign(cases, folder):
     hinted(cases, "compare --strict", ["compare", "--strict", "mine.log", "other.log"], folder, UNCLEAN, usual)
 
 
+def exchanged(cases, folder):
+    """A log whose sides look exchanged: no request, a message of the tester with bit 6 of its first byte, one of the unit without."""
+    request, answer = b"(1.000000) can0 7E0#0322F190\n", b"(1.010000) can0 7E8#0462F19041\n"
+    alive, alive_of_unit, refusal = b"(1.020000) can0 7E0#023E80\n", b"(1.020000) can0 7E8#023E80\n", b"(1.010000) can0 7E8#037F2231\n"
+    swapped = ["--tester", "7E8", "--unit", "7E0"]
+    told = "tester and unit look exchanged in {}: udsnorm list --tester 7E0 --unit 7E8{}"
+    for name, log, is_told in [
+        ("whole.log", VIN.read_bytes(), True),
+        ("short.log", request + answer, True),
+        ("later.log", alive_of_unit + answer + request, True),
+        ("negative.log", request + refusal, True),
+        ("keep-alive.log", answer + alive, True),
+        ("beside a keep-alive.log", request + answer + alive_of_unit, True),
+        ("-dash.log", request + answer, True),
+        ("requests.log", request, False),
+        ("answers.log", answer, False),
+        ("two keep-alives.log", request + alive_of_unit, False),
+        ("one request.log", request + answer + b"(1.030000) can0 7E8#0322F190\n", False),
+    ]:
+        Path(folder, name).write_bytes(log)
+        shown = f"$'{name}'" if " " in name else name
+        behind = f" -- {name}" if name[0] == "-" else f" {shown}"
+        hinted(cases, f"exchanged sides in {name}", ["list", *swapped, "--", name], folder, 0, told.format(shown, behind) if is_told else None)
+        hinted(cases, f"the right sides in {name}", ["list", "--", name], folder, 0, None)
+    for job in over_one_log(cases.program, "--tester"):
+        hinted(cases, f"{job} with exchanged sides", [job, *swapped, "short.log"], folder, 0, told.format("short.log", " short.log"))
+    hinted(cases, "exchanged sides in standard input", ["list", *swapped], folder, 0, told.format("standard input", ""), log=request + answer)
+    hinted(cases, "exchanged sides, strictly", ["list", "--strict", *swapped, "short.log"], folder, 0, told.format("short.log", " short.log"))
+    for job in ["compare", "report"]:
+        hinted(cases, f"{job} with exchanged sides in both", [job, *swapped, "short.log", "whole.log"], folder, 1, told.format("short.log", " short.log"))
+        hinted(cases, f"{job} with exchanged sides in one", [job, *swapped, "requests.log", "short.log"], folder, 1, told.format("short.log", " short.log"))
+
+
 def looks(cases, folder):
     """What a log looks like that is refused in its first line."""
     lines = VIN.read_bytes()
@@ -379,7 +412,7 @@ def main():
         sys.exit(__doc__)
     cases = Cases(os.path.abspath(sys.argv[1]), sys.argv[2:])
     with tempfile.TemporaryDirectory() as folder:
-        cases.each([files, denied, limits, names, words, values, awaited, pairs, foreign, looks, compressed, cut, drops, silent], folder)
+        cases.each([files, denied, limits, names, words, values, awaited, pairs, foreign, exchanged, looks, compressed, cut, drops, silent], folder)
     cases.end()
 
 

@@ -112,6 +112,8 @@ fn thousands_of_items_are_held(rt: HostRuntime) -> Result<(), Fail> {
     let (answer, _) = held(alloc, log.as_bytes(), log.as_bytes())?;
     let held = answer.or(Err("not held"))?;
     assert!(rt; held.comparison() == Comparison::Same);
-    assert!(rt; held.left.summary().messages == 2_000 && held.right.summary().messages == 2_000);
+    assert!(rt;
+        held.left().summary().messages == 2_000 && held.right().summary().messages == 2_000
+    );
     Ok(())
 }

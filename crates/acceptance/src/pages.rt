@@ -12,7 +12,7 @@ use trace_canon::Comparison;
 use trace_io::{Reading, Source, Target, Writing};
 use trace_log::{CompareFault, ConfigFault, Fault, Summary};
 use trace_report::in_memory::NoPairPage;
-use trace_report::{Held, PairTitle, hold_two, in_memory, report, write_pair_page};
+use trace_report::{PairTitle, Two, in_memory, keep_two, report, write_pair_page};
 
 /// A log of the same request, and of nothing else.
 const REQUEST: &str = "(0.000000) can0 7E0#0322F190\n";
@@ -41,9 +41,9 @@ pub(crate) fn held<A: Read + Drop, B: Read + Drop>(
     alloc: Global,
     left: A,
     right: B,
-) -> Result<(Result<Held, CompareFault>, u64), ConfigFault> {
+) -> Result<(Result<Two, CompareFault>, u64), ConfigFault> {
     let (mut left, mut right) = (Reading::new(left), Reading::new(right));
-    let answer = hold_two(alloc, &sides()?, &mut left, &mut right);
+    let answer = keep_two(alloc, &sides()?, &mut left, &mut right);
     Ok((answer, right.reads()))
 }
 
@@ -56,7 +56,7 @@ fn page_in(writer: Writing<Vec<u8>>) -> Result<String, Fail> {
 fn page_of_two(alloc: Global, left: &str, right: &str) -> Result<String, Fail> {
     let (answer, _) = held(alloc, left.as_bytes(), right.as_bytes())?;
     let mut writer = Writing::new(Vec::new(alloc));
-    write_pair_page(&TITLE, &answer, &mut writer)?;
+    write_pair_page(&TITLE, &answer, None, &mut writer)?;
     page_in(writer)
 }
 
@@ -107,11 +107,11 @@ fn two_sessions_are_held(rt: HostRuntime) -> Result<(), Fail> {
     let (answer, reads) = held(alloc, LOG.as_bytes(), byte_by_byte())?;
     let both = answer.or(Err("not held"))?;
     assert!(rt; both.comparison() == Comparison::Same && reads == 213);
-    assert!(rt; both.left.summary().frames == 5 && both.right.summary().messages == 2);
+    assert!(rt; both.left().summary().frames == 5 && both.right().summary().messages == 2);
     let (answer, _) = held(alloc, LOG.as_bytes(), REQUEST.as_bytes())?;
     let both = answer.or(Err("not held"))?;
     assert!(rt; both.comparison() == Comparison::Different { item: 0 });
-    assert!(rt; both.left.summary().messages == 2 && both.right.summary().messages == 1);
+    assert!(rt; both.left().summary().messages == 2 && both.right().summary().messages == 1);
     let (answer, reads) = held(alloc, failing(), byte_by_byte())?;
     assert!(rt; answer.err() == Some(CompareFault::Left(Fault::Read)) && reads == 0);
     let (answer, reads) = held(alloc, byte_by_byte(), failing())?;
@@ -131,7 +131,7 @@ const EACH_ROW: &str = "\
 ";
 
 /// What is printed of it: each type with its name and its fields, the bytes of a message as numbers.
-const PRINTED: &str = "HeldSession { rows: [\
+const PRINTED: &str = "Session { rows: [\
 Message { role: Request, dir: Tester, place: MessagePlace { item: 1, \
 first: FramePlace { line: 1, micros: 0 }, last: FramePlace { line: 1, micros: 0 }, frames: 1 }, message: [34, 241, 144] }, \
 Ended { place: FramePlace { line: 3, micros: 2000 }, ended: Ended { begun_line: 2, len: 8, dir: Unit, cause: NewStart } }, \
@@ -143,17 +143,19 @@ first: FramePlace { line: 5, micros: 4000 }, last: FramePlace { line: 5, micros:
 Unfinished { dir: Unit, line: 6, len: 10 }, \
 NoAnswer { number: 2, silent: false }], \
 summary: Summary { lines: 6, frames: 6, tester_frames: 2, unit_frames: 4, messages: 3, dropped: 1, ended: 1, unfinished: 1, \
-pending: 0, ends_in_line_feed: true }, span: Some(Span { first: 0, last: 5000 }) }";
+pending: 0, ends_in_line_feed: true, looks_exchanged: false }, span: Some(Span { first: 0, last: 5000 }) }";
 
 #[test]
-fn a_session_that_is_held_is_printed(rt: HostRuntime) -> Result<(), Fail> {
+fn a_session_that_is_kept_is_printed(rt: HostRuntime) -> Result<(), Fail> {
     let alloc = rt.alloc();
     let (answer, _) = held(alloc, EACH_ROW.as_bytes(), "".as_bytes())?;
     let both = answer.or(Err("not held"))?;
-    let left = shown(alloc, &both.left)?;
+    let left = shown(alloc, both.left())?;
     assert_text(&rt, "a session", left.as_str(), PRINTED);
-    let right = shown(alloc, &both.right)?;
-    let whole = format!(in alloc; "Held {{ left: {left}, right: {right} }}")?;
+    let right = shown(alloc, both.right())?;
+    let whole = format!(in alloc;
+        "Two {{ left: {left}, right: {right}, comparison: Different {{ item: 0 }} }}"
+    )?;
     assert_text(&rt, "both", shown(alloc, &both)?.as_str(), whole.as_str());
     Ok(())
 }
@@ -228,12 +230,12 @@ fn two_sessions_whose_page_can_not_be_written(rt: HostRuntime) -> Result<(), Fai
     let page = page_of_two(alloc, LOG, CANONICAL)?;
     let (answer, _) = held(alloc, LOG.as_bytes(), CANONICAL.as_bytes())?;
     let mut writer = Writing::new(full(alloc));
-    let written = write_pair_page(&TITLE, &answer, &mut writer);
+    let written = write_pair_page(&TITLE, &answer, None, &mut writer);
     assert!(rt; written == Err(Fault::Write) && writer.failures() == 1);
     assert_front(&rt, writer.into_inner().inner.inner.as_slice(), &page, 50);
     let (answer, _) = held(alloc, failing(), LOG.as_bytes())?;
     let mut writer = Writing::new(Vec::new(alloc));
-    write_pair_page(&TITLE, &answer, &mut writer)?;
+    write_pair_page(&TITLE, &answer, None, &mut writer)?;
     assert!(rt; writer.into_inner().is_empty());
     Ok(())
 }

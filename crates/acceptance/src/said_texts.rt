@@ -10,14 +10,15 @@ use std::alloc::Global;
 use std::process::Abort;
 use std::str;
 use std::test::Fail;
+use text_parts::{Part, say};
 use trace_io::TextSink;
 use trace_log::Count;
 use trace_text::say::{
     say_byte, say_bytes, say_cause, say_code, say_counts, say_digit, say_direction,
-    say_layout_fault, say_length, say_number, say_parts, say_place, say_service, say_six_decimals,
-    say_text, say_three_decimals,
+    say_layout_fault, say_length, say_number, say_place, say_service, say_six_decimals, say_text,
+    say_three_decimals,
 };
-use trace_text::{Part, say_items};
+use trace_text::{Bytes, Code, Digit, Number, Place, Service, SixDecimals, Spelled, say_items};
 
 /// Keeps what is said, up to where memory is refused.
 #[derive(Drop)]
@@ -58,9 +59,9 @@ fn assert_kept(rt: &impl Abort, said: &Kept, text: &str) -> Result<(), Fail> {
 }
 
 /// The part is said so.
-fn assert_part(rt: &impl Abort, alloc: Global, part: Part<'_>, text: &str) -> Result<(), Fail> {
+fn assert_part<P: Part>(rt: &impl Abort, alloc: Global, part: P, text: &str) -> Result<(), Fail> {
     let mut said = empty_sink(alloc);
-    say_parts(&mut said, &[part]);
+    say(&mut said, part);
     assert_kept(rt, &said, text)
 }
 
@@ -69,7 +70,7 @@ fn assert_number(rt: &impl Abort, alloc: Global, number: u64, text: &str) -> Res
     let mut said = empty_sink(alloc);
     say_number(&mut said, number);
     assert_kept(rt, &said, text)?;
-    assert_part(rt, alloc, Part::Number(number), text)
+    assert_part(rt, alloc, Number(number), text)
 }
 
 #[test]
@@ -96,39 +97,31 @@ fn a_number_of_each_length_is_said(rt: HostRuntime) -> Result<(), Fail> {
 #[test]
 fn each_part_is_said(rt: HostRuntime) -> Result<(), Fail> {
     let alloc = rt.alloc();
-    assert_part(&rt, alloc, Part::Text("line "), "line ")?;
-    assert_part(&rt, alloc, Part::Place(0), "1")?;
-    assert_part(&rt, alloc, Part::Place(usize::MAX), "18446744073709551616")?;
-    assert_part(&rt, alloc, Part::Digit(11), "B")?;
-    assert_part(&rt, alloc, Part::Decimals(1_700_000_000_012_300), "012300")?;
-    assert_part(&rt, alloc, Part::Spelled(b"7E0"), "7E0")?;
-    assert_part(&rt, alloc, Part::Bytes(&[]), "")?;
-    assert_part(&rt, alloc, Part::Bytes(&[0x22, 0xF1, 0x90]), "22F190")?;
+    assert_part(&rt, alloc, "line ", "line ")?;
+    assert_part(&rt, alloc, Place(0), "1")?;
+    assert_part(&rt, alloc, Place(usize::MAX), "18446744073709551616")?;
+    assert_part(&rt, alloc, Digit(11), "B")?;
+    assert_part(&rt, alloc, SixDecimals(1_700_000_000_012_300), "012300")?;
+    assert_part(&rt, alloc, Spelled(b"7E0"), "7E0")?;
+    assert_part(&rt, alloc, Bytes(&[]), "")?;
+    assert_part(&rt, alloc, Bytes(&[0x22, 0xF1, 0x90]), "22F190")?;
     assert_part(
         &rt,
         alloc,
-        Part::Bytes(&[0x0A; 17]),
+        Bytes(&[0x0A; 17]),
         "0A0A0A0A0A0A0A0A0A0A0A0A0A0A0A0A0A",
     )?;
-    assert_part(&rt, alloc, Part::Service(0x22), "ReadDataByIdentifier")?;
-    assert_part(&rt, alloc, Part::Service(0x02), "service_02")?;
-    assert_part(&rt, alloc, Part::Code(0x31), "requestOutOfRange")?;
-    assert_part(&rt, alloc, Part::Code(0x02), "code_02")
+    assert_part(&rt, alloc, Service(0x22), "ReadDataByIdentifier")?;
+    assert_part(&rt, alloc, Service(0x02), "service_02")?;
+    assert_part(&rt, alloc, Code(0x31), "requestOutOfRange")?;
+    assert_part(&rt, alloc, Code(0x02), "code_02")
 }
 
 #[test]
 fn parts_are_said_one_after_another(rt: HostRuntime) -> Result<(), Fail> {
     let mut said = empty_sink(rt.alloc());
-    say_parts(&mut said, &[]);
-    say_parts(
-        &mut said,
-        &[
-            Part::Text("item "),
-            Part::Place(11),
-            Part::Text(": "),
-            Part::Service(0x3E),
-        ],
-    );
+    say(&mut said, ());
+    say(&mut said, ("item ", Place(11), ": ", Service(0x3E)));
     assert_kept(&rt, &said, "item 12: TesterPresent")
 }
 

@@ -354,7 +354,7 @@ fn reported(alloc: Global, session: Session) -> Result<Made, Fail> {
 }
 
 #[test]
-fn hold_two(rt: HostRuntime) -> Result<(), Fail> {
+fn keep_two(rt: HostRuntime) -> Result<(), Fail> {
     for session in SESSIONS {
         tell(held(rt.alloc(), session)?, session)?;
     }
@@ -373,9 +373,9 @@ fn held(alloc: Global, session: Session) -> Result<Made, Fail> {
     for made in TRIES {
         let mut log = Reading::new(session.log);
         let mut canonical = Reading::new(session.canonical);
-        let answer = trace_report::hold_two(alloc, &config()?, &mut log, &mut canonical);
+        let answer = trace_report::keep_two(alloc, &config()?, &mut log, &mut canonical);
         let mut writer = Writing::new(Page::new());
-        trace_report::write_pair_page(&title, &answer, &mut writer)?;
+        trace_report::write_pair_page(&title, &answer, None, &mut writer)?;
         let page = writer.into_inner();
         match answer {
             Err(CompareFault::Left(Fault::Memory) | CompareFault::Right(Fault::Memory)) => {

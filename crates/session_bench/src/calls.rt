@@ -8,7 +8,7 @@ use trace_canon::{
 };
 use trace_io::{Bytes, Writing};
 use trace_log::Config;
-use trace_report::{PairTitle, hold_two, report, report_style, write_pair_page};
+use trace_report::{PairTitle, keep_two, report, report_style, write_pair_page};
 use trace_text::{ItemStyle, Notation, Numbering};
 
 /// Lines with their numbers.
@@ -105,12 +105,12 @@ pub(crate) fn run_pair_page(
         tester: config.tester(),
         unit: config.unit(),
     };
-    let held = hold_two(alloc, config, &mut Bytes::new(left), &mut Bytes::new(right));
-    let _ = write_pair_page(&title, &held, &mut writer);
-    match &held {
+    let kept = keep_two(alloc, config, &mut Bytes::new(left), &mut Bytes::new(right));
+    let _ = write_pair_page(&title, &kept, None, &mut writer);
+    match &kept {
         Ok(both) => {
-            digest.count(Some(&both.left.summary()));
-            digest.count(Some(&both.right.summary()));
+            digest.count(Some(&both.left().summary()));
+            digest.count(Some(&both.right().summary()));
         }
         Err(_fault) => digest.count(None),
     }

@@ -15,7 +15,7 @@ use isotp_receive::Pair;
 use std::alloc::{AllocError, Global};
 use trace_io::{Source, TextSink};
 use trace_log::{Config, Fault, Summary};
-use trace_run::{Machine, Nowhere, Seen, Stop, run};
+use trace_run::{Glimpse, Machine, Nowhere, Seen, Stop, run};
 use uds_exchange::{Judged, JudgedPairing, Meaning, Step};
 
 /// What an accepted log means, and what was counted in it.
@@ -141,6 +141,7 @@ fn has_place(step: Step) -> bool
 }
 
 impl Machine for Collector {
+    ghost use Rattle.trace_run.specs.Told.{tells_no_refusal};
     ghost use Rattle.isotp_receive.specs.declared.TheConstants.{MESSAGE_LIMIT};
     ghost use Rattle.isotp_receive.specs.Verdict.{messages};
     ghost use Rattle.trace_canon.specs.Keeping.{CompletesMessage};
@@ -151,6 +152,8 @@ impl Machine for Collector {
     ghost stands = { λ start T now. Collects start.config (messages MESSAGE_LIMIT T) now.pairing now.length now.config };
 
     ghost script = { λ start. silent_script };
+
+    ghost refusal = { λ start. tells_no_refusal };
 
     ghost answers = { λ start. answers_session start.config };
 
@@ -193,5 +196,11 @@ impl Machine for Collector {
         })
     }
 
-    fn refused<S: TextSink>(self, _summary: &Summary, _why: Fault, _out: &mut S) {}
+    fn refused<S: TextSink>(
+        self,
+        _summary: &Summary,
+        _why: Fault,
+        _source: Glimpse<'_>,
+        _out: &mut S,
+    ) {}
 }

@@ -4,8 +4,8 @@ ghost use Rattle.uds_exchange.specs.ItemSeen.{item_value};
 ghost use Rattle.trace_canon.specs.ComparisonText.{shown_text};
 
 use trace_io::TextSink;
-use trace_text::say::say_parts;
-use trace_text::{Notation, Numbering, Part, say_item_object, say_worded};
+use trace_text::say::say_text;
+use trace_text::{Notation, Numbering, say_item_object, say_worded};
 use uds_exchange::{Item, Meaning};
 
 /// Says the item at a place of a meaning, or that there is none.
@@ -41,7 +41,7 @@ fn say_nothing<S: TextSink>(notation: Notation, out: &mut S)
     ensures { (number : ℕ) → S.says out.old (shown_text notation number None) out.new }
 {
     match notation {
-        Notation::Text => say_parts(out, &[Part::Text("nothing\n")]),
-        Notation::Json => say_parts(out, &[Part::Text("null")]),
+        Notation::Text => say_text(out, "nothing\n"),
+        Notation::Json => say_text(out, "null"),
     }
 }

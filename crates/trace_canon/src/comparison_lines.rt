@@ -6,11 +6,12 @@ ghost use Rattle.trace_io.specs.Counted.{IsLowCount};
 use crate::compared_items::say_item_at;
 use crate::comparing::{Compared, Comparison};
 use crate::comparison_objects::say_comparison_object;
+use text_parts::say;
 use trace_io::{Target, TextSink};
 use trace_log::Fault;
 use trace_run::{Printable, print};
-use trace_text::say::say_parts;
-use trace_text::{Notation, Part};
+use trace_text::say::say_text;
+use trace_text::{Notation, Place};
 
 /// How a comparison is written.
 #[derive(Clone, Copy, Debug, PartialEq, Eq)]
@@ -61,16 +62,9 @@ fn say_lines<S: TextSink>(compared: &Compared, shows_items: bool, out: &mut S)
     ensures { S.says out.old (comparison_lines shows_items compared.now.comparison compared.now.left.meaning compared.now.right.meaning) out.new }
 {
     match compared.comparison {
-        Comparison::Same => say_parts(out, &[Part::Text("same\n")]),
+        Comparison::Same => say_text(out, "same\n"),
         Comparison::Different { item } => {
-            say_parts(
-                out,
-                &[
-                    Part::Text("different at item "),
-                    Part::Place(item),
-                    Part::Text("\n"),
-                ],
-            );
+            say(out, ("different at item ", Place(item), "\n"));
             if shows_items {
                 say_items_at(compared, item, out);
             }
@@ -82,8 +76,8 @@ fn say_lines<S: TextSink>(compared: &Compared, shows_items: bool, out: &mut S)
 fn say_items_at<S: TextSink>(compared: &Compared, place: usize, out: &mut S)
     ensures { S.says out.old (shown_lines place compared.now.left.meaning compared.now.right.meaning) out.new }
 {
-    say_parts(out, &[Part::Text("left: ")]);
+    say_text(out, "left: ");
     say_item_at(&compared.left.meaning, place, Notation::Text, out);
-    say_parts(out, &[Part::Text("right: ")]);
+    say_text(out, "right: ");
     say_item_at(&compared.right.meaning, place, Notation::Text, out);
 }

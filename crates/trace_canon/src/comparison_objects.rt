@@ -4,9 +4,10 @@ ghost use Rattle.trace_text.specs.Json.{object_line};
 
 use crate::compared_items::say_item_at;
 use crate::comparing::{Compared, Comparison};
+use text_parts::say;
 use trace_io::TextSink;
-use trace_text::say::say_parts;
-use trace_text::{Notation, Part};
+use trace_text::say::say_text;
+use trace_text::{Notation, Place};
 
 /// Says how two logs compare, as an object in a line.
 pub(crate) fn say_comparison_object<S: TextSink>(
@@ -17,17 +18,10 @@ pub(crate) fn say_comparison_object<S: TextSink>(
     ensures { S.says out.old (object_line (comparison_members shows_items compared.now.comparison compared.now.left.meaning compared.now.right.meaning)) out.new }
 {
     match compared.comparison {
-        Comparison::Same => say_parts(out, &[Part::Text("{\"same\":true}\n")]),
+        Comparison::Same => say_text(out, "{\"same\":true}\n"),
         Comparison::Different { item } if shows_items => say_shown_object(compared, item, out),
         Comparison::Different { item } => {
-            say_parts(
-                out,
-                &[
-                    Part::Text("{\"same\":false,\"item\":"),
-                    Part::Place(item),
-                    Part::Text("}\n"),
-                ],
-            );
+            say(out, ("{\"same\":false,\"item\":", Place(item), "}\n"));
         }
     }
 }
@@ -36,16 +30,12 @@ pub(crate) fn say_comparison_object<S: TextSink>(
 fn say_shown_object<S: TextSink>(compared: &Compared, place: usize, out: &mut S)
     ensures { S.says out.old (object_line (different_members place (shown_members place compared.now.left.meaning compared.now.right.meaning))) out.new }
 {
-    say_parts(
+    say(
         out,
-        &[
-            Part::Text("{\"same\":false,\"item\":"),
-            Part::Place(place),
-            Part::Text(",\"left\":"),
-        ],
+        ("{\"same\":false,\"item\":", Place(place), ",\"left\":"),
     );
     say_item_at(&compared.left.meaning, place, Notation::Json, out);
-    say_parts(out, &[Part::Text(",\"right\":")]);
+    say_text(out, ",\"right\":");
     say_item_at(&compared.right.meaning, place, Notation::Json, out);
-    say_parts(out, &[Part::Text("}\n")]);
+    say_text(out, "}\n");
 }

@@ -14,7 +14,7 @@ use isotp_receive::{Ended, Event, Pair, Verdict};
 use std::alloc::{AllocError, Global};
 use trace_io::{Source, Target, TextSink};
 use trace_log::{Config, Fault, Summary};
-use trace_run::{Machine, Seen, Stop, run_lenient};
+use trace_run::{Glimpse, Machine, Seen, Stop, run_lenient};
 use trace_text::{Notation, Remark, say_remark};
 
 /// Reads a log and writes a line for each reception that ended without its message and for each frame that was dropped, as
@@ -49,7 +49,7 @@ struct Explainer {
 impl Machine for Explainer {
     ghost use Rattle.std.specs.Prelude.{◌≡◌};
     ghost use Rattle.isotp_receive.specs.declared.TheConstants.{MESSAGE_LIMIT};
-    ghost use Rattle.trace_run.specs.Told.{answers_counts};
+    ghost use Rattle.trace_run.specs.Told.{answers_counts, tells_no_refusal};
     ghost use Rattle.trace_canon.specs.ExplainScript.{explain_script};
 
     type Answer = Summary;
@@ -57,6 +57,8 @@ impl Machine for Explainer {
     ghost stands = { λ start T now. now.notation ≡ start.notation };
 
     ghost script = { λ start. explain_script start.notation MESSAGE_LIMIT };
+
+    ghost refusal = { λ start. tells_no_refusal };
 
     ghost answers = { λ start. answers_counts };
 
@@ -83,7 +85,13 @@ impl Machine for Explainer {
         Ok(*summary)
     }
 
-    fn refused<S: TextSink>(self, _summary: &Summary, _why: Fault, _out: &mut S) {}
+    fn refused<S: TextSink>(
+        self,
+        _summary: &Summary,
+        _why: Fault,
+        _source: Glimpse<'_>,
+        _out: &mut S,
+    ) {}
 }
 
 /// Says the lines of a frame, which is in this line and was sent by this side. Laid in line, where it is known of most frames

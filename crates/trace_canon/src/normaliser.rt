@@ -19,7 +19,7 @@ use isotp_receive::Pair;
 use std::alloc::{AllocError, Global};
 use trace_io::{Source, Target, TextSink};
 use trace_log::{Config, Fault, Summary};
-use trace_run::{Machine, Seen, Stop, run};
+use trace_run::{Glimpse, Machine, Seen, Stop, run};
 use uds_exchange::JudgedOrderer;
 
 /// Reads a log and writes the canonical lines of its messages, each as soon as its place is known.
@@ -86,6 +86,7 @@ pub(crate) struct Normaliser {
 }
 
 impl Machine for Normaliser {
+    ghost use Rattle.trace_run.specs.Told.{tells_no_refusal};
     ghost use Rattle.isotp_receive.specs.declared.TheConstants.{MESSAGE_LIMIT};
     ghost use Rattle.trace_canon.specs.Keeping.{CompletesHeld};
     ghost use Rattle.trace_canon.specs.CanonicalScript.{StandsCanonical, answers_canonical, canonical_script};
@@ -95,6 +96,8 @@ impl Machine for Normaliser {
     ghost stands = { λ start T now. StandsCanonical start.config T now.orderer now.config now.progress };
 
     ghost script = { λ start. canonical_script start.config };
+
+    ghost refusal = { λ start. tells_no_refusal };
 
     ghost answers = { λ start. answers_canonical start.config };
 
@@ -140,5 +143,11 @@ impl Machine for Normaliser {
         Ok(*summary)
     }
 
-    fn refused<S: TextSink>(self, _summary: &Summary, _why: Fault, _out: &mut S) {}
+    fn refused<S: TextSink>(
+        self,
+        _summary: &Summary,
+        _why: Fault,
+        _source: Glimpse<'_>,
+        _out: &mut S,
+    ) {}
 }

@@ -1,9 +1,9 @@
 //! The text of the pairs of a log, said pair by pair.
 ghost use Rattle.trace_canon.specs.Found.{pair_line, pairs_text};
 
+use text_parts::say;
 use trace_io::TextSink;
-use trace_text::say::say_parts;
-use trace_text::{Notation, Part};
+use trace_text::{Notation, Number, Spelled};
 use uds_find::CreditLine;
 
 /// Says the line of each pair, in order.
@@ -20,28 +20,28 @@ fn say_pair<S: TextSink>(pair: &CreditLine, notation: Notation, out: &mut S)
     ensures { S.says out.old (pair_line notation pair.now) out.new }
 {
     match notation {
-        Notation::Text => say_parts(
+        Notation::Text => say(
             out,
-            &[
-                Part::Number(pair.credits.0),
-                Part::Text(" --tester "),
-                Part::Spelled(pair.tester.as_slice()),
-                Part::Text(" --unit "),
-                Part::Spelled(pair.unit.as_slice()),
-                Part::Text("\n"),
-            ],
+            (
+                Number(pair.credits.0),
+                " --tester ",
+                Spelled(pair.tester.as_slice()),
+                " --unit ",
+                Spelled(pair.unit.as_slice()),
+                "\n",
+            ),
         ),
-        Notation::Json => say_parts(
+        Notation::Json => say(
             out,
-            &[
-                Part::Text("{\"credits\":"),
-                Part::Number(pair.credits.0),
-                Part::Text(",\"tester\":\""),
-                Part::Spelled(pair.tester.as_slice()),
-                Part::Text("\",\"unit\":\""),
-                Part::Spelled(pair.unit.as_slice()),
-                Part::Text("\"}\n"),
-            ],
+            (
+                "{\"credits\":",
+                Number(pair.credits.0),
+                ",\"tester\":\"",
+                Spelled(pair.tester.as_slice()),
+                "\",\"unit\":\"",
+                Spelled(pair.unit.as_slice()),
+                "\"}\n",
+            ),
         ),
     }
 }

@@ -12,7 +12,7 @@ use isotp_receive::Pair;
 use std::alloc::{AllocError, Global};
 use trace_io::{Source, Target, TextSink};
 use trace_log::{Config, Fault, Summary};
-use trace_run::{Machine, Seen, Stop, run_lenient};
+use trace_run::{Glimpse, Machine, Seen, Stop, run_lenient};
 use trace_text::Notation;
 use trace_text::names::role_name;
 use trace_text::say::{say_bytes, say_direction, say_number, say_text};
@@ -54,13 +54,15 @@ impl Machine for Placer {
     ghost use Rattle.isotp_receive.specs.declared.TheConstants.{MESSAGE_LIMIT};
     ghost use Rattle.trace_canon.specs.proving.Begun.{PlacesMessages};
     ghost use Rattle.trace_canon.specs.MessageLines.{placing_script};
-    ghost use Rattle.trace_run.specs.Told.{answers_counts};
+    ghost use Rattle.trace_run.specs.Told.{answers_counts, tells_no_refusal};
 
     type Answer = Summary;
 
     ghost stands = { λ start T now. PlacesMessages start.notation T now.notation now.begun };
 
     ghost script = { λ start. placing_script start.notation MESSAGE_LIMIT };
+
+    ghost refusal = { λ start. tells_no_refusal };
 
     ghost answers = { λ start. answers_counts };
 
@@ -93,7 +95,13 @@ impl Machine for Placer {
         Ok(*summary)
     }
 
-    fn refused<S: TextSink>(self, _summary: &Summary, _why: Fault, _out: &mut S) {}
+    fn refused<S: TextSink>(
+        self,
+        _summary: &Summary,
+        _why: Fault,
+        _source: Glimpse<'_>,
+        _out: &mut S,
+    ) {}
 }
 
 /// Says the line of a message that has its first frame and its last one in these places.

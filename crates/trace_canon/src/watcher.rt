@@ -16,7 +16,7 @@ use isotp_receive::Pair;
 use std::alloc::{AllocError, Global};
 use trace_io::{Source, Target, TextSink};
 use trace_log::{Config, Fault, Summary};
-use trace_run::{Machine, Seen, Stop, run_lenient};
+use trace_run::{Glimpse, Machine, Seen, Stop, run_lenient};
 use trace_text::{ItemStyle, say_item};
 use uds_exchange::{Decider, Item, ItemSink, Judged};
 
@@ -61,7 +61,7 @@ pub(crate) struct Watcher {
 impl Machine for Watcher {
     ghost use Rattle.isotp_receive.specs.declared.TheConstants.{MESSAGE_LIMIT};
     ghost use Rattle.trace_canon.specs.Keeping.{CompletesKept};
-    ghost use Rattle.trace_run.specs.Told.{answers_counts};
+    ghost use Rattle.trace_run.specs.Told.{answers_counts, tells_no_refusal};
     ghost use Rattle.trace_canon.specs.WatchScript.{watching_script};
     ghost use Rattle.trace_canon.specs.proving.Watching.{WatchesItems};
 
@@ -70,6 +70,8 @@ impl Machine for Watcher {
     ghost stands = { λ start T now. WatchesItems start.style T now.decider now.style now.number };
 
     ghost script = { λ start. watching_script start.style };
+
+    ghost refusal = { λ start. tells_no_refusal };
 
     ghost answers = { λ start. answers_counts };
 
@@ -112,7 +114,13 @@ impl Machine for Watcher {
         Ok(*summary)
     }
 
-    fn refused<S: TextSink>(self, _summary: &Summary, _why: Fault, _out: &mut S) {}
+    fn refused<S: TextSink>(
+        self,
+        _summary: &Summary,
+        _why: Fault,
+        _source: Glimpse<'_>,
+        _out: &mut S,
+    ) {}
 }
 
 /// Says the line of each item that is put, numbered on from those before.

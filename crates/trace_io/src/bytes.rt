@@ -11,8 +11,8 @@ pub struct Bytes<'a> {
     rest: &'a [u8],
     reads: u64,
     given: u64,
-    // Only contracts look at these two.
     is_over: bool,
+    // Only contracts look at it.
     history: History,
 }
 
@@ -50,6 +50,8 @@ impl<'a> Source for Bytes<'a> {
 
     ghost remaining = { λ b. Some b.rest };
 
+    ghost first = { λ _. [] };
+
     ghost reads = { λ b. b.reads };
 
     ghost failures = { λ _. 0 };
@@ -63,6 +65,14 @@ impl<'a> Source for Bytes<'a> {
         self.is_over = n == 0 && !buf.is_empty();
         self.history.note(&buf[..n]);
         Ok(n)
+    }
+
+    fn first(&self) -> &[u8] {
+        &[]
+    }
+
+    fn has_ended(&self) -> bool {
+        self.is_over
     }
 
     fn reads(&self) -> u64 {

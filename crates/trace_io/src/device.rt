@@ -20,6 +20,9 @@ pub trait Source {
     /// The bytes still to come, where the source tells them. It need not: a socket does not.
     ghost remaining: { Self → Option (List ℕ) };
 
+    /// The first bytes that it gave, as many as it keeps. It need not keep any.
+    ghost first: { Self → List ℕ };
+
     /// How often it was read.
     ghost reads: { Self → ℕ };
 
@@ -48,6 +51,14 @@ pub trait Source {
 
         // where it tells the bytes to come, they are these
         ensures told { ReadConsumes (remaining self.old) (remaining self.new) result buf.new };
+
+    /// The first bytes that it gave, as many as it keeps.
+    fn first(&self) -> &[u8]
+        ensures { result.now ≡ first self.now };
+
+    /// Whether the last read had room and gave nothing: that is the end.
+    fn has_ended(&self) -> bool
+        ensures { result ≡ is_over self.now };
 
     /// How often it was read.
     fn reads(&self) -> u64

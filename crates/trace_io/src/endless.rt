@@ -1,5 +1,5 @@
 //! A source that never ends, for tests of what reads from it.
-ghost use Rattle.std.specs.Prelude.{◌≡◌, None, replicate, false};
+ghost use Rattle.std.specs.Prelude.{◌≡◌, None, [], replicate, false};
 
 use crate::device::{DeviceFault, Source};
 use std::marker::Model;
@@ -42,6 +42,8 @@ impl Source for Endless {
 
     ghost remaining = { λ _. None };
 
+    ghost first = { λ _. [] };
+
     ghost reads = { λ e. e.reads };
 
     ghost failures = { λ _. 0 };
@@ -54,6 +56,14 @@ impl Source for Endless {
         buf[0] = self.byte;
         self.given += 1;
         Ok(1)
+    }
+
+    fn first(&self) -> &[u8] {
+        &[]
+    }
+
+    fn has_ended(&self) -> bool {
+        false
     }
 
     fn reads(&self) -> u64 {

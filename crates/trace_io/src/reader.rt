@@ -15,8 +15,8 @@ pub struct Reading<R> {
     reads: u64,
     given: u64,
     failures: u64,
-    // Only contracts look at these two.
     is_over: bool,
+    // Only contracts look at it.
     history: History,
 }
 
@@ -63,6 +63,8 @@ impl<R: Read> Source for Reading<R> {
 
     ghost remaining = { λ r. R.remaining r.inner };
 
+    ghost first = { λ _. [] };
+
     ghost reads = { λ r. r.reads };
 
     ghost failures = { λ r. r.failures };
@@ -82,6 +84,14 @@ impl<R: Read> Source for Reading<R> {
                 Err(DeviceFault)
             }
         }
+    }
+
+    fn first(&self) -> &[u8] {
+        &[]
+    }
+
+    fn has_ended(&self) -> bool {
+        self.is_over
     }
 
     fn reads(&self) -> u64 {

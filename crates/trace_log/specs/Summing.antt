@@ -8,6 +8,7 @@ use Rattle.can_log.specs.declared.frame.Stamped.{Stamped}
 use Rattle.isotp_receive.specs.Events.{is_dropped, dropped_in, ended_in, unfinished_in}
 use Rattle.isotp_receive.specs.Trace.{Entry, same_direction}
 use Rattle.isotp_receive.specs.Verdict.{VerdictValue, EventValue, message, began, stored, flowed, dropped, messages}
+use Rattle.uds_exchange.specs.Exchanged.{look_exchanged}
 use Rattle.uds_exchange.specs.Meaning.{removed_messages}
 use Rattle.trace_log.specs.declared.summary.Count.{Count}
 use Rattle.trace_log.specs.declared.summary.Summary.{Summary}
@@ -41,6 +42,7 @@ counted_in limit T = record {
   unfinished = 0;
   pending = 0;
   ends_in_line_feed = false;
+  looks_exchanged = false;
 }
 
 -- the counts of a log whose lines mean this
@@ -51,6 +53,7 @@ summary_of limit settings log meanings = record (counted_in limit (trace setting
   unfinished = unfinished_in limit (trace settings meanings);
   pending = length (removed_messages (messages_of_lines limit settings meanings));
   ends_in_line_feed = ends_in_line_feed log;
+  looks_exchanged = look_exchanged (messages_of_lines limit settings meanings);
 }
 
 -- the counts that are told, in this order, each behind its name

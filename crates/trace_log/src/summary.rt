@@ -31,6 +31,8 @@ pub struct Summary {
     pub pending: u64,
     /// Whether the last byte of the log is a line feed. A log without bytes has none.
     pub ends_in_line_feed: bool,
+    /// Whether tester and unit look exchanged: the tester sent responses and no request, and the unit what is no response.
+    pub looks_exchanged: bool,
 }
 
 /// The name of a count, and its number.
@@ -38,7 +40,7 @@ pub struct Summary {
 pub struct Count(pub &'static str, pub u64);
 
 impl Summary {
-    /// The counts before the first line: all 0, with no line feed at the end.
+    /// The counts before the first line: all 0, with no line feed at the end, and no sides that look exchanged.
     pub fn nothing() -> Summary
         ensures { result ≡ counted_in MESSAGE_LIMIT [] }
     {
@@ -53,6 +55,7 @@ impl Summary {
             unfinished: 0,
             pending: 0,
             ends_in_line_feed: false,
+            looks_exchanged: false,
         }
     }
 

@@ -14,12 +14,16 @@ mod ItemComparisons
 mod ItemValues
 mod SessionItems
 mod Agreeing
+mod Placing
+mod Keeping
+mod Comparing
 mod PairTexts
-mod PairCounting
-mod FewPairs
 mod Distinct
 mod LineOrder
 mod RowTargets
 mod Identifiers
 pub mod Harmless
+pub mod ToldAnswers
+pub mod ToldTimes
 mod PagesInMemory
+pub mod Signs

@@ -1,5 +1,5 @@
 -- What is known of calls over devices is known of pages in memory.
-use Rattle.std.proofs.Common.{◌≡◌, ◌≢◌, ℕ, List, [], ◌++◌, Result, Ok, Err, ap, sym, subst, ◌∙◌}
+use Rattle.std.proofs.Common.{◌≡◌, ◌≢◌, ℕ, List, [], ◌++◌, Result, Ok, Err, None, ap, sym, subst, ◌∙◌}
 use Rattle.std.specs.Prelude.{IfErr}
 use Rattle.trace_canon.specs.Compared.{fault_in}
 use Rattle.trace_canon.specs.declared.counted.CountedComparison.{CountedComparison}
@@ -11,13 +11,12 @@ use Rattle.trace_log.specs.declared.fault.CompareFault.{CompareFault}
 use Rattle.trace_log.specs.declared.fault.CompareFault.TheVariants.{Left, Right}
 use Rattle.trace_log.specs.declared.fault.Fault.{Fault}
 use Rattle.trace_log.specs.declared.fault.Fault.TheVariants.{Memory, Read, Write}
-use Rattle.trace_report.specs.Held.{HasOwnFrame, HoldsTwo}
+use Rattle.trace_report.specs.Held.{HasOwnFrame, HoldsTwo, TwoValue}
 use Rattle.trace_report.specs.InMemory.{HoldsInMemory, IsPairPageWith, counted_held}
 use Rattle.trace_report.specs.PairPage.{PairTitleValue, pair_page}
-use Rattle.trace_report.specs.declared.held_session.Held.{Held}
 
 -- what two logs say, where no device fails
-pub held_in_memory : (limit : ℕ) (settings : Settings) (one other : List ℕ) (answer : Result Held CompareFault)
+pub held_in_memory : (limit : ℕ) (settings : Settings) (one other : List ℕ) (answer : Result TwoValue CompareFault)
     → FailedIf (Left Read) answer 0 0 → FailedIf (Right Read) answer 0 0 → IfErr answer (λ fault. fault_in fault ≢ Write)
     → (answer ≡ Err (Left Memory) → HasOwnFrame settings one) → (answer ≡ Err (Right Memory) → HasOwnFrame settings other)
     → HoldsTwo limit settings one other answer → HoldsInMemory limit settings one other answer
@@ -36,8 +35,8 @@ text_in_memory {A = A} result value old taken held text is old_is held_is wrote 
     all said = sym held_is ∙ said ∙ ap (λ xs. xs ++ text) old_is
 
 -- the page of two logs that are held
-pub page_of_held : (title : PairTitleValue) (limit : ℕ) (settings : Settings) (one other text : List ℕ) (answer : Result Held CompareFault) (held : Held) (counted : CountedComparison)
-    → answer ≡ Ok held → HoldsInMemory limit settings one other answer → text ≡ pair_page title answer → counted ≡ counted_held held
+pub page_of_held : (title : PairTitleValue) (limit : ℕ) (settings : Settings) (one other text : List ℕ) (answer : Result TwoValue CompareFault) (held : TwoValue) (counted : CountedComparison)
+    → answer ≡ Ok held → HoldsInMemory limit settings one other answer → text ≡ pair_page title answer None → counted ≡ counted_held held
     → IsPairPageWith title limit settings one other text counted
 page_of_held title limit settings one other text answer held counted is holds said counts =
-    (held, subst (HoldsInMemory limit settings one other) is holds, said ∙ ap (pair_page title) is, counts)
+    (held, subst (HoldsInMemory limit settings one other) is holds, said ∙ ap (λ (a : Result TwoValue CompareFault). pair_page title a None) is, counts)

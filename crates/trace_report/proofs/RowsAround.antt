@@ -101,6 +101,32 @@ found-around number (row ∷ rest) =
     ap exchange_rows (walk number (row ∷ rest) (row ∷ rest) ∙ walk-by (list_any begins_exchange to) (row ∷ rest) to behind refl (parted number (row ∷ rest)))
     ∙ exchange row (if begins_number number row then [] else rows_to_item number rest) behind
 
+-- The same walk by the places of rows.
+
+start-by : (begins : Bool) (rows rest : List RowValue) (row : RowValue) (start at : ℕ) → drop at rows ≡ row ∷ rest
+    → (if begins then row ∷ rest else drop start rows) ≡ drop (if begins then at else start) rows
+start-by true rows rest row start at is = sym is
+start-by false rows rest row start at is = refl
+
+module _ (number : ℕ) (rows rest : List RowValue) (row : RowValue) (start at : ℕ) (is : drop at rows ≡ row ∷ rest) where
+  abbrev start-then : ℕ
+  start-then = if begins_exchange row then at else start
+
+  from-then : rows_from_request number (drop start rows) (drop at rows)
+      ≡ (if begins_number number row then drop start-then rows else rows_from_request number (drop start-then rows) rest)
+  from-then =
+      ap (rows_from_request number (drop start rows)) is
+      ∙ ap (λ from. if begins_number number row then from else rows_from_request number from rest) (start-by (begins_exchange row) rows rest row start at is)
+
+  pub request-here : begins_number number row ≡ true → rows_from_request number (drop start rows) (drop at rows) ≡ drop start-then rows
+  request-here here =
+      from-then ∙ ap (λ (is : Bool). if is then drop start-then rows else rows_from_request number (drop start-then rows) rest) here
+
+  pub request-later : begins_number number row ≡ false
+      → rows_from_request number (drop start rows) (drop at rows) ≡ rows_from_request number (drop start-then rows) rest
+  request-later later =
+      from-then ∙ ap (λ (is : Bool). if is then drop start-then rows else rows_from_request number (drop start-then rows) rest) later
+
 -- The item is among them.
 
 -- before the item no row begins it

@@ -7,7 +7,6 @@ use Rattle.can_log.specs.Canonical.{identifier_text}
 use Rattle.can_log.specs.Digits.{hexadecimal}
 use Rattle.can_log.specs.declared.frame.Id.{Id}
 use Rattle.trace_log.specs.Settings.{Settings}
-use Rattle.trace_report.specs.Joined.{joined}
 use Rattle.trace_report.specs.Words.{is_within}
 
 -- a byte by its number: % and two digits
@@ -29,16 +28,17 @@ name_byte b =
 abbrev pub name_text : List ℕ → List ℕ
 name_text name = flat_map name_byte name
 
--- What a page is made for: its style, the name of the log, and the identifiers.
+-- What a page is made for: its style, the name of the log, the identifiers, and the limit of the log.
 pub record PageTitle : Type 0 where
   pub style : List ℕ
   pub name : List ℕ
   pub tester : Id
   pub unit : Id
+  pub most : ℕ
 
 -- of a log with this name and this configuration
 abbrev pub page_title : List ℕ → List ℕ → Settings → PageTitle
-page_title style name settings = record { style = style; name = name; tester = settings.tester; unit = settings.unit }
+page_title style name settings = record { style = style; name = name; tester = settings.tester; unit = settings.unit; most = settings.max_bytes }
 
 -- nothing may be fetched and nothing may run
 abbrev pub page_start : List ℕ
@@ -70,10 +70,10 @@ shapes_text =
 -- breaks off, which is hidden unless the style shows it, where the end of the page is missing
 abbrev pub notice_with : List ℕ → List ℕ → List ℕ
 notice_with verdict middle =
-    joined (codes "<p class=\"skip\"><a href=\"#verdict\">" ∷ verdict ∷ codes "</a> <a href=\"#session\">" ∷ middle
-    ∷ codes "</a> <a href=\"#help\">How to read this page</a></p>\n"
-    ∷ codes "<p id=\"cut\" role=\"status\" hidden>This page has no end. What wrote it was stopped, or the file was cut, or the page is still loading: it tells nothing of the rest of the session.</p>\n"
-    ∷ codes "</header>\n" ∷ [])
+    codes "<p class=\"skip\"><a href=\"#verdict\">" ++ verdict ++ codes "</a> <a href=\"#session\">" ++ middle
+    ++ codes "</a> <a href=\"#help\">How to read this page</a></p>\n"
+    ++ codes "<p id=\"cut\" role=\"status\" hidden>This page has no end. What wrote it was stopped, or the file was cut, or the page is still loading: it tells nothing of the rest of the session.</p>\n"
+    ++ codes "</header>\n"
 
 -- of one log: its verdict is written last, which the style alone shows first and hides the word of
 abbrev pub notice_text : List ℕ

@@ -14,7 +14,11 @@ use Rattle.trace_log.specs.declared.fault.Fault.{Fault}
 use Rattle.trace_report.specs.Contrast.{FirstContrast, first_contrast}
 use Rattle.trace_report.specs.Items.{ItemPair, items_in, pairs_of}
 use Rattle.trace_report.specs.Session.{SessionValue, session_of}
-use Rattle.trace_report.specs.declared.held_session.Held.{Held}
+
+-- What two logs say, which are kept.
+pub record TwoValue : Type 0 where
+  pub left : SessionValue
+  pub right : SessionValue
 
 -- What is answered of a log: what it says, where it can be read to its end, and else why it can't. No length that is
 -- announced and no canonical log refuses it.
@@ -26,7 +30,7 @@ HoldsOne limit settings log (Err fault) = IsUnreadFor false limit settings log f
 
 -- What is answered of two logs: what both say; else why the first can't be read; or why the second can't, where the
 -- first can.
-abbrev pub HoldsTwo : ℕ → Settings → List ℕ → List ℕ → Result Held CompareFault → Type 0
+abbrev pub HoldsTwo : ℕ → Settings → List ℕ → List ℕ → Result TwoValue CompareFault → Type 0
 HoldsTwo limit settings one other (Ok held) = HoldsOne limit settings one (Ok held.left) × HoldsOne limit settings other (Ok held.right)
 HoldsTwo limit settings one other (Err (Left fault)) = HoldsOne limit settings one (Err fault)
 HoldsTwo limit settings one other (Err (Right fault)) =
@@ -37,7 +41,7 @@ abbrev pub HasOwnFrame : Settings → List ℕ → Type 0
 HasOwnFrame = HasFrame (λ T e. ⊤)
 
 -- the items of both, number by number
-abbrev pub pairs_in : Held → List ItemPair
+abbrev pub pairs_in : TwoValue → List ItemPair
 pairs_in held = pairs_of (items_in held.left.rows) (items_in held.right.rows)
 
 -- the place of a first difference
@@ -46,5 +50,5 @@ comparison_by None = Same
 comparison_by (Some first) = Different first.before
 
 -- what they are to each other
-abbrev pub comparison_in : Held → Comparison
+abbrev pub comparison_in : TwoValue → Comparison
 comparison_in held = comparison_by (first_contrast (pairs_in held))

@@ -1,6 +1,6 @@
 -- What is answered of a page of logs that lie in memory. No device fails there: what has no page can't be read, or memory
 -- was refused.
-use Rattle.std.specs.Prelude.{◌≡◌, ⊤, ℕ, List, Result, Ok, Err}
+use Rattle.std.specs.Prelude.{◌≡◌, ⊤, ℕ, List, None, Result, Ok, Err}
 use Rattle.trace_canon.specs.Compared.{fault_in}
 use Rattle.trace_canon.specs.InMemory.{IsOfMemory, IsToldWith}
 use Rattle.trace_canon.specs.declared.counted.CountedComparison.{CountedComparison}
@@ -9,29 +9,28 @@ use Rattle.trace_log.specs.declared.fault.CompareFault.{CompareFault}
 use Rattle.trace_log.specs.declared.fault.CompareFault.TheVariants.{Left, Right}
 use Rattle.trace_log.specs.declared.summary.Summary.{Summary}
 use Rattle.trace_report.specs.Front.{PageTitle}
-use Rattle.trace_report.specs.Held.{HasOwnFrame, HoldsTwo, comparison_in}
-use Rattle.trace_report.specs.Page.{report_script}
+use Rattle.trace_report.specs.Held.{HasOwnFrame, HoldsTwo, TwoValue, comparison_in}
+use Rattle.trace_report.specs.Page.{nothing_seen, report_script}
 use Rattle.trace_report.specs.PairPage.{PairTitleValue, pair_page}
-use Rattle.trace_report.specs.declared.held_session.Held.{Held}
 use Rattle.trace_report.specs.declared.in_memory.NoPairPage.{NoPairPage}
 use Rattle.trace_report.specs.declared.in_memory.NoPairPage.TheVariants.{OfLog, OfMemory}
 
 -- the log can be read and has these counts, and this is the page with this title
 abbrev pub IsPageWith : PageTitle → ℕ → Settings → List ℕ → List ℕ → Summary → Type 0
-IsPageWith title limit = IsToldWith (report_script title limit) limit
+IsPageWith title limit = IsToldWith (report_script title limit nothing_seen) limit
 
 -- memory is needed to gather a page: each has its front
 abbrev pub NeedsMemoryForPage : ℕ → Settings → List ℕ → Type 0
 NeedsMemoryForPage limit settings log = ⊤
 
 -- how two logs compare that are held, and the counts of each
-abbrev pub counted_held : Held → CountedComparison
+abbrev pub counted_held : TwoValue → CountedComparison
 counted_held held = record { comparison = comparison_in held; left = held.left.summary; right = held.right.summary }
 
 -- both logs can be read; this is their page with this title; and so they compare, and these are the counts of each
 abbrev pub IsPairPageWith : PairTitleValue → ℕ → Settings → List ℕ → List ℕ → List ℕ → CountedComparison → Type 0
 IsPairPageWith title limit settings one other text counted =
-    (held : Held) × HoldsTwo limit settings one other (Ok held) × (text ≡ pair_page title (Ok held)) × (counted ≡ counted_held held)
+    (held : TwoValue) × HoldsTwo limit settings one other (Ok held) × (text ≡ pair_page title (Ok held) None) × (counted ≡ counted_held held)
 
 -- memory is needed to hold the log of which a fault tells: it has a frame of one of the two sides
 abbrev pub NeedsMemoryToHold : Settings → List ℕ → List ℕ → CompareFault → Type 0
@@ -39,7 +38,7 @@ NeedsMemoryToHold settings one other (Left fault) = HasOwnFrame settings one
 NeedsMemoryToHold settings one other (Right fault) = HasOwnFrame settings other
 
 -- what both logs say, or why one of them can't be read
-abbrev pub HoldsInMemory : ℕ → Settings → List ℕ → List ℕ → Result Held CompareFault → Type 0
+abbrev pub HoldsInMemory : ℕ → Settings → List ℕ → List ℕ → Result TwoValue CompareFault → Type 0
 HoldsInMemory limit settings one other (Ok held) = HoldsTwo limit settings one other (Ok held)
 HoldsInMemory limit settings one other (Err fault) =
     HoldsTwo limit settings one other (Err fault) × IsOfMemory (NeedsMemoryToHold settings one other fault) (fault_in fault)
@@ -48,4 +47,4 @@ HoldsInMemory limit settings one other (Err fault) =
 -- for the page was
 abbrev pub HasNoPairPage : ℕ → Settings → List ℕ → List ℕ → NoPairPage → Type 0
 HasNoPairPage limit settings one other (OfLog fault) = HoldsInMemory limit settings one other (Err fault)
-HasNoPairPage limit settings one other OfMemory = (held : Held) × HoldsTwo limit settings one other (Ok held)
+HasNoPairPage limit settings one other OfMemory = (held : TwoValue) × HoldsTwo limit settings one other (Ok held)

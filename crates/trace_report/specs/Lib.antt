@@ -1,4 +1,3 @@
-pub mod Joined
 pub mod Words
 pub mod Front
 pub mod Targets
@@ -8,6 +7,8 @@ pub mod Events
 pub mod Sorts
 pub mod Links
 pub mod Counts
+pub mod Looks
+pub mod Causes
 pub mod Verdict
 pub mod Help
 pub mod Page

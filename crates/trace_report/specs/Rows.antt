@@ -173,36 +173,32 @@ message_row origin is d place bytes =
 
 -- Brief rows: the front of a row, and one line of words without a shape. What needs a look has its full row.
 
--- what stands before its words
-abbrev pub brief_front : ℕ → MessageRole → Dir → MessagePlace → List ℕ
-brief_front origin is d place = message_front true origin is place ++ codes "<td class=\"" ++ side_text d ++ codes "\">"
+-- a message needs a look: its full row stands there, too
+abbrev pub needs_look : MessageRole → Bool
+needs_look role.Request = false
+needs_look (role.Positive asked) = false
+needs_look (role.Negative asked) = true
+needs_look (role.Pending asked) = false
+needs_look role.KeepAlive = false
+needs_look role.Stray = true
+
+-- the words of a brief row, of a message that needs no look
+abbrev pub brief_words : MessageRole → ℕ → List ℕ → List ℕ
+brief_words role.Request first bytes = service_text (sid bytes) ++ codes " request " ++ brief_data bytes ++ codes " &#8594;"
+brief_words (role.Positive asked) first bytes = codes "&#8592; positive " ++ brief_data bytes ++ codes " " ++ after_text asked first
+brief_words (role.Negative asked) first bytes = []
+brief_words (role.Pending asked) first bytes = codes "&#8592; pending " ++ brief_data bytes ++ codes " " ++ after_text asked first
+brief_words role.KeepAlive first bytes = codes "keep-alive " ++ brief_data bytes ++ codes " &#8594;"
+brief_words role.Stray first bytes = []
 
 -- a row of such words
 abbrev pub brief_row : ℕ → MessageRole → Dir → MessagePlace → List ℕ → List ℕ
-brief_row origin is d place words = brief_front origin is d place ++ words ++ codes "\n"
-
--- the words of a request
-abbrev pub brief_request : List ℕ → List ℕ
-brief_request bytes = service_text (sid bytes) ++ codes " request " ++ brief_data bytes ++ codes " &#8594;"
-
--- of the keep-alive
-abbrev pub brief_keep_alive : List ℕ → List ℕ
-brief_keep_alive bytes = codes "keep-alive " ++ brief_data bytes ++ codes " &#8594;"
-
--- of a reply
-abbrev pub brief_reply : List ℕ → ℕ → ℕ → List ℕ → List ℕ
-brief_reply kind asked first bytes = codes "&#8592; " ++ kind ++ codes " " ++ brief_data bytes ++ codes " " ++ after_text asked first
+brief_row origin is d place bytes =
+    message_front true origin is place ++ codes "<td class=\"" ++ side_text d ++ codes "\">" ++ brief_words is place.first.micros bytes ++ codes "\n"
 
 -- the row of a message in a block of brief rows
 abbrev pub brief_message : ℕ → MessageRole → Dir → MessagePlace → List ℕ → List ℕ
-brief_message origin role.Request d place bytes = brief_row origin role.Request d place (brief_request bytes)
-brief_message origin (role.Positive asked) d place bytes =
-    brief_row origin (role.Positive asked) d place (brief_reply (codes "positive") asked place.first.micros bytes)
-brief_message origin (role.Negative asked) d place bytes = message_row origin (role.Negative asked) d place bytes
-brief_message origin (role.Pending asked) d place bytes =
-    brief_row origin (role.Pending asked) d place (brief_reply (codes "pending") asked place.first.micros bytes)
-brief_message origin role.KeepAlive d place bytes = brief_row origin role.KeepAlive d place (brief_keep_alive bytes)
-brief_message origin role.Stray d place bytes = message_row origin role.Stray d place bytes
+brief_message origin is d place bytes = if needs_look is then message_row origin is d place bytes else brief_row origin is d place bytes
 
 -- the row of a message in either kind of block
 abbrev pub message_text : Bool → ℕ → MessageRole → Dir → MessagePlace → List ℕ → List ℕ
@@ -233,7 +229,7 @@ line_target number = codes " id=\"" ++ identifier (of_line number) ++ codes "\""
 
 -- unless those of this line lead to the row before
 abbrev pub target_unless : Bool → ℕ → List ℕ
-target_unless named line = if named then [] else line_target line
+target_unless named line = if not named then line_target line else []
 
 -- where a frame stands
 abbrev pub frame_front : ℕ → Bool → FramePlace → List ℕ
@@ -287,8 +283,7 @@ ended_row linked origin place end =
 
 -- a side, to which links lead on a page of one log
 abbrev pub side_target : Bool → Dir → List ℕ
-side_target true d = codes " id=\"" ++ identifier (of_side d) ++ codes "\""
-side_target false d = []
+side_target linked d = if linked then codes " id=\"" ++ identifier (of_side d) ++ codes "\"" else []
 
 -- the row of a reception that stands at the end
 abbrev pub unfinished_row : Bool → Dir → ℕ → ℕ → List ℕ

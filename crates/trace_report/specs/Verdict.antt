@@ -1,18 +1,23 @@
 -- The verdict of a report: whether the recording is clean, what needs a look, and all counts. It is known at the end,
 -- and written there; the style shows it first.
 use Rattle.std.specs.Fmt.{decimal}
-use Rattle.std.specs.Prelude.{ℕ, ◌==◌, ◌&&◌, ◌||◌, not, nat_lt, Bool, List, [], ◌∷◌, ◌++◌, codes, if◌then◌else◌}
+use Rattle.std.specs.Prelude.{ℕ, ◌==◌, ◌&&◌, ◌||◌, not, nat_lt, Bool, List, [], ◌++◌, codes, Option, if◌then◌else◌}
 use Rattle.trace_canon.specs.MessageLines.{stamp_text}
+use Rattle.trace_report.specs.Causes.{cause_line}
 use Rattle.trace_report.specs.Counts.{counts_text}
-use Rattle.trace_report.specs.Joined.{clause, joined}
 use Rattle.trace_report.specs.Links.{look_text}
 use Rattle.trace_report.specs.Words.{seconds_between}
 use Rattle.trace_log.specs.Summing.{is_clean}
+use Rattle.trace_report.specs.declared.cause.Cause.{Cause}
 use Rattle.trace_report.specs.declared.counts.SortCounts.{SortCounts}
 use Rattle.trace_report.specs.declared.tally.Tally.{Tally}
 use Rattle.trace_log.specs.declared.fault.Fault.{Fault}
 use Rattle.trace_log.specs.declared.fault.Fault.TheVariants as fault
 use Rattle.trace_log.specs.declared.summary.Summary.{Summary}
+
+-- a text, where it is so
+abbrev pub clause : Bool → List ℕ → List ℕ
+clause holds text = if holds then text else []
 
 -- from when to when
 abbrev pub span_text : ℕ → ℕ → List ℕ
@@ -38,6 +43,19 @@ unclean_start = codes "<section id=\"verdict\" class=\"warn\">\n<h2><span aria-h
 abbrev pub empty_start : List ℕ
 empty_start = codes "<section id=\"verdict\" class=\"warn\">\n<h2><span aria-hidden=\"true\">!</span> No frame of the tester or the unit</h2>\n<p>"
 
+-- tester and unit look exchanged
+abbrev pub exchanged_start : List ℕ
+exchanged_start = codes "<section id=\"verdict\" class=\"warn\">\n<h2><span aria-hidden=\"true\">!</span> Tester and unit look exchanged</h2>\n<p>"
+
+-- and the recording is not clean, either
+abbrev pub unclean_exchanged_start : List ℕ
+unclean_exchanged_start =
+    codes "<section id=\"verdict\" class=\"warn\">\n<h2><span aria-hidden=\"true\">!</span> The recording is not clean, and tester and unit look exchanged</h2>\n<p>"
+
+-- a page calls the recording clean: it is clean, and its sides don't look exchanged
+abbrev pub is_called_clean : Summary → Bool
+is_called_clean summary = is_clean summary && not summary.looks_exchanged
+
 -- of what was recorded something is in part
 abbrev pub is_partial : Summary → Bool
 is_partial summary = not (summary.dropped == 0) || (not (summary.ended == 0) || not (summary.unfinished == 0))
@@ -49,8 +67,8 @@ lacks_line_feed summary = nat_lt 0 summary.lines && not summary.ends_in_line_fee
 -- what was lost of its frames, in the words that `--strict` tells it
 abbrev pub lost_words : Summary → List ℕ
 lost_words summary =
-    joined (codes "<em>frames " ∷ decimal summary.frames ∷ codes " dropped " ∷ decimal summary.dropped ∷ codes " ended " ∷ decimal summary.ended
-    ∷ codes " unfinished " ∷ decimal summary.unfinished ∷ [])
+    codes "<em>frames " ++ decimal summary.frames ++ codes " dropped " ++ decimal summary.dropped ++ codes " ended " ++ decimal summary.ended
+    ++ codes " unfinished " ++ decimal summary.unfinished
 
 -- and what it lacks, in those words
 abbrev pub lacking_words : Summary → List ℕ
@@ -58,34 +76,47 @@ lacking_words summary =
     clause (summary.tester_frames == 0) (codes ", no frame of the tester") ++ clause (summary.unit_frames == 0) (codes ", no frame of the unit")
     ++ clause (lacks_line_feed summary) (codes ", no line feed at the end") ++ codes ".</em>"
 
+-- both
+abbrev pub strict_words : Summary → List ℕ
+strict_words summary = lost_words summary ++ lacking_words summary
+
 -- what it means that no frame is of the two sides
 abbrev pub empty_words : Bool → List ℕ
 empty_words has_no_line =
     if has_no_line then codes " The log is empty: it has no line."
     else codes " Either no line has a frame, or other identifiers are meant: see <code>--tester</code> and <code>--unit</code>."
 
+-- what it means that tester and unit look exchanged, behind what else there is to say
+abbrev pub exchanged_words : Summary → List ℕ
+exchanged_words summary =
+    clause (not (is_clean summary)) (codes " ")
+    ++ codes "No message is a request: the tester sent responses, and the unit messages that are none. See <code>--tester</code> and <code>--unit</code>."
+
 -- what that means for the messages below
 abbrev pub meaning_words : Summary → List ℕ
 meaning_words summary =
     clause (is_partial summary) (codes " Frames are missing, late, out of order or of no legal form. Messages that they belonged to are not below.")
     ++ clause (lacks_line_feed summary) (codes " The log ends inside its last line: it may be cut.")
-    ++ clause (summary.frames == 0) (empty_words (summary.lines == 0))
+    ++ clause (summary.frames == 0) (empty_words (summary.lines == 0)) ++ clause summary.looks_exchanged (exchanged_words summary)
 
--- each reason why a log is not clean: a frame of each side is wanted, all of what they sent, and the end of the last line
+-- each reason why a log is not called clean: a frame of each side is wanted, all of what they sent, the end of the last
+-- line, and that the sides don't look exchanged
 abbrev pub unclean_reasons : Summary → List ℕ
-unclean_reasons summary = lost_words summary ++ lacking_words summary ++ meaning_words summary
+unclean_reasons summary = clause (not (is_clean summary)) (strict_words summary) ++ meaning_words summary
 
--- the heading of a log that has no frame of the two sides, or is else not clean
-abbrev pub start_by : Bool → List ℕ
-start_by has_no_frame = if has_no_frame then empty_start else unclean_start
+-- the heading of a log that has no frame of the two sides, or whose sides look exchanged, or that is not clean
+abbrev pub start_by : Summary → List ℕ
+start_by summary =
+    if summary.frames == 0 then empty_start
+    else if summary.looks_exchanged then (if is_clean summary then exchanged_start else unclean_exchanged_start) else unclean_start
 
 -- each reason, with that
 abbrev pub unclean_verdict : Summary → List ℕ
-unclean_verdict summary = start_by (summary.frames == 0) ++ unclean_reasons summary
+unclean_verdict summary = start_by summary ++ unclean_reasons summary
 
 -- the heading, and its sentences
 abbrev pub heading_text : Summary → List ℕ
-heading_text summary = if is_clean summary then clean_verdict else unclean_verdict summary
+heading_text summary = if is_called_clean summary then clean_verdict else unclean_verdict summary
 
 -- whether each answer is positive, where there are so many requests, negative answers, and requests without an answer
 abbrev pub answers_text : ℕ → ℕ → ℕ → List ℕ
@@ -127,13 +158,14 @@ refusal_words fault.Memory = []
 abbrev pub stop_line : Fault → List ℕ
 stop_line why = codes "<p class=\"stop\"><b>Refused here:</b> " ++ refusal_words why ++ codes ".</p>\n"
 
--- the heading, and its sentences
-abbrev pub refused_heading : Fault → List ℕ
-refused_heading why =
+-- the heading, its sentences, and the cause, where there is one
+abbrev pub refused_heading : Fault → Option Cause → List ℕ
+refused_heading why cause =
     codes "<section id=\"verdict\" class=\"bad\">\n<h2><span aria-hidden=\"true\">&#10005;</span> The log is refused</h2>\n<p><em>"
     ++ refusal_words why
     ++ codes ".</em> Below is what the lines before that say; what comes after it is not read, and the counts are of the lines before.</p>\n"
+    ++ cause_line cause
 
 -- the verdict of a log that is refused, by what the lines before say
-abbrev pub refused_verdict : Fault → Tally → Summary → ℕ → ℕ → List ℕ
-refused_verdict why tally summary first last = refused_heading why ++ findings_text tally summary first last
+abbrev pub refused_verdict : Fault → Option Cause → Tally → Summary → ℕ → ℕ → List ℕ
+refused_verdict why cause tally summary first last = refused_heading why cause ++ findings_text tally summary first last

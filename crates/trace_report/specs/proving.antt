@@ -2,6 +2,8 @@
 pub mod Pages
 pub mod Following
 pub mod Tallying
-pub mod Holding
+pub mod Lending
+pub mod Keeping
+pub mod Rowing
 pub mod Heard
 pub mod Charting

@@ -1,14 +1,14 @@
 //! The blocks in which the rows of a report stand.
-ghost use Rattle.std.specs.Prelude.{◌≡◌, ◌^◌, ◌-◌, ◌<◌};
-ghost use Rattle.trace_report.specs.Blocks.{block_end, block_front, block_start, block_title, chart_head, from_place, item_title, message_title, opening_text, table_start};
+ghost use Rattle.std.specs.Prelude.{◌≡◌, ◌^◌, ◌-◌, ◌<◌, ◌||◌};
 ghost use Rattle.trace_report.specs.Blocks as Spec;
 ghost use Rattle.trace_report.specs.proving.Pages.{row_of};
 
 use crate::row::{MessagePlace, MessageRole, Row};
-use crate::words::say_seconds_between;
+use crate::words::Seconds;
+use text_parts::{Either, Part, When, say};
 use trace_canon::begun::FramePlace;
 use trace_io::TextSink;
-use trace_text::say::{say_number, say_text};
+use trace_text::Number;
 
 /// A request closes a block that has this many rows.
 pub(crate) const FULL_BLOCK: u64 = 200;
@@ -65,6 +65,13 @@ fn begins_block(exchange: bool, blocks: Blocks) -> bool
     blocks.count == 0 || blocks.rows >= LARGEST_BLOCK || (exchange && blocks.rows >= FULL_BLOCK)
 }
 
+/// Whether a body of the table begins before a row: each exchange has one, and each block.
+fn begins_body(block: bool, exchange: bool) -> bool
+    ensures { result ≡ (block || exchange) }
+{
+    block || exchange
+}
+
 /// The blocks that stand with one more row.
 pub(crate) fn one_more_row(exchange: bool, blocks: Blocks) -> Blocks
     ensures { blocks.count < 2 ^ 64 - 1 → blocks.rows < 2 ^ 64 - 1 → result ≡ Spec.one_more_row exchange blocks }
@@ -89,121 +96,160 @@ pub(crate) fn is_brief(blocks: Blocks) -> bool
     blocks.count > OPEN_BLOCKS
 }
 
-/// Says what begins before a row: a block, and a body of the table with each exchange.
-pub(crate) fn say_opening<S: TextSink>(origin: u64, blocks: Blocks, row: Row<'_>, out: &mut S)
-    ensures { S.says out.old (opening_text origin blocks (row_of row.entry)) out.new }
-{
-    let exchange = begins_exchange(row);
-    let block = begins_block(exchange, blocks);
-    say_front_if(block, origin, blocks.count, row, out);
-    say_body_if(block || exchange, out);
-}
+/// What begins before a row, where these blocks stand: a block, and a body of the table with each exchange.
+#[derive(Clone, Copy)]
+pub(crate) struct Opening<'a>(pub u64, pub Blocks, pub Row<'a>);
 
-/// Says the front of a block, where one begins.
-fn say_front_if<S: TextSink>(block: bool, origin: u64, before: u64, row: Row<'_>, out: &mut S)
-    ensures { S.says out.old (Spec.front_if block origin before (row_of row.entry)) out.new }
-{
-    if block {
-        say_block_front(origin, before, row, out);
+impl<'a> Part for Opening<'a> {
+    ghost use Rattle.trace_report.specs.Blocks.{opening_text};
+    ghost use Rattle.trace_report.specs.proving.Pages.{row_of};
+
+    ghost text = { λ opening. opening_text opening.0 opening.1 (row_of opening.2) };
+
+    fn say<S: TextSink>(self, out: &mut S) {
+        let Opening(origin, blocks, row) = self;
+        let exchange = begins_exchange(row);
+        let block = begins_block(exchange, blocks);
+        say(
+            out,
+            (
+                When(block, BlockFront(origin, blocks.count, row)),
+                When(begins_body(block, exchange), "<tbody>\n"),
+            ),
+        );
     }
 }
 
-/// Says the start of a body of the table, where one begins.
-fn say_body_if<S: TextSink>(body: bool, out: &mut S)
-    ensures { S.says out.old (Spec.body_if body) out.new }
-{
-    if body {
-        say_text(out, "<tbody>\n");
+/// What stands before a row that begins a block, where so many blocks stand before it.
+#[derive(Clone, Copy)]
+struct BlockFront<'a>(u64, u64, Row<'a>);
+
+impl<'a> Part for BlockFront<'a> {
+    ghost use Rattle.trace_report.specs.Blocks.{block_front};
+    ghost use Rattle.trace_report.specs.proving.Pages.{row_of};
+
+    ghost text = { λ front. block_front front.0 front.1 (row_of front.2) };
+
+    fn say<S: TextSink>(self, out: &mut S) {
+        let BlockFront(origin, before, row) = self;
+        say(
+            out,
+            (
+                BlockEnd(before),
+                Either(
+                    before < OPEN_BLOCKS,
+                    "<details class=\"b\" open>\n<summary>",
+                    "<details class=\"b\">\n<summary>",
+                ),
+                BlockTitle(origin, row),
+                ("</summary>\n", ChartHead),
+            ),
+        );
     }
 }
 
-/// Says what stands before a row that begins a block, where so many blocks stand before it.
-fn say_block_front<S: TextSink>(origin: u64, before: u64, row: Row<'_>, out: &mut S)
-    ensures { S.says out.old (block_front origin before (row_of row.entry)) out.new }
-{
-    say_block_end(before, out);
-    say_block_start(before, out);
-    say_block_title(origin, row, out);
-    say_table_start(out);
-}
+/// The end of the last block, if one stands.
+#[derive(Clone, Copy)]
+pub(crate) struct BlockEnd(pub u64);
 
-/// Says the end of the last block, if one stands.
-pub(crate) fn say_block_end<S: TextSink>(count: u64, out: &mut S)
-    ensures { S.says out.old (block_end count) out.new }
-{
-    if count > 0 {
-        say_text(out, "</table>\n</details>\n");
+impl Part for BlockEnd {
+    ghost use Rattle.trace_report.specs.Blocks.{block_end};
+
+    ghost text = { λ end. block_end end.0 };
+
+    fn say<S: TextSink>(self, out: &mut S) {
+        if self.0 > 0 {
+            say(out, "</table>\n</details>\n");
+        }
     }
 }
 
-/// Says that a block begins, open or folded.
-fn say_block_start<S: TextSink>(before: u64, out: &mut S)
-    ensures { S.says out.old (block_start before) out.new }
-{
-    if before < OPEN_BLOCKS {
-        say_text(out, "<details class=\"b\" open>\n<summary>");
-    } else {
-        say_text(out, "<details class=\"b\">\n<summary>");
+/// The header of a chart.
+#[derive(Clone, Copy)]
+pub(crate) struct ChartHead;
+
+impl Part for ChartHead {
+    ghost use Rattle.trace_report.specs.Blocks.{chart_head};
+
+    ghost text = { λ head. chart_head };
+
+    fn say<S: TextSink>(self, out: &mut S) {
+        say(
+            out,
+            "<table>\n<thead><tr><th scope=\"col\">Item<th scope=\"col\">Lines<th scope=\"col\">Time<th scope=\"col\"><span class=\"T\">Tester</span><span class=\"U\">Unit</span></thead>\n",
+        );
     }
 }
 
-/// Says it behind the title of a block.
-fn say_table_start<S: TextSink>(out: &mut S)
-    ensures { S.says out.old table_start out.new }
-{
-    say_text(out, "</summary>\n");
-    say_chart_head(out);
-}
+/// Where a row stands, in the title of the block that begins with it.
+#[derive(Clone, Copy)]
+struct BlockTitle<'a>(u64, Row<'a>);
 
-/// Says the header of a chart.
-pub(crate) fn say_chart_head<S: TextSink>(out: &mut S)
-    ensures { S.says out.old chart_head out.new }
-{
-    say_text(
-        out,
-        "<table>\n<thead><tr><th scope=\"col\">Item<th scope=\"col\">Lines<th scope=\"col\">Time<th scope=\"col\"><span class=\"T\">Tester</span><span class=\"U\">Unit</span></thead>\n",
-    );
-}
+impl<'a> Part for BlockTitle<'a> {
+    ghost use Rattle.trace_report.specs.Blocks.{block_title};
+    ghost use Rattle.trace_report.specs.proving.Pages.{row_of};
 
-/// Says where a row stands, in the title of the block that begins with it.
-fn say_block_title<S: TextSink>(origin: u64, row: Row<'_>, out: &mut S)
-    ensures { S.says out.old (block_title origin (row_of row.entry)) out.new }
-{
-    match row {
-        Row::Message { place, .. } => say_message_title(origin, place, out),
-        Row::NoAnswer { number, .. } => say_item_title(number, out),
-        Row::Dropped { place, .. } | Row::Ended { place, .. } => say_from_place(origin, place, out),
-        Row::Unfinished { .. } => say_text(out, "At the end of the log"),
+    ghost text = { λ title. block_title title.0 (row_of title.1) };
+
+    fn say<S: TextSink>(self, out: &mut S) {
+        let BlockTitle(origin, row) = self;
+        match row {
+            Row::Message { place, .. } => say(out, MessageTitle(origin, place)),
+            Row::NoAnswer { number, .. } => say(out, ("From item ", Number(number))),
+            Row::Dropped { place, .. } | Row::Ended { place, .. } => say(
+                out,
+                FromPlace(origin, place),
+            ),
+            Row::Unfinished { .. } => say(out, "At the end of the log"),
+        }
     }
 }
 
-/// Says the title of a block that begins with a message.
-fn say_message_title<S: TextSink>(origin: u64, place: MessagePlace, out: &mut S)
-    ensures { S.says out.old (message_title origin place) out.new }
-{
-    say_item_title(place.item, out);
-    say_text(out, ", line ");
-    say_number(out, place.first.line);
-    say_text(out, ", ");
-    say_seconds_between(origin, place.first.micros, out);
-    say_text(out, " s");
+/// The title of a block that begins with a message.
+#[derive(Clone, Copy)]
+struct MessageTitle(u64, MessagePlace);
+
+impl Part for MessageTitle {
+    ghost use Rattle.trace_report.specs.Blocks.{message_title};
+
+    ghost text = { λ title. message_title title.0 title.1 };
+
+    fn say<S: TextSink>(self, out: &mut S) {
+        let MessageTitle(origin, place) = self;
+        say(
+            out,
+            (
+                ("From item ", Number(place.item)),
+                ", line ",
+                Number(place.first.line),
+                ", ",
+                Seconds(origin, place.first.micros),
+                " s",
+            ),
+        );
+    }
 }
 
-/// Says the title of one that begins with an item.
-fn say_item_title<S: TextSink>(number: u64, out: &mut S)
-    ensures { S.says out.old (item_title number) out.new }
-{
-    say_text(out, "From item ");
-    say_number(out, number);
-}
+/// The title of one that begins with a frame.
+#[derive(Clone, Copy)]
+struct FromPlace(u64, FramePlace);
 
-/// Says the title of one that begins with a frame.
-fn say_from_place<S: TextSink>(origin: u64, place: FramePlace, out: &mut S)
-    ensures { S.says out.old (from_place origin place) out.new }
-{
-    say_text(out, "From line ");
-    say_number(out, place.line);
-    say_text(out, ", ");
-    say_seconds_between(origin, place.micros, out);
-    say_text(out, " s");
+impl Part for FromPlace {
+    ghost use Rattle.trace_report.specs.Blocks.{from_place};
+
+    ghost text = { λ title. from_place title.0 title.1 };
+
+    fn say<S: TextSink>(self, out: &mut S) {
+        let FromPlace(origin, place) = self;
+        say(
+            out,
+            (
+                "From line ",
+                Number(place.line),
+                ", ",
+                Seconds(origin, place.micros),
+                " s",
+            ),
+        );
+    }
 }

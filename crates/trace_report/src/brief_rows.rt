@@ -1,15 +1,16 @@
 //! The rows of messages in blocks that are folded at first: one line of words each, without a shape.
-ghost use Rattle.std.specs.Prelude.{◌≡◌, codes};
-ghost use Rattle.trace_report.specs.Rows.{brief_front, brief_keep_alive, brief_message, brief_reply, brief_request, message_text};
-ghost use Rattle.trace_report.specs.declared.row.MessageRole.TheVariants.{KeepAlive, Pending, Positive, Request};
+ghost use Rattle.std.specs.Prelude.{◌≡◌};
+ghost use Rattle.trace_report.specs.Rows.{brief_message, message_text};
+ghost use Rattle.trace_report.specs.Rows as Spec;
 
-use crate::cells::say_side;
-use crate::message_rows::{say_after, say_message_front, say_message_row};
+use crate::cells::Side;
+use crate::message_rows::{After, MessageFront, say_message_row};
 use crate::row::{MessagePlace, MessageRole};
-use crate::words::say_brief_data;
+use crate::words::BriefData;
 use direction::Dir;
+use text_parts::{Part, say};
 use trace_io::TextSink;
-use trace_text::say::{say_service, say_text};
+use trace_text::Service;
 use uds_message::sid;
 
 /// Says the row of a message, in a block of brief rows or in another.
@@ -42,116 +43,63 @@ fn say_brief_message<S: TextSink>(
 )
     ensures { S.says out.old (brief_message origin role dir place message.now) out.new }
 {
-    match role {
-        MessageRole::Request => say_request(origin, dir, place, message, out),
-        MessageRole::Positive { asked } => say_positive(origin, asked, dir, place, message, out),
-        MessageRole::Pending { asked } => say_pending(origin, asked, dir, place, message, out),
-        MessageRole::KeepAlive => say_keep_alive(origin, dir, place, message, out),
-        MessageRole::Negative { .. } | MessageRole::Stray => say_message_row(
-            origin, role, dir, place, message, out,
-        ),
+    if needs_look(role) {
+        say_message_row(origin, role, dir, place, message, out);
+    } else {
+        say(
+            out,
+            (
+                MessageFront(true, origin, role, place),
+                "<td class=\"",
+                Side(dir),
+                "\">",
+                BriefWords(role, place.first.micros, message),
+                "\n",
+            ),
+        );
     }
 }
 
-/// Says what stands before the words of a brief row.
-fn say_brief_front<S: TextSink>(
-    origin: u64,
-    role: MessageRole,
-    dir: Dir,
-    place: MessagePlace,
-    out: &mut S,
-)
-    ensures { S.says out.old (brief_front origin role dir place) out.new }
+/// Whether a message needs a look.
+fn needs_look(role: MessageRole) -> bool
+    ensures { result ≡ Spec.needs_look role }
 {
-    say_message_front(true, origin, role, place, out);
-    say_text(out, "<td class=\"");
-    say_side(dir, out);
-    say_text(out, "\">");
+    match role {
+        MessageRole::Negative { .. } | MessageRole::Stray => true,
+        MessageRole::Request
+        | MessageRole::Positive { .. }
+        | MessageRole::Pending { .. }
+        | MessageRole::KeepAlive => false,
+    }
 }
 
-/// Says the brief row of a request.
-fn say_request<S: TextSink>(origin: u64, dir: Dir, place: MessagePlace, message: &[u8], out: &mut S)
-    ensures { S.says out.old (brief_message origin Request dir place message.now) out.new }
-{
-    say_brief_front(origin, MessageRole::Request, dir, place, out);
-    say_request_words(message, out);
-    say_text(out, "\n");
-}
+/// The words of a brief row, of a message that needs no look.
+#[derive(Clone, Copy)]
+struct BriefWords<'a>(MessageRole, u64, &'a [u8]);
 
-/// Says the words of the brief row of a request.
-fn say_request_words<S: TextSink>(message: &[u8], out: &mut S)
-    ensures { S.says out.old (brief_request message.now) out.new }
-{
-    say_service(out, sid(message));
-    say_text(out, " request ");
-    say_brief_data(message, out);
-    say_text(out, " &#8594;");
-}
+impl<'a> Part for BriefWords<'a> {
+    ghost use Rattle.trace_report.specs.Rows.{brief_words};
 
-/// Says the brief row of a positive answer.
-fn say_positive<S: TextSink>(
-    origin: u64,
-    asked: u64,
-    dir: Dir,
-    place: MessagePlace,
-    message: &[u8],
-    out: &mut S,
-)
-    ensures { S.says out.old (brief_message origin (Positive asked) dir place message.now) out.new }
-{
-    say_brief_front(origin, MessageRole::Positive { asked }, dir, place, out);
-    say_reply_words("positive", asked, place.first.micros, message, out);
-    say_text(out, "\n");
-}
+    ghost text = { λ words. brief_words words.0 words.1 words.2.now };
 
-/// Says a reply that the answer will be late.
-fn say_pending<S: TextSink>(
-    origin: u64,
-    asked: u64,
-    dir: Dir,
-    place: MessagePlace,
-    message: &[u8],
-    out: &mut S,
-)
-    ensures { S.says out.old (brief_message origin (Pending asked) dir place message.now) out.new }
-{
-    say_brief_front(origin, MessageRole::Pending { asked }, dir, place, out);
-    say_reply_words("pending", asked, place.first.micros, message, out);
-    say_text(out, "\n");
-}
-
-/// Says the words of a reply of this kind.
-fn say_reply_words<S: TextSink>(kind: &str, asked: u64, first: u64, message: &[u8], out: &mut S)
-    ensures { S.says out.old (brief_reply kind.now asked first message.now) out.new }
-{
-    say_text(out, "&#8592; ");
-    say_text(out, kind);
-    say_text(out, " ");
-    say_brief_data(message, out);
-    say_text(out, " ");
-    say_after(asked, first, out);
-}
-
-/// Says the brief row of a keep-alive.
-fn say_keep_alive<S: TextSink>(
-    origin: u64,
-    dir: Dir,
-    place: MessagePlace,
-    message: &[u8],
-    out: &mut S,
-)
-    ensures { S.says out.old (brief_message origin KeepAlive dir place message.now) out.new }
-{
-    say_brief_front(origin, MessageRole::KeepAlive, dir, place, out);
-    say_keep_alive_words(message, out);
-    say_text(out, "\n");
-}
-
-/// Says the words of the brief row of a keep-alive.
-fn say_keep_alive_words<S: TextSink>(message: &[u8], out: &mut S)
-    ensures { S.says out.old (brief_keep_alive message.now) out.new }
-{
-    say_text(out, "keep-alive ");
-    say_brief_data(message, out);
-    say_text(out, " &#8594;");
+    fn say<S: TextSink>(self, out: &mut S) {
+        let BriefWords(role, first, message) = self;
+        let data = BriefData(message);
+        match role {
+            MessageRole::Request => say(
+                out,
+                (Service(sid(message)), " request ", data, " &#8594;"),
+            ),
+            MessageRole::Positive { asked } => say(
+                out,
+                ("&#8592; positive ", data, " ", After(asked, first)),
+            ),
+            MessageRole::Pending { asked } => say(
+                out,
+                ("&#8592; pending ", data, " ", After(asked, first)),
+            ),
+            MessageRole::KeepAlive => say(out, ("keep-alive ", data, " &#8594;")),
+            MessageRole::Negative { .. } | MessageRole::Stray => {}
+        }
+    }
 }

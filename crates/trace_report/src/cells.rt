@@ -1,48 +1,76 @@
 //! The cells of a report's chart, in which words stand at the sender's side and an arrow fills the rest.
-ghost use Rattle.trace_report.specs.Rows.{arrow_text, cell_end, cell_front};
-ghost use Rattle.trace_report.specs.Targets.{side_text};
-
 use crate::row::Arrow;
 use direction::Dir;
+use text_parts::{Part, say};
 use trace_io::TextSink;
-use trace_text::say::say_text;
 
-/// Says a cell of the chart, up to its words.
-pub(crate) fn say_cell_front<S: TextSink>(dir: Dir, out: &mut S)
-    ensures { S.says out.old (cell_front dir) out.new }
-{
-    say_text(out, "<td><div class=\"");
-    say_side(dir, out);
-    say_text(out, "\"><div>");
-}
+/// A cell of the chart, up to its words.
+#[derive(Clone, Copy)]
+pub(crate) struct CellFront(pub Dir);
 
-/// Says the arrow, and the end of the row.
-pub(crate) fn say_cell_end<S: TextSink>(dir: Dir, arrow: Arrow, out: &mut S)
-    ensures { S.says out.old (cell_end dir arrow) out.new }
-{
-    say_text(out, "</div><svg aria-hidden=\"true\"><use href=\"#");
-    say_side(dir, out);
-    say_arrow(arrow, out);
-    say_text(out, "\"/></svg></div>\n");
-}
+impl Part for CellFront {
+    ghost use Rattle.trace_report.specs.Rows.{cell_front};
 
-/// Says the lifeline of a side.
-pub(crate) fn say_side<S: TextSink>(dir: Dir, out: &mut S)
-    ensures { S.says out.old (side_text dir) out.new }
-{
-    match dir {
-        Dir::Tester => say_text(out, "t"),
-        Dir::Unit => say_text(out, "u"),
+    ghost text = { λ cell. cell_front cell.0 };
+
+    fn say<S: TextSink>(self, out: &mut S) {
+        say(out, ("<td><div class=\"", Side(self.0), "\"><div>"));
     }
 }
 
-/// Says the end of an arrow.
-fn say_arrow<S: TextSink>(arrow: Arrow, out: &mut S)
-    ensures { S.says out.old (arrow_text arrow) out.new }
-{
-    match arrow {
-        Arrow::Headed => {}
-        Arrow::Crossed => say_text(out, "x"),
-        Arrow::Barred => say_text(out, "e"),
+/// The arrow, and the end of the row.
+#[derive(Clone, Copy)]
+pub(crate) struct CellEnd(pub Dir, pub Arrow);
+
+impl Part for CellEnd {
+    ghost use Rattle.trace_report.specs.Rows.{cell_end};
+
+    ghost text = { λ cell. cell_end cell.0 cell.1 };
+
+    fn say<S: TextSink>(self, out: &mut S) {
+        say(
+            out,
+            (
+                "</div><svg aria-hidden=\"true\"><use href=\"#",
+                Side(self.0),
+                ArrowEnd(self.1),
+                "\"/></svg></div>\n",
+            ),
+        );
+    }
+}
+
+/// The lifeline of a side.
+#[derive(Clone, Copy)]
+pub(crate) struct Side(pub Dir);
+
+impl Part for Side {
+    ghost use Rattle.trace_report.specs.Targets.{side_text};
+
+    ghost text = { λ side. side_text side.0 };
+
+    fn say<S: TextSink>(self, out: &mut S) {
+        match self.0 {
+            Dir::Tester => say(out, "t"),
+            Dir::Unit => say(out, "u"),
+        }
+    }
+}
+
+/// The end of an arrow.
+#[derive(Clone, Copy)]
+struct ArrowEnd(Arrow);
+
+impl Part for ArrowEnd {
+    ghost use Rattle.trace_report.specs.Rows.{arrow_text};
+
+    ghost text = { λ end. arrow_text end.0 };
+
+    fn say<S: TextSink>(self, out: &mut S) {
+        match self.0 {
+            Arrow::Headed => {}
+            Arrow::Crossed => say(out, "x"),
+            Arrow::Barred => say(out, "e"),
+        }
     }
 }

@@ -4,13 +4,13 @@ ghost use Rattle.trace_report.specs.Contrast.{byte_or_end, bytes_words, contrast
 ghost use Rattle.trace_report.specs.Contrast as Spec;
 ghost use Rattle.trace_report.specs.Items.{both};
 ghost use Rattle.trace_report.specs.declared.contrast.Contrast.TheVariants.{Answers};
-ghost use Rattle.trace_report.specs.proving.Holding.{item_of, lent_message, pair_of};
+ghost use Rattle.trace_report.specs.proving.Lending.{item_of, message_of, pair_of};
 
 use crate::blocks::is_request_role;
-use crate::held_session::HeldMessage;
-use crate::items::{LentItem, LentPair};
+use crate::items::{LentItem, LentMessage, LentPair};
 use crate::marks::parted;
 use direction::Dir;
+use text_parts::Part;
 use trace_io::TextSink;
 use trace_text::say::{say_byte, say_direction, say_place, say_text};
 
@@ -57,7 +57,10 @@ pub(crate) fn contrast_of(pair: LentPair<'_>) -> Option<Contrast>
 fn contrast_of_items(a: LentItem<'_>, b: LentItem<'_>) -> Option<Contrast>
     ensures { result ≡ Spec.contrast_of (both (item_of a.entry) (item_of b.entry)) }
 {
-    match (is_request_role(a.begin.role), is_request_role(b.begin.role)) {
+    match (
+        is_request_role(a.begin.sent.role),
+        is_request_role(b.begin.sent.role),
+    ) {
         (true, true) => contrast_of_exchanges(a, b),
         (true, false) => Some(Contrast::Kinds(LogName::A)),
         (false, true) => Some(Contrast::Kinds(LogName::B)),
@@ -69,7 +72,7 @@ fn contrast_of_items(a: LentItem<'_>, b: LentItem<'_>) -> Option<Contrast>
 fn contrast_of_exchanges(a: LentItem<'_>, b: LentItem<'_>) -> Option<Contrast>
     ensures { result ≡ contrast_of_kinds true true (item_of a.entry) (item_of b.entry) }
 {
-    match first_place(a.begin.message.as_slice(), b.begin.message.as_slice()) {
+    match first_place(a.begin.bytes, b.begin.bytes) {
         Some(place) => Some(Contrast::Requests(place)),
         None => contrast_of_answers(a.answer, b.answer),
     }
@@ -79,24 +82,24 @@ fn contrast_of_exchanges(a: LentItem<'_>, b: LentItem<'_>) -> Option<Contrast>
 fn contrast_of_strays(a: LentItem<'_>, b: LentItem<'_>) -> Option<Contrast>
     ensures { result ≡ contrast_of_kinds false false (item_of a.entry) (item_of b.entry) }
 {
-    if !is_same_side(a.begin.dir, b.begin.dir) {
-        return Some(Contrast::Sides(a.begin.dir));
+    if !is_same_side(a.begin.sent.dir, b.begin.sent.dir) {
+        return Some(Contrast::Sides(a.begin.sent.dir));
     }
-    match first_place(a.begin.message.as_slice(), b.begin.message.as_slice()) {
+    match first_place(a.begin.bytes, b.begin.bytes) {
         Some(place) => Some(Contrast::Strays(place)),
         None => None,
     }
 }
 
 /// How two answers differ, if they do.
-fn contrast_of_answers(a: Option<&HeldMessage>, b: Option<&HeldMessage>) -> Option<Contrast>
-    ensures { result ≡ Spec.contrast_of_answers (option_map lent_message a.entry) (option_map lent_message b.entry) }
+fn contrast_of_answers(a: Option<LentMessage<'_>>, b: Option<LentMessage<'_>>) -> Option<Contrast>
+    ensures { result ≡ Spec.contrast_of_answers (option_map message_of a.entry) (option_map message_of b.entry) }
 {
     match (a, b) {
         (None, None) => None,
         (Some(_), None) => Some(Contrast::Unanswered(LogName::B)),
         (None, Some(_)) => Some(Contrast::Unanswered(LogName::A)),
-        (Some(a), Some(b)) => match first_place(a.message.as_slice(), b.message.as_slice()) {
+        (Some(a), Some(b)) => match first_place(a.bytes, b.bytes) {
             Some(place) => Some(Contrast::Answers(place)),
             None => None,
         },
@@ -269,11 +272,11 @@ fn say_other_letter<S: TextSink>(log: LogName, out: &mut S)
 }
 
 /// The bytes of an answer, none where there is no answer.
-fn answer_bytes<'a>(answer: Option<&'a HeldMessage>) -> &'a [u8]
-    ensures { result.now ≡ Spec.answer_bytes (option_map lent_message answer.entry) }
+fn answer_bytes<'a>(answer: Option<LentMessage<'a>>) -> &'a [u8]
+    ensures { result.now ≡ Spec.answer_bytes (option_map message_of answer.entry) }
 {
     match answer {
-        Some(reply) => reply.message.as_slice(),
+        Some(reply) => reply.bytes,
         None => &[],
     }
 }
@@ -283,7 +286,7 @@ fn begin_left<'a>(pair: LentPair<'a>) -> &'a [u8]
     ensures { result.now ≡ Spec.begin_left (pair_of pair.entry) }
 {
     match pair {
-        LentPair::Both(a, _) | LentPair::OnlyLeft(a) => a.begin.message.as_slice(),
+        LentPair::Both(a, _) | LentPair::OnlyLeft(a) => a.begin.bytes,
         LentPair::OnlyRight(_) => &[],
     }
 }
@@ -293,7 +296,7 @@ fn begin_right<'a>(pair: LentPair<'a>) -> &'a [u8]
     ensures { result.now ≡ Spec.begin_right (pair_of pair.entry) }
 {
     match pair {
-        LentPair::Both(_, b) | LentPair::OnlyRight(b) => b.begin.message.as_slice(),
+        LentPair::Both(_, b) | LentPair::OnlyRight(b) => b.begin.bytes,
         LentPair::OnlyLeft(_) => &[],
     }
 }
@@ -315,5 +318,15 @@ fn answer_right<'a>(pair: LentPair<'a>) -> &'a [u8]
     match pair {
         LentPair::Both(_, b) | LentPair::OnlyRight(b) => answer_bytes(b.answer),
         LentPair::OnlyLeft(_) => &[],
+    }
+}
+
+impl Part for LogName {
+    ghost use Rattle.trace_report.specs.Contrast.{log_letter};
+
+    ghost text = { λ log. log_letter log };
+
+    fn say<S: TextSink>(self, out: &mut S) {
+        say_log_letter(self, out);
     }
 }

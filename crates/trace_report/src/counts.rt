@@ -1,15 +1,13 @@
 //! The counts of a report.
 ghost use Rattle.std.specs.Prelude.{◌≡◌, []};
-ghost use Rattle.trace_report.specs.Counts.{answer_counts, count_class, count_line, counts_text, log_counts, lost_counts, other_counts};
 ghost use Rattle.trace_report.specs.Sorts.{counts_in};
-ghost use Rattle.trace_report.specs.Verdict.{answers_of};
 ghost use Rattle.trace_report.specs.proving.Tallying.{counts_with};
 
 use crate::sorts::Sort;
-use crate::verdict::say_answers;
+use text_parts::{Either, Part, When, say};
 use trace_io::TextSink;
 use trace_log::Summary;
-use trace_text::say::{say_number, say_text};
+use trace_text::Number;
 
 /// How many rows there are of each sort.
 #[derive(Clone, Copy, Debug)]
@@ -67,83 +65,97 @@ impl SortCounts {
     }
 }
 
-/// Says whether each answer is positive.
-pub(crate) fn say_answers_of<S: TextSink>(counts: &SortCounts, out: &mut S)
-    ensures { S.says out.old (answers_of counts.now) out.new }
-{
-    say_answers(counts.requests, counts.negatives, counts.unanswered, out);
+/// Whether each answer is positive, where something was asked.
+#[derive(Clone, Copy)]
+pub(crate) struct AnswersOf<'a>(pub &'a SortCounts);
+
+impl<'a> Part for AnswersOf<'a> {
+    ghost use Rattle.trace_report.specs.Verdict.{answers_of};
+
+    ghost text = { λ answers. answers_of answers.0.now };
+
+    fn say<S: TextSink>(self, out: &mut S) {
+        let counts = self.0;
+        if counts.requests == 0 {
+            return;
+        }
+        if counts.negatives == 0 && counts.unanswered == 0 {
+            say(out, " No answer is negative, and none is missing.");
+        } else {
+            say(out, " Not every request has a positive answer.");
+        }
+    }
 }
 
-/// Says all counts.
-pub(crate) fn say_counts<S: TextSink>(counts: &SortCounts, summary: &Summary, out: &mut S)
-    ensures { S.says out.old (counts_text counts.now summary.now) out.new }
-{
-    say_text(out, "<dl class=\"counts\">\n");
-    say_log_counts(summary, out);
-    say_answer_counts(counts, out);
-    say_other_counts(counts, out);
-    say_lost_counts(counts, out);
-    say_text(out, "</dl>\n");
+/// All counts: of the log, of its requests and answers, of its other messages, and of what is missing.
+#[derive(Clone, Copy)]
+pub(crate) struct Counts<'a>(pub &'a SortCounts, pub &'a Summary);
+
+impl<'a> Part for Counts<'a> {
+    ghost use Rattle.trace_report.specs.Counts.{counts_text};
+
+    ghost text = { λ all. counts_text all.0.now all.1.now };
+
+    fn say<S: TextSink>(self, out: &mut S) {
+        let Counts(counts, summary) = self;
+        say(
+            out,
+            (
+                "<dl class=\"counts\">\n",
+                (
+                    CountLine(false, "lines", summary.lines),
+                    CountLine(false, "frames", summary.frames),
+                    CountLine(false, "messages", summary.messages),
+                ),
+                (
+                    CountLine(false, "requests", counts.requests),
+                    CountLine(false, "positive", counts.positives),
+                    CountLine(true, "negative", counts.negatives),
+                    CountLine(true, "no answer", counts.unanswered),
+                    CountLine(false, "silent", counts.silent),
+                ),
+                (
+                    CountLine(false, "pending", counts.pendings),
+                    CountLine(false, "keep-alive", counts.keep_alives),
+                    CountLine(true, "stray", counts.strays),
+                ),
+                (
+                    CountLine(true, "dropped", counts.drops),
+                    CountLine(true, "ended", counts.ends),
+                    CountLine(true, "unfinished", counts.partials),
+                ),
+                "</dl>\n",
+            ),
+        );
+    }
 }
 
-/// Says the counts of the log.
-fn say_log_counts<S: TextSink>(summary: &Summary, out: &mut S)
-    ensures { S.says out.old (log_counts summary.now) out.new }
-{
-    say_count_line(false, "lines", summary.lines, out);
-    say_count_line(false, "frames", summary.frames, out);
-    say_count_line(false, "messages", summary.messages, out);
-}
+/// A count under this name, and whether what it counts needs a look.
+#[derive(Clone, Copy)]
+struct CountLine(bool, &'static str, u64);
 
-/// Says the counts of its requests and answers.
-fn say_answer_counts<S: TextSink>(counts: &SortCounts, out: &mut S)
-    ensures { S.says out.old (answer_counts counts.now) out.new }
-{
-    say_count_line(false, "requests", counts.requests, out);
-    say_count_line(false, "positive", counts.positives, out);
-    say_count_line(true, "negative", counts.negatives, out);
-    say_count_line(true, "no answer", counts.unanswered, out);
-    say_count_line(false, "silent", counts.silent, out);
-}
+impl Part for CountLine {
+    ghost use Rattle.trace_report.specs.Counts.{count_line};
 
-/// Says the counts of its other messages.
-fn say_other_counts<S: TextSink>(counts: &SortCounts, out: &mut S)
-    ensures { S.says out.old (other_counts counts.now) out.new }
-{
-    say_count_line(false, "pending", counts.pendings, out);
-    say_count_line(false, "keep-alive", counts.keep_alives, out);
-    say_count_line(true, "stray", counts.strays, out);
-}
+    ghost text = { λ line. count_line line.0 line.1.now line.2 };
 
-/// Says the counts of what is missing.
-fn say_lost_counts<S: TextSink>(counts: &SortCounts, out: &mut S)
-    ensures { S.says out.old (lost_counts counts.now) out.new }
-{
-    say_count_line(true, "dropped", counts.drops, out);
-    say_count_line(true, "ended", counts.ends, out);
-    say_count_line(true, "unfinished", counts.partials, out);
-}
-
-/// Says a count under this name.
-fn say_count_line<S: TextSink>(needs_look: bool, words: &str, count: u64, out: &mut S)
-    ensures { S.says out.old (count_line needs_look words.now count) out.new }
-{
-    say_text(out, "<div");
-    say_count_class(needs_look, count, out);
-    say_text(out, "><dt>");
-    say_text(out, words);
-    say_text(out, "</dt><dd>");
-    say_number(out, count);
-    say_text(out, "</dd></div>\n");
-}
-
-/// Says how a count looks.
-fn say_count_class<S: TextSink>(needs_look: bool, count: u64, out: &mut S)
-    ensures { S.says out.old (count_class needs_look count) out.new }
-{
-    if count == 0 {
-        say_text(out, " class=\"zero\"");
-    } else if needs_look {
-        say_text(out, " class=\"hot\"");
+    fn say<S: TextSink>(self, out: &mut S) {
+        let CountLine(needs_look, words, count) = self;
+        say(
+            out,
+            (
+                "<div",
+                Either(
+                    count == 0,
+                    " class=\"zero\"",
+                    When(needs_look, " class=\"hot\""),
+                ),
+                "><dt>",
+                words,
+                "</dt><dd>",
+                Number(count),
+                "</dd></div>\n",
+            ),
+        );
     }
 }

@@ -1,23 +1,24 @@
 //! The chart of the rows around the item at which two sessions first differ.
-ghost use Rattle.std.specs.Prelude.{◌≡◌};
-ghost use Rattle.trace_report.specs.Difference.{contrast_chart, contrast_data, contrast_message, contrast_row, contrast_rows, rows_around, rows_to_request};
+ghost use Rattle.std.specs.Prelude.{◌≡◌, drop, if◌then◌else◌};
+ghost use Rattle.trace_report.specs.Blocks.{begins_exchange as asks};
+ghost use Rattle.trace_report.specs.Difference.{contrast_chart, contrast_message, contrast_row, contrast_rows, rows_around, rows_to_request};
 ghost use Rattle.trace_report.specs.Difference as Spec;
 ghost use Rattle.trace_report.specs.proving.Charting.{exchange_rows};
 ghost use Rattle.trace_report.specs.proving.Charting as Charting;
-ghost use Rattle.trace_report.specs.proving.Holding.{held_rows};
 ghost use Rattle.trace_report.specs.proving.Pages.{row_of};
 
-use crate::blocks::{begins_exchange, say_chart_head};
-use crate::cells::{say_cell_end, say_cell_front};
+use crate::blocks::{ChartHead, begins_exchange};
+use crate::cells::{CellEnd, CellFront};
 use crate::contrast::Contrast;
-use crate::held_session::HeldRow;
 use crate::items::is_answer_role;
+use crate::kept_rows::KeptRows;
 use crate::lost_rows::{say_dropped_row, say_ended_row, say_no_answer_row, say_unfinished_row};
 use crate::marks::say_marked_data;
-use crate::message_rows::{begins_item, say_message_front, say_note, say_role};
+use crate::message_rows::{MessageFront, Note, RoleWords, begins_item};
 use crate::row::{Arrow, MessagePlace, MessageRole, Row};
-use crate::words::say_data;
+use crate::words::Data;
 use direction::Dir;
+use text_parts::{Part, say};
 use trace_io::TextSink;
 use trace_text::say::say_text;
 
@@ -26,12 +27,12 @@ pub(crate) fn say_contrast_chart<S: TextSink>(
     number: u64,
     how: Contrast,
     origin: u64,
-    rows: &[HeldRow],
+    rows: &KeptRows,
     out: &mut S,
 )
-    ensures { S.says out.old (contrast_chart number how origin (held_rows rows.now)) out.new }
+    ensures { S.says out.old (contrast_chart number how origin rows.now) out.new }
 {
-    say_chart_head(out);
+    say(out, ChartHead);
     say_text(out, "<tbody>\n");
     say_rows_around(number, how, origin, rows, out);
     say_text(out, "</table>\n");
@@ -42,30 +43,40 @@ fn say_rows_around<S: TextSink>(
     number: u64,
     how: Contrast,
     origin: u64,
-    rows: &[HeldRow],
+    rows: &KeptRows,
     out: &mut S,
 )
-    ensures { S.says out.old (contrast_rows number how origin (rows_around number (held_rows rows.now))) out.new }
+    ensures { S.says out.old (contrast_rows number how origin (rows_around number rows.now)) out.new }
 {
-    say_exchange_rows(number, how, origin, rows_from_request(number, rows), out);
+    let start = request_before(number, rows);
+    say_exchange_rows(number, how, origin, rows, start, out);
 }
 
-/// The rows from the last request on that stands at or before the item, or before the end where there is no such item.
-fn rows_from_request<'a>(number: u64, rows: &'a [HeldRow]) -> &'a [HeldRow]
-    ensures { held_rows result.now ≡ Charting.rows_from_request number (held_rows rows.now) (held_rows rows.now) }
+/// The place of the last request that stands at or before the item, or before the end where there is no such item.
+fn request_before(number: u64, rows: &KeptRows) -> usize
+    ensures { drop result rows.now ≡ Charting.rows_from_request number rows.now rows.now }
 {
-    let mut start = rows;
-    let mut rest = rows;
-    'rows: while let Some((row, behind)) = rest.split_first() {
-        if begins_exchange(row.lent()) {
-            start = rest;
-        }
-        if begins_number(number, row.lent()) {
+    let count = rows.len();
+    let mut start: usize = 0;
+    let mut at: usize = 0;
+    'rows: while at < count {
+        let Some(row) = rows.row(at) else {
+            return start;
+        };
+        start = later_start(row, at, start);
+        if begins_number(number, row) {
             return start;
         }
-        rest = behind;
+        at += 1;
     }
     start
+}
+
+/// The place of a row that is a request; else the one before.
+fn later_start(row: Row<'_>, at: usize, start: usize) -> usize
+    ensures { result ≡ (if asks (row_of row.entry) then at else start) }
+{
+    if begins_exchange(row) { at } else { start }
 }
 
 /// Whether a row begins the item of this number.
@@ -79,39 +90,47 @@ fn begins_number(number: u64, row: Row<'_>) -> bool
     }
 }
 
-/// Says the first row, and those before the next request.
+/// Says the row at a place, and those before the next request.
 fn say_exchange_rows<S: TextSink>(
     number: u64,
     how: Contrast,
     origin: u64,
-    rows: &[HeldRow],
+    rows: &KeptRows,
+    start: usize,
     out: &mut S,
 )
-    ensures { S.says out.old (contrast_rows number how origin (exchange_rows (held_rows rows.now))) out.new }
+    ensures { S.says out.old (contrast_rows number how origin (exchange_rows (drop start rows.now))) out.new }
 {
-    if let Some((row, rest)) = rows.split_first() {
-        say_contrast_row(number, how, origin, row.lent(), out);
-        say_rows_to_request(number, how, origin, rest, out);
+    if start < rows.len() {
+        if let Some(row) = rows.row(start) {
+            say_contrast_row(number, how, origin, row, out);
+            say_rows_to_request(number, how, origin, rows, start + 1, out);
+        }
     }
 }
 
-/// Says the rows before the next request.
+/// Says the rows from a place on that stand before the next request.
 fn say_rows_to_request<S: TextSink>(
     number: u64,
     how: Contrast,
     origin: u64,
-    rows: &[HeldRow],
+    rows: &KeptRows,
+    from: usize,
     out: &mut S,
 )
-    ensures { S.says out.old (contrast_rows number how origin (rows_to_request (held_rows rows.now))) out.new }
+    ensures { S.says out.old (contrast_rows number how origin (rows_to_request (drop from rows.now))) out.new }
 {
-    let mut rest = rows;
-    'rows: while let Some((row, behind)) = rest.split_first() {
-        if begins_exchange(row.lent()) {
+    let count = rows.len();
+    let mut at = from;
+    'rows: while at < count {
+        let Some(row) = rows.row(at) else {
+            return;
+        };
+        if begins_exchange(row) {
             return;
         }
-        say_contrast_row(number, how, origin, row.lent(), out);
-        rest = behind;
+        say_contrast_row(number, how, origin, row, out);
+        at += 1;
     }
 }
 
@@ -153,21 +172,34 @@ fn say_contrast_message<S: TextSink>(
 )
     ensures { S.says out.old (contrast_message mark origin role dir place message.now) out.new }
 {
-    say_message_front(false, origin, role, place, out);
-    say_cell_front(dir, out);
-    say_role(role, dir, message, out);
-    say_contrast_data(mark, message, out);
-    say_note(role, place, message.len() as u64, out);
-    say_cell_end(dir, Arrow::Headed, out);
+    say(
+        out,
+        (
+            MessageFront(false, origin, role, place),
+            CellFront(dir),
+            RoleWords(role, dir, message),
+            ContrastData(mark, message),
+            Note(role, place, message.len() as u64),
+            CellEnd(dir, Arrow::Headed),
+        ),
+    );
 }
 
-/// Says the bytes of a message, with a mark where it has one.
-fn say_contrast_data<S: TextSink>(mark: Option<usize>, bytes: &[u8], out: &mut S)
-    ensures { S.says out.old (contrast_data mark bytes.now) out.new }
-{
-    match mark {
-        Some(place) => say_marked_data(place, bytes, out),
-        None => say_data(bytes, out),
+/// The bytes of a message, with a mark where it has one.
+#[derive(Clone, Copy)]
+struct ContrastData<'a>(Option<usize>, &'a [u8]);
+
+impl<'a> Part for ContrastData<'a> {
+    ghost use Rattle.trace_report.specs.Difference.{contrast_data};
+
+    ghost text = { λ bytes. contrast_data bytes.0 bytes.1.now };
+
+    fn say<S: TextSink>(self, out: &mut S) {
+        let ContrastData(mark, message) = self;
+        match mark {
+            Some(place) => say_marked_data(place, message, out),
+            None => say(out, Data(message)),
+        }
     }
 }
 

@@ -1,15 +1,15 @@
 //! The pages of logs that lie in memory, gathered there. No device is asked.
-ghost use Rattle.std.specs.Prelude.{◌≡◌, Ok, IfOk, MatchResult};
+ghost use Rattle.std.specs.Prelude.{◌≡◌, Ok, None, IfOk, MatchResult};
 ghost use Rattle.isotp_receive.specs.declared.TheConstants.{MESSAGE_LIMIT};
 ghost use Rattle.trace_canon.specs.InMemory.{IsUnread};
 ghost use Rattle.trace_report.specs.Front.{page_title};
 ghost use Rattle.trace_report.specs.InMemory.{HasNoPairPage, HoldsInMemory, IsPageWith, IsPairPageWith, NeedsMemoryForPage, counted_held};
 ghost use Rattle.trace_report.specs.PairPage as Spec;
 
-use crate::held_session::Held;
-use crate::holder::hold_two;
+use crate::keeper::keep_two;
 use crate::pair_page::{PairTitle, write_pair_page};
 use crate::reporter::report;
+use crate::two::Two;
 use std::alloc::Global;
 use trace_canon::counted::{CountedComparison, CountedText, counted};
 use trace_io::{Bytes, Writing};
@@ -71,12 +71,12 @@ pub fn pair_page(
         tester: config.tester(),
         unit: config.unit(),
     };
-    let answer = hold_both(alloc, config, left, right);
+    let answer = keep_both(alloc, config, left, right);
     match &answer {
-        Ok(held) => match text_of(alloc, &title, &answer) {
+        Ok(two) => match text_of(alloc, &title, &answer) {
             Ok(text) => Ok(CountedPage {
                 text,
-                counted: counted_held(held),
+                counted: counted_two(two),
             }),
             Err(_refused) => Err(NoPairPage::OfMemory),
         },
@@ -84,40 +84,35 @@ pub fn pair_page(
     }
 }
 
-/// What two logs say, as [`hold_two`](crate::hold_two) answers it.
-fn hold_both(
-    alloc: Global,
-    config: &Config,
-    left: &[u8],
-    right: &[u8],
-) -> Result<Held, CompareFault>
+/// What two logs say, as [`keep_two`](crate::keep_two) answers it.
+fn keep_both(alloc: Global, config: &Config, left: &[u8], right: &[u8]) -> Result<Two, CompareFault>
     ensures { HoldsInMemory MESSAGE_LIMIT config.now left.now right.now result }
 {
-    hold_two(alloc, config, &mut Bytes::new(left), &mut Bytes::new(right))
+    keep_two(alloc, config, &mut Bytes::new(left), &mut Bytes::new(right))
 }
 
 /// The text of a page of two logs, unless memory for it was refused.
 fn text_of(
     alloc: Global,
     title: &PairTitle<'_>,
-    answer: &Result<Held, CompareFault>,
+    answer: &Result<Two, CompareFault>,
 ) -> Result<Vec<u8>, Fault>
-    ensures { IfOk result (λ text. text.items ≡ Spec.pair_page (Spec.pair_title_of title.now) answer.now) }
+    ensures { IfOk result (λ text. text.items ≡ Spec.pair_page (Spec.pair_title_of title.now) answer.now None) }
 {
     let mut writer = Writing::new(Vec::new(alloc));
-    match write_pair_page(title, answer, &mut writer) {
+    match write_pair_page(title, answer, None, &mut writer) {
         Ok(()) => Ok(writer.into_inner()),
         Err(fault) => Err(fault),
     }
 }
 
-/// How two logs compare that are held, and the counts of each.
-fn counted_held(held: &Held) -> CountedComparison
-    ensures { result ≡ counted_held held.now }
+/// How two logs compare that are kept, and the counts of each.
+fn counted_two(two: &Two) -> CountedComparison
+    ensures { result ≡ counted_held two.now }
 {
     CountedComparison {
-        comparison: held.comparison(),
-        left: held.left.summary(),
-        right: held.right.summary(),
+        comparison: two.comparison(),
+        left: two.left().summary(),
+        right: two.right().summary(),
     }
 }

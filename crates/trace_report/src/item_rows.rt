@@ -1,66 +1,98 @@
 //! The rows of a page of two sessions that tell items, one for each number.
-ghost use Rattle.std.specs.Prelude.{◌≡◌, ◌<◌, ◌+◌, ◌^◌, IfSome, length, option_map, take};
+ghost use Rattle.std.specs.Prelude.{◌≡◌, ◌+◌, ◌-◌, Some, drop, option_map, take};
 ghost use Rattle.trace_report.specs.Blocks.{is_request_role as begins_exchange};
-ghost use Rattle.trace_report.specs.Items.{both, items_in, only_left, only_right, pairs_of};
-ghost use Rattle.trace_report.specs.ItemRows.{different_row, item_note, item_side, item_sides, lines_of_both, next_table, no_answer_text, no_item, note_of, open_mark, pair_row, pair_rows, row_opening, same_row, table_opening, told_answer, told_item, told_message, told_reply, told_reply_if};
+ghost use Rattle.trace_report.specs.Held.{pairs_in};
+ghost use Rattle.trace_report.specs.Items.{both, only_left, only_right};
+ghost use Rattle.trace_report.specs.ItemRows.{different_row, item_note, item_side, item_sides, next_table, no_answer_text, no_item, note_of, open_mark, pair_row, pair_rows, row_opening, same_row, table_opening, told_answer, told_item, told_message, told_reply, told_reply_if};
 ghost use Rattle.trace_report.specs.ItemRows as Spec;
-ghost use Rattle.trace_report.specs.Rows.{asked_at as time_asked, further_note};
-ghost use Rattle.trace_report.specs.proving.Holding.{held_rows, item_of, lent_message, message_of, pair_of, taken_with};
+ghost use Rattle.trace_report.specs.proving.Rowing.{IsKnown, placed_if, row_if};
+ghost use Rattle.trace_report.specs.proving.Lending.{item_of, message_of, pair_of};
 ghost use Rattle.uds_message.specs.Message.{is_suppressing as suppresses};
 
-use crate::blocks::{FULL_BLOCK, is_request_role, say_block_end};
-use crate::contrast::{LogName, contrast_of, say_log_letter};
-use crate::held_session::{HeldMessage, HeldRow};
-use crate::items::{LentItem, LentPair, NextPair, next_pair};
-use crate::message_rows::{asked_at, say_further_note, say_named_lines, say_role};
+use crate::blocks::{BlockEnd, FULL_BLOCK, is_request_role};
+use crate::contrast::{LogName, contrast_of};
+use crate::items::{LentItem, LentMessage, LentPair};
+use crate::message_rows::{FurtherNote, NamedLines, RoleWords, asked_at};
 use crate::row::{MessagePlace, MessageRole};
-use crate::words::{say_data, say_seconds_between};
+use crate::two::Two;
+use crate::words::{Data, Seconds};
+use text_parts::{Part, say};
 use trace_io::TextSink;
 use trace_text::say::{say_number, say_text};
 use uds_message::is_suppressing;
 
-/// Says the rows of what these sessions have of each number, at the most so many, the first of them under this number,
-/// in tables of which the first may be open.
+/// Says the rows of what two sessions have of the numbers from one place to another, counted from 0, in tables of which
+/// the first may be open.
 pub(crate) fn say_pair_rows<S: TextSink>(
     opened: bool,
-    left_origin: u64,
-    right_origin: u64,
-    number: u64,
-    most: usize,
-    left: &[HeldRow],
-    right: &[HeldRow],
+    two: &Two,
+    from: usize,
+    to: usize,
     out: &mut S,
 )
-    ensures { number + (length left.now + length right.now) < 2 ^ 64
-        → S.says out.old (pair_rows opened left_origin right_origin 0 number (take most (pairs_of (items_in (held_rows left.now)) (items_in (held_rows right.now))))) out.new }
+    ensures { S.says out.old (pair_rows opened two.now.left.first two.now.right.first 0 (from + 1) (take (to - from) (drop from (pairs_in two.now)))) out.new }
 {
+    let left = two.left().first();
+    let right = two.right().first();
     let mut placed: u64 = 0;
-    let mut current = number;
-    let mut more = most;
-    let mut left_rest = left;
-    let mut right_rest = right;
-    'pairs: while let Some(next) = next_within(more, left_rest, right_rest) {
-        say_row_opening(opened, placed, current, out);
-        say_pair_row(left_origin, right_origin, current, next.pair, out);
-        placed = one_more_placed(placed);
-        current = current.saturating_add(1);
-        more -= 1;
-        left_rest = next.left;
-        right_rest = next.right;
+    let mut at = from;
+    'pairs: while at < to {
+        placed = say_row_if(
+            opened,
+            placed,
+            left,
+            right,
+            at as u64 + 1,
+            two.is_same_at(at),
+            two.pair(at),
+            out,
+        );
+        at += 1;
     }
-    say_block_end(placed, out);
+    say(out, BlockEnd(placed));
 }
 
-/// What two sessions have of the next number, if they have an item more and so many are wanted.
-fn next_within<'a>(most: usize, left: &'a [HeldRow], right: &'a [HeldRow]) -> Option<NextPair<'a>>
-    ensures pairs { take most (pairs_of (items_in (held_rows left.now)) (items_in (held_rows right.now))) ≡ taken_with most result }
-    ensures wanted { IfSome result (λ next. 0 < most) }
-    ensures shorter { IfSome result (λ next. length next.left.now + length next.right.now < length left.now + length right.now) }
+/// Says the row of a number, if there are items of it, and what begins before it, where so many rows stand in the last
+/// table. Answers how many stand there then. It may be known that the items are the same.
+fn say_row_if<S: TextSink>(
+    opened: bool,
+    placed: u64,
+    left: u64,
+    right: u64,
+    number: u64,
+    same: bool,
+    pair: Option<LentPair<'_>>,
+    out: &mut S,
+) -> u64
+    ensures said { IsKnown same (option_map pair_of pair.entry) → S.says out.old (row_if opened left right placed number (option_map pair_of pair.entry)) out.new }
+    ensures placed { result ≡ placed_if placed (option_map pair_of pair.entry) }
 {
-    if most > 0 {
-        next_pair(left, right)
-    } else {
-        None
+    match pair {
+        Some(pair) => {
+            say_row_opening(opened, placed, number, out);
+            say_known_row(left, right, number, same, pair, out);
+            one_more_placed(placed)
+        }
+        None => placed,
+    }
+}
+
+/// Says the row of a number, of which it may be known that the items are the same.
+fn say_known_row<S: TextSink>(
+    left: u64,
+    right: u64,
+    number: u64,
+    same: bool,
+    pair: LentPair<'_>,
+    out: &mut S,
+)
+    ensures { IsKnown same (Some (pair_of pair.entry)) → S.says out.old (pair_row left right number (pair_of pair.entry)) out.new }
+{
+    match pair {
+        LentPair::Both(a, b) if same => say_same_row(left, right, number, a, b, out),
+        LentPair::Both(_, _) | LentPair::OnlyLeft(_) | LentPair::OnlyRight(_) => say_pair_row(
+            left, right, number, pair, out,
+        ),
     }
 }
 
@@ -86,7 +118,7 @@ fn say_row_opening<S: TextSink>(opened: bool, placed: u64, number: u64, out: &mu
 fn say_next_table<S: TextSink>(number: u64, out: &mut S)
     ensures { S.says out.old (next_table number) out.new }
 {
-    say_block_end(1, out);
+    say(out, BlockEnd(1));
     say_table_opening(false, number, out);
 }
 
@@ -237,31 +269,25 @@ fn say_told_item<S: TextSink>(item: LentItem<'_>, out: &mut S)
     ensures { S.says out.old (told_item (item_of item.entry)) out.new }
 {
     say_told_message(item.begin, out);
-    say_told_reply_if(
-        item.begin.role,
-        item.begin.message.as_slice(),
-        item.answer,
-        out,
-    );
+    say_told_reply_if(item.begin.sent.role, item.begin.bytes, item.answer, out);
 }
 
 /// Says a message, without its place.
-fn say_told_message<S: TextSink>(sent: &HeldMessage, out: &mut S)
-    ensures { S.says out.old (told_message (message_of sent.now)) out.new }
+fn say_told_message<S: TextSink>(lent: LentMessage<'_>, out: &mut S)
+    ensures { S.says out.old (told_message (message_of lent.entry)) out.new }
 {
-    let bytes = sent.message.as_slice();
-    say_role(sent.role, sent.dir, bytes, out);
-    say_data(bytes, out);
+    let words = RoleWords(lent.sent.role, lent.sent.dir, lent.bytes);
+    say(out, (words, Data(lent.bytes)));
 }
 
 /// Says the answer to a message, or what stands in its place, where that is a request.
 fn say_told_reply_if<S: TextSink>(
     role: MessageRole,
     request: &[u8],
-    reply: Option<&HeldMessage>,
+    reply: Option<LentMessage<'_>>,
     out: &mut S,
 )
-    ensures { S.says out.old (told_reply_if (begins_exchange role) request.now (option_map lent_message reply.entry)) out.new }
+    ensures { S.says out.old (told_reply_if (begins_exchange role) request.now (option_map message_of reply.entry)) out.new }
 {
     if is_request_role(role) {
         say_told_reply(request, reply, out);
@@ -269,16 +295,16 @@ fn say_told_reply_if<S: TextSink>(
 }
 
 /// Says the answer to a request, or what stands in its place, behind an arrow.
-fn say_told_reply<S: TextSink>(request: &[u8], reply: Option<&HeldMessage>, out: &mut S)
-    ensures { S.says out.old (told_reply request.now (option_map lent_message reply.entry)) out.new }
+fn say_told_reply<S: TextSink>(request: &[u8], reply: Option<LentMessage<'_>>, out: &mut S)
+    ensures { S.says out.old (told_reply request.now (option_map message_of reply.entry)) out.new }
 {
     say_text(out, " &#8594; ");
     say_told_answer(request, reply, out);
 }
 
 /// Says the answer to a request, or what stands in its place.
-fn say_told_answer<S: TextSink>(request: &[u8], reply: Option<&HeldMessage>, out: &mut S)
-    ensures { S.says out.old (told_answer request.now (option_map lent_message reply.entry)) out.new }
+fn say_told_answer<S: TextSink>(request: &[u8], reply: Option<LentMessage<'_>>, out: &mut S)
+    ensures { S.says out.old (told_answer request.now (option_map message_of reply.entry)) out.new }
 {
     match reply {
         Some(reply) => say_told_message(reply, out),
@@ -318,37 +344,41 @@ fn say_note_of<S: TextSink>(log: LogName, origin: u64, item: LentItem<'_>, out: 
 fn say_item_note<S: TextSink>(
     log: LogName,
     origin: u64,
-    begin: &HeldMessage,
-    last: &HeldMessage,
+    begin: LentMessage<'_>,
+    last: LentMessage<'_>,
     out: &mut S,
 )
-    ensures { S.says out.old (item_note log origin (message_of begin.now) (message_of last.now)) out.new }
+    ensures { S.says out.old (item_note log origin (message_of begin.entry) (message_of last.entry)) out.new }
 {
-    say_text(out, "<i>");
-    say_log_letter(log, out);
-    say_text(out, ": ");
-    say_lines_of_both(&begin.place, &last.place, out);
-    say_text(out, ", ");
-    say_seconds_between(origin, begin.place.last.micros, out);
-    say_text(out, "&#160;s");
-    say_reply_note(last.role, last.place.first.micros, out);
-    say_text(out, "</i>");
-}
-
-/// Says the lines of two messages, each of which may begin or end outside the other one.
-fn say_lines_of_both<S: TextSink>(begin: &MessagePlace, last: &MessagePlace, out: &mut S)
-    ensures { S.says out.old (lines_of_both begin.now last.now) out.new }
-{
-    say_named_lines(
-        begin.first.line.min(last.first.line),
-        begin.last.line.max(last.last.line),
+    say(
         out,
+        (
+            "<i>",
+            log,
+            ": ",
+            LinesOfBoth(begin.sent.place, last.sent.place),
+            ", ",
+            Seconds(origin, begin.sent.place.last.micros),
+            "&#160;s",
+            FurtherNote(asked_at(last.sent.role), last.sent.place.first.micros),
+            "</i>",
+        ),
     );
 }
 
-/// Says how long after its request a message began, if it replies to one.
-fn say_reply_note<S: TextSink>(role: MessageRole, first: u64, out: &mut S)
-    ensures { S.says out.old (further_note (time_asked role) first) out.new }
-{
-    say_further_note(asked_at(role), first, out);
+/// The lines of two messages, each of which may begin or end outside the other one.
+#[derive(Clone, Copy)]
+struct LinesOfBoth(MessagePlace, MessagePlace);
+
+impl Part for LinesOfBoth {
+    ghost use Rattle.trace_report.specs.ItemRows.{lines_of_both};
+
+    ghost text = { λ lines. lines_of_both lines.0 lines.1 };
+
+    fn say<S: TextSink>(self, out: &mut S) {
+        let LinesOfBoth(begin, last) = self;
+        let first = begin.first.line.min(last.first.line);
+        let last = begin.last.line.max(last.last.line);
+        say(out, NamedLines(first, last));
+    }
 }

@@ -9,29 +9,31 @@
 //!
 //! [`report`] is a machine over the driver of `trace_run` (`reporter`). A `follower` knows what the rows to come
 //! depend on: the number of the exchange that waits, how and when its request came, and the `places` where messages
-//! begin. It answers the rows of a frame (`row`). The `chart` says them, in `blocks` that fold, and keeps a `tally` for the verdict.
+//! begin. It answers the rows of a frame (`row`). The `chart` says them, in `blocks` that fold, and keeps a `tally` for
+//! the verdict.
 //!
 //! The text of a page is in pieces: its `front`; the rows of messages (`message_rows`, `brief_rows`) and of what is
-//! missing (`lost_rows`), by `cells` and `words`; the `verdict`, with `links` and `counts`; and the `help`. The style
-//! is no part of what is proved.
+//! missing (`lost_rows`), by `cells` and `words`; the `verdict`, with `reasons`, `links` and `counts`; of a refused log
+//! the `refusal`, with its `cause`, by what it `looks` like; and the `help`. The style is no part of what is proved.
 //!
-//! Of two logs a page says first whether they are the same. So both are held: [`hold_two`] keeps the rows of each
-//! (`holder`), and [`write_pair_page`] writes the page of both.
+//! Of two logs a page says first whether they are the same. So both are kept: [`keep_two`] keeps the rows of each
+//! (`keeper`), and [`write_pair_page`] writes the page of both.
 //!
 //! ```text
-//! event -> Follower -> rows -> Holder -> HeldSession -> items, pairs -> page
+//! event -> Follower -> rows -> Keeper -> Session -> Two -> page
 //! ```
 //!
-//! The `items` are found again among the rows, and those of both logs stand side by side. The first `contrast` of a
-//! pair (`pairs`) is the difference that the page tells (`pair_verdict`) and shows by the rows around it
-//! (`difference`), with a mark at the byte (`marks`). The items before and behind it are rows of a table (`item_rows`,
-//! `pair_items`).
+//! The rows of a [`Session`] are `kept_rows`, which know where the `items` stand among them. [`Two`] has both sessions,
+//! whose items stand side by side, and their comparison. The first `contrast` of a pair is the difference that the page
+//! tells (`pair_verdict`) and shows by the rows around it (`difference`), with a mark at the byte (`marks`). The items
+//! before and behind it are rows of a table (`item_rows`, `pair_items`).
 //!
 //! [`in_memory`] answers of logs in memory with their page and the counts.
 #![tactic(auto)]
 
 mod blocks;
 mod brief_rows;
+mod cause;
 mod cells;
 mod chart;
 mod contrast;
@@ -41,33 +43,41 @@ mod events;
 mod follower;
 mod frames;
 mod front;
-mod held_session;
 mod help;
-mod holder;
 pub mod in_memory;
 mod item_rows;
 mod items;
+mod keeper;
+mod kept_rows;
 pub mod laws;
 mod links;
+mod log_names;
+mod looks;
 mod lost_rows;
 mod marks;
 mod message_rows;
 mod pair_items;
 mod pair_page;
 mod pair_verdict;
-mod pairs;
 mod places;
+mod reasons;
+mod refusal;
 mod reporter;
 mod row;
 mod rows;
+mod session;
 mod sorts;
 mod style;
 mod tally;
+mod two;
 mod verdict;
 mod words;
 
-pub use held_session::{Held, HeldSession};
-pub use holder::hold_two;
+pub use cause::{Cause, CauseOf, CauseRow, cause_of, row_of_cause};
+pub use keeper::keep_two;
+pub use looks::{Look, look_told};
 pub use pair_page::{PairTitle, write_pair_page};
 pub use reporter::report;
+pub use session::Session;
 pub use style::report_style;
+pub use two::Two;

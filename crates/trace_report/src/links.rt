@@ -1,9 +1,8 @@
 //! The links of a report to what needs a look.
-ghost use Rattle.trace_report.specs.Links.{item_link, line_link, link_behind, link_text, links_behind, links_text, look_entry, look_line, more_text, others_text, side_link};
-
 use arrayvec::ArrayVec;
+use text_parts::{Part, say};
 use trace_io::TextSink;
-use trace_text::say::{say_number, say_text};
+use trace_text::Number;
 
 /// So many rows of a sort are linked to.
 const MOST_LINKS: u64 = 10;
@@ -19,120 +18,108 @@ pub(crate) enum Link {
     Side,
 }
 
-/// Says what needs a look for one reason, in these words: how many do, and links to the first.
-pub(crate) fn say_look_line<S: TextSink>(
-    words: &str,
-    link: Link,
-    count: u64,
-    first: &ArrayVec<u64, 10>,
-    out: &mut S,
-)
-    ensures { S.says out.old (look_line words.now link count first.now.items) out.new }
-{
-    if count > 0 {
-        say_look_entry(words, link, count, first.as_slice(), out);
+/// What needs a look for one reason, in these words, where something does: how many do, and links to the first.
+#[derive(Clone, Copy)]
+pub(crate) struct LookLine<'a>(
+    pub &'static str,
+    pub Link,
+    pub u64,
+    pub &'a ArrayVec<u64, 10>,
+);
+
+impl<'a> Part for LookLine<'a> {
+    ghost use Rattle.trace_report.specs.Links.{look_line};
+
+    ghost text = { λ line. look_line line.0.now line.1 line.2 line.3.now.items };
+
+    fn say<S: TextSink>(self, out: &mut S) {
+        let LookLine(words, link, count, first) = self;
+        if count > 0 {
+            say(
+                out,
+                (
+                    "<li>",
+                    words,
+                    " <b>",
+                    Number(count),
+                    "</b>: ",
+                    Links(link, first.as_slice()),
+                    More(count),
+                    "\n",
+                ),
+            );
+        }
     }
 }
 
-/// Says it, where something does.
-fn say_look_entry<S: TextSink>(words: &str, link: Link, count: u64, first: &[u64], out: &mut S)
-    ensures { S.says out.old (look_entry words.now link count first.now) out.new }
-{
-    say_text(out, "<li>");
-    say_text(out, words);
-    say_text(out, " <b>");
-    say_number(out, count);
-    say_text(out, "</b>: ");
-    say_links(link, first, out);
-    say_more(count, out);
-    say_text(out, "\n");
-}
+/// Links with commas between.
+#[derive(Clone, Copy)]
+struct Links<'a>(Link, &'a [u64]);
 
-/// Says links with commas between.
-fn say_links<S: TextSink>(link: Link, targets: &[u64], out: &mut S)
-    ensures { S.says out.old (links_text link targets.now) out.new }
-{
-    if let Some((first, rest)) = targets.split_first() {
-        say_link(link, *first, out);
-        say_links_behind(link, rest, out);
+impl<'a> Part for Links<'a> {
+    ghost use Rattle.trace_report.specs.Links.{links_text};
+
+    ghost text = { λ links. links_text links.0 links.1.now };
+
+    fn say<S: TextSink>(self, out: &mut S) {
+        let Links(link, targets) = self;
+        if let Some((first, rest)) = targets.split_first() {
+            say(out, (LinkTo(link, *first), LinksBehind(link, rest)));
+        }
     }
 }
 
-/// Says links behind another one.
-fn say_links_behind<S: TextSink>(link: Link, targets: &[u64], out: &mut S)
-    ensures { S.says out.old (links_behind link targets.now) out.new }
-{
-    'targets: for target in targets {
-        say_link_behind(link, *target, out);
+/// Links behind another one.
+#[derive(Clone, Copy)]
+struct LinksBehind<'a>(Link, &'a [u64]);
+
+impl<'a> Part for LinksBehind<'a> {
+    ghost use Rattle.trace_report.specs.Links.{links_behind};
+
+    ghost text = { λ links. links_behind links.0 links.1.now };
+
+    fn say<S: TextSink>(self, out: &mut S) {
+        let LinksBehind(link, targets) = self;
+        'targets: for target in targets {
+            say(out, (", ", LinkTo(link, *target)));
+        }
     }
 }
 
-/// Says a link behind another one.
-fn say_link_behind<S: TextSink>(link: Link, target: u64, out: &mut S)
-    ensures { S.says out.old (link_behind link target) out.new }
-{
-    say_text(out, ", ");
-    say_link(link, target, out);
-}
+/// A link.
+#[derive(Clone, Copy)]
+struct LinkTo(Link, u64);
 
-/// Says a link.
-fn say_link<S: TextSink>(link: Link, target: u64, out: &mut S)
-    ensures { S.says out.old (link_text link target) out.new }
-{
-    match link {
-        Link::Item => say_item_link(target, out),
-        Link::Line => say_line_link(target, out),
-        Link::Side => say_side_link(target, out),
+impl Part for LinkTo {
+    ghost use Rattle.trace_report.specs.Links.{link_text};
+
+    ghost text = { λ link. link_text link.0 link.1 };
+
+    fn say<S: TextSink>(self, out: &mut S) {
+        let LinkTo(link, target) = self;
+        let number = Number(target);
+        match link {
+            Link::Item => say(out, ("<a href=\"#i", number, "\">item ", number, "</a>")),
+            Link::Line => say(out, ("<a href=\"#l", number, "\">line ", number, "</a>")),
+            Link::Side if target == 0 => say(out, "<a href=\"#et\">of the tester</a>"),
+            Link::Side => say(out, "<a href=\"#eu\">of the unit</a>"),
+        }
     }
 }
 
-/// Says a link to an item.
-fn say_item_link<S: TextSink>(number: u64, out: &mut S)
-    ensures { S.says out.old (item_link number) out.new }
-{
-    say_text(out, "<a href=\"#i");
-    say_number(out, number);
-    say_text(out, "\">item ");
-    say_number(out, number);
-    say_text(out, "</a>");
-}
+/// How many more there are, where there are more than are linked to.
+#[derive(Clone, Copy)]
+struct More(u64);
 
-/// Says a link to a line.
-fn say_line_link<S: TextSink>(line: u64, out: &mut S)
-    ensures { S.says out.old (line_link line) out.new }
-{
-    say_text(out, "<a href=\"#l");
-    say_number(out, line);
-    say_text(out, "\">line ");
-    say_number(out, line);
-    say_text(out, "</a>");
-}
+impl Part for More {
+    ghost use Rattle.trace_report.specs.Links.{more_text};
 
-/// Says a link to what stands of a side at the end.
-fn say_side_link<S: TextSink>(side: u64, out: &mut S)
-    ensures { S.says out.old (side_link side) out.new }
-{
-    if side == 0 {
-        say_text(out, "<a href=\"#et\">of the tester</a>");
-    } else {
-        say_text(out, "<a href=\"#eu\">of the unit</a>");
+    ghost text = { λ more. more_text more.0 };
+
+    fn say<S: TextSink>(self, out: &mut S) {
+        let count = self.0;
+        if count > MOST_LINKS {
+            say(out, (" and ", Number(count - MOST_LINKS), " more"));
+        }
     }
-}
-
-/// Says how many more there are, where there are more than are linked to.
-fn say_more<S: TextSink>(count: u64, out: &mut S)
-    ensures { S.says out.old (more_text count) out.new }
-{
-    if count > MOST_LINKS {
-        say_others(count - MOST_LINKS, out);
-    }
-}
-
-/// Says that there are so many more.
-fn say_others<S: TextSink>(count: u64, out: &mut S)
-    ensures { S.says out.old (others_text count) out.new }
-{
-    say_text(out, " and ");
-    say_number(out, count);
-    say_text(out, " more");
 }

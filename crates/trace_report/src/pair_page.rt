@@ -8,15 +8,17 @@ ghost use Rattle.trace_report.specs.PairPage.{both_names, held_page, letter_mark
 ghost use Rattle.trace_report.specs.PairPage as Spec;
 ghost use Rattle.trace_report.specs.PairPage.{pair_title_of};
 
+use crate::cause::{Cause, CauseLine};
 use crate::contrast::{LogName, say_log_letter};
-use crate::front::{say_identifiers, say_name, say_notice_with, say_page_start, say_shapes};
-use crate::held_session::Held;
-use crate::help::say_pair_help;
+use crate::front::{Identifiers, Notice, PageStart, Shapes};
+use crate::help::PairHelp;
+use crate::log_names::Name;
 use crate::pair_items::say_items;
-use crate::pair_verdict::{say_pair_verdict, say_sessions};
-use crate::pairs::compare_held;
-use crate::verdict::say_refusal;
+use crate::pair_verdict::{look_exchanged_in, say_pair_verdict, say_sessions};
+use crate::refusal::Refusal;
+use crate::two::Two;
 use can_log::Id;
+use text_parts::say;
 use trace_io::{Target, TextSink};
 use trace_log::{CompareFault, Fault};
 use trace_run::{Printable, print};
@@ -32,63 +34,83 @@ pub struct PairTitle<'a> {
     pub unit: Id,
 }
 
-/// Writes the page of what is answered of two logs. Nothing is written where a device failed or memory was refused.
+/// Writes the page of what is answered of two logs, where this is the cause of a refusal. Nothing is written where a
+/// device failed or memory was refused.
 ///
 /// The target is not flushed.
 pub fn write_pair_page<W: Target>(
     title: &PairTitle<'_>,
-    answer: &Result<Held, CompareFault>,
+    answer: &Result<Two, CompareFault>,
+    cause: Option<Cause>,
     target: &mut W,
 ) -> Result<(), Fault>
     requires { IsLowCount (W.failures target.old) }
 
     // Its text was written, or a front of it where writing failed; and what that did with the target.
-    ensures printed { Prints W.Target (pair_page (pair_title_of title.now) answer.now) target.old result target.new }
+    ensures printed { Prints W.Target (pair_page (pair_title_of title.now) answer.now cause) target.old result target.new }
 {
-    print(&PairPage { title, answer }, target)
+    let page = PairPage {
+        title,
+        answer,
+        cause,
+    };
+    print(&page, target)
 }
 
 /// A page of two logs.
 #[derive(Drop)]
 struct PairPage<'a> {
     title: &'a PairTitle<'a>,
-    answer: &'a Result<Held, CompareFault>,
+    answer: &'a Result<Two, CompareFault>,
+    cause: Option<Cause>,
 }
 
 impl<'a> Printable for PairPage<'a> {
     ghost use Rattle.trace_report.specs.PairPage.{pair_page};
     ghost use Rattle.trace_report.specs.PairPage.{pair_title_of};
 
-    ghost text = { λ t. pair_page (pair_title_of t.title.now) t.answer.now };
+    ghost text = { λ t. pair_page (pair_title_of t.title.now) t.answer.now t.cause };
 
     fn say<S: TextSink>(&self, out: &mut S) {
         match self.answer {
-            Ok(held) => say_held_page(self.title, held, out),
-            Err(CompareFault::Left(why)) => say_unread_page(self.title, LogName::A, *why, out),
-            Err(CompareFault::Right(why)) => say_unread_page(self.title, LogName::B, *why, out),
+            Ok(two) => say_held_page(self.title, two, out),
+            Err(CompareFault::Left(why)) => say_unread_page(
+                self.title,
+                LogName::A,
+                *why,
+                self.cause,
+                out,
+            ),
+            Err(CompareFault::Right(why)) => say_unread_page(
+                self.title,
+                LogName::B,
+                *why,
+                self.cause,
+                out,
+            ),
         }
     }
 }
 
 /// Says the page of two logs that can be read.
-fn say_held_page<S: TextSink>(title: &PairTitle<'_>, held: &Held, out: &mut S)
-    ensures { S.says out.old (held_page (pair_title_of title.now) held.now) out.new }
+fn say_held_page<S: TextSink>(title: &PairTitle<'_>, two: &Two, out: &mut S)
+    ensures { S.says out.old (held_page (pair_title_of title.now) two.now) out.new }
 {
     say_pair_front(title, out);
-    say_pair_body(title, held, out);
+    say_pair_body(title, two, out);
 }
 
 /// Says what stands behind its front.
-fn say_pair_body<S: TextSink>(title: &PairTitle<'_>, held: &Held, out: &mut S)
-    ensures { S.says out.old (pair_body (pair_title_of title.now) held.now (pairs_in held.now) (first_contrast (pairs_in held.now))) out.new }
+fn say_pair_body<S: TextSink>(title: &PairTitle<'_>, two: &Two, out: &mut S)
+    ensures { S.says out.old (pair_body (pair_title_of title.now) two.now (pairs_in two.now) (first_contrast (pairs_in two.now))) out.new }
 {
-    let compared = compare_held(held);
-    say_pair_verdict(&compared, out);
-    say_sessions(title, held, out);
+    let first = two.difference();
+    say_pair_verdict(look_exchanged_in(two), two.numbers(), &first, out);
+    say_sessions(title, two, out);
     say_text(out, "<main id=\"session\">\n");
-    say_items(title, held, &compared, out);
+    say_items(title, two, &first, out);
     say_text(out, "</main>\n");
-    say_pair_help(out);
+    say(out, PairHelp);
 }
 
 /// Says the front of a page.
@@ -96,7 +118,7 @@ fn say_pair_front<S: TextSink>(title: &PairTitle<'_>, out: &mut S)
     ensures { S.says out.old (pair_front (pair_title_of title.now)) out.new }
 {
     say_pair_head(title, out);
-    say_shapes(out);
+    say(out, Shapes);
     say_pair_header(title, out);
 }
 
@@ -104,7 +126,7 @@ fn say_pair_front<S: TextSink>(title: &PairTitle<'_>, out: &mut S)
 fn say_pair_head<S: TextSink>(title: &PairTitle<'_>, out: &mut S)
     ensures { S.says out.old (pair_head (pair_title_of title.now)) out.new }
 {
-    say_page_start(out);
+    say(out, PageStart);
     say_text(out, "<title>");
     say_both_names(title.left, title.right, out);
     say_text(out, " - udsnorm report</title>\n<style>\n");
@@ -116,9 +138,9 @@ fn say_pair_head<S: TextSink>(title: &PairTitle<'_>, out: &mut S)
 fn say_both_names<S: TextSink>(left: &[u8], right: &[u8], out: &mut S)
     ensures { S.says out.old (both_names left.now right.now) out.new }
 {
-    say_name(left, out);
+    say(out, Name(left));
     say_text(out, " and ");
-    say_name(right, out);
+    say(out, Name(right));
 }
 
 /// Says what the page is about.
@@ -133,8 +155,8 @@ fn say_pair_header<S: TextSink>(title: &PairTitle<'_>, out: &mut S)
     say_text(out, "<br>");
     say_lettered_name(LogName::B, title.right, out);
     say_text(out, "</h1>\n");
-    say_identifiers(title.tester, title.unit, out);
-    say_notice_with("Verdict", "Items", out);
+    say(out, Identifiers(title.tester, title.unit));
+    say(out, Notice("Verdict", "Items"));
 }
 
 /// Says a log by its letter and its name.
@@ -142,7 +164,7 @@ pub(crate) fn say_lettered_name<S: TextSink>(log: LogName, name: &[u8], out: &mu
     ensures { S.says out.old (lettered_name log name.now) out.new }
 {
     say_letter_mark(log, out);
-    say_name(name, out);
+    say(out, Name(name));
 }
 
 /// Says a log by its letter.
@@ -155,11 +177,17 @@ fn say_letter_mark<S: TextSink>(log: LogName, out: &mut S)
 }
 
 /// Says the page where a log can't be read, if that has one.
-fn say_unread_page<S: TextSink>(title: &PairTitle<'_>, log: LogName, why: Fault, out: &mut S)
-    ensures { S.says out.old (unread_page (pair_title_of title.now) log why) out.new }
+fn say_unread_page<S: TextSink>(
+    title: &PairTitle<'_>,
+    log: LogName,
+    why: Fault,
+    cause: Option<Cause>,
+    out: &mut S,
+)
+    ensures { S.says out.old (unread_page (pair_title_of title.now) log why cause) out.new }
 {
     if has_page(why) {
-        say_refused_pair(title, log, why, out);
+        say_refused_pair(title, log, why, cause, out);
     }
 }
 
@@ -175,8 +203,14 @@ fn has_page(why: Fault) -> bool
 }
 
 /// Says the page where a log is refused.
-fn say_refused_pair<S: TextSink>(title: &PairTitle<'_>, log: LogName, why: Fault, out: &mut S)
-    ensures { S.says out.old (refused_pair (pair_title_of title.now) log why) out.new }
+fn say_refused_pair<S: TextSink>(
+    title: &PairTitle<'_>,
+    log: LogName,
+    why: Fault,
+    cause: Option<Cause>,
+    out: &mut S,
+)
+    ensures { S.says out.old (refused_pair (pair_title_of title.now) log why cause) out.new }
 {
     say_pair_front(title, out);
     say_text(
@@ -185,10 +219,15 @@ fn say_refused_pair<S: TextSink>(title: &PairTitle<'_>, log: LogName, why: Fault
     );
     say_log_letter(log, out);
     say_text(out, " is refused, so nothing is compared</h2>\n<p><em>");
-    say_refusal(why, out);
+    say(out, Refusal(why));
     say_text(
         out,
-        ".</em> A report of this log alone shows the lines before that.</p>\n</section>\n<main id=\"session\">\n<h2>Items</h2>\n<p>Nothing is compared.</p>\n</main>\n",
+        ".</em> A report of this log alone shows the lines before that.</p>\n",
     );
-    say_pair_help(out);
+    say(out, CauseLine(cause));
+    say_text(
+        out,
+        "</section>\n<main id=\"session\">\n<h2>Items</h2>\n<p>Nothing is compared.</p>\n</main>\n",
+    );
+    say(out, PairHelp);
 }

@@ -1,38 +1,49 @@
 //! The verdict of a page of two logs, and what was found of each of them.
-ghost use Rattle.std.specs.Prelude.{◌≡◌, ℕ, None};
+ghost use Rattle.std.specs.Prelude.{◌≡◌, None, option_map};
 ghost use Rattle.trace_report.specs.Counts.{counts_text};
-ghost use Rattle.trace_report.specs.PairPage.{different_verdict, nothing_verdict, same_before, same_verdict, session_text, sessions_text, state_text, unclean_state, verdict_by};
+ghost use Rattle.trace_report.specs.PairPage.{different_verdict, nothing_verdict, same_before, same_exchanged_verdict, same_verdict, session_text, sessions_text, state_start, state_text, unclean_state, verdict_by};
+ghost use Rattle.trace_report.specs.PairPage as Spec;
 ghost use Rattle.trace_report.specs.Sorts.{counts_in};
 ghost use Rattle.trace_report.specs.Verdict.{span_of};
-ghost use Rattle.trace_report.specs.proving.Holding.{IfSame, contrast_found, first_compared};
+ghost use Rattle.trace_report.specs.proving.Lending.{contrast_found};
 ghost use Rattle.trace_report.specs.PairPage.{pair_title_of};
 
 use crate::contrast::{LogName, say_contrast_words};
-use crate::counts::say_counts;
-use crate::held_session::{Held, HeldSession};
+use crate::counts::Counts;
 use crate::pair_page::{PairTitle, say_lettered_name};
-use crate::pairs::{Compared, FoundContrast, counts_of};
-use crate::verdict::{say_span_of, say_unclean_reasons};
+use crate::reasons::UncleanReasons;
+use crate::session::Session;
+use crate::two::{Difference, Two};
+use crate::verdict::{SpanOf, is_called_clean};
+use text_parts::{Either, say};
 use trace_io::TextSink;
 use trace_log::Summary;
 use trace_text::say::{say_number, say_place, say_text};
 
-/// Says whether the two sessions are the same, if they have items.
-pub(crate) fn say_pair_verdict<S: TextSink>(compared: &Compared<'_>, out: &mut S)
-    ensures { (count : ℕ) → IfSame compared.now (λ same. same ≡ count) → S.says out.old (verdict_by count (first_compared compared.now)) out.new }
+/// Says whether two sessions with items of so many numbers are the same, if they have items, by whether tester and unit
+/// look exchanged in one of them.
+pub(crate) fn say_pair_verdict<S: TextSink>(
+    exchanged: bool,
+    count: usize,
+    first: &Option<Difference<'_>>,
+    out: &mut S,
+)
+    ensures { S.says out.old (verdict_by exchanged count (option_map contrast_found first.now)) out.new }
 {
-    match compared {
-        Compared::Same(count) => say_verdict_of_same(*count, out),
-        Compared::Different(found) => say_different_verdict(found, out),
+    match first {
+        None => say_verdict_of_same(exchanged, count, out),
+        Some(found) => say_different_verdict(found, out),
     }
 }
 
 /// Says that the two sessions don't differ, with so many items.
-fn say_verdict_of_same<S: TextSink>(count: usize, out: &mut S)
-    ensures { S.says out.old (verdict_by count None) out.new }
+fn say_verdict_of_same<S: TextSink>(exchanged: bool, count: usize, out: &mut S)
+    ensures { S.says out.old (verdict_by exchanged count None) out.new }
 {
     if count == 0 {
         say_nothing_verdict(out);
+    } else if exchanged {
+        say_same_exchanged_verdict(count, out);
     } else {
         say_same_verdict(count, out);
     }
@@ -64,8 +75,27 @@ fn say_same_verdict<S: TextSink>(count: usize, out: &mut S)
     say_text(out, ". Each is equal in both, byte for byte.</p>\n");
 }
 
+/// Says the same of sessions of which tester and unit look exchanged.
+fn say_same_exchanged_verdict<S: TextSink>(count: usize, out: &mut S)
+    ensures { S.says out.old (same_exchanged_verdict count) out.new }
+{
+    say_text(
+        out,
+        "<section id=\"verdict\" class=\"warn\">\n<h2><span aria-hidden=\"true\">!</span> The two sessions are the same, but tester and unit look exchanged</h2>\n<p>Items: ",
+    );
+    say_number(out, count as u64);
+    say_text(out, ". Each is equal in both, byte for byte.</p>\n");
+}
+
+/// Whether tester and unit look exchanged in one of two logs, or in both.
+pub(crate) fn look_exchanged_in(two: &Two) -> bool
+    ensures { result ≡ Spec.look_exchanged_in two.now }
+{
+    two.left().summary().looks_exchanged || two.right().summary().looks_exchanged
+}
+
 /// Says where the two sessions first differ.
-fn say_different_verdict<S: TextSink>(found: &FoundContrast<'_>, out: &mut S)
+fn say_different_verdict<S: TextSink>(found: &Difference<'_>, out: &mut S)
     ensures { S.says out.old (different_verdict (contrast_found found.now)) out.new }
 {
     say_text(
@@ -90,17 +120,17 @@ fn say_same_before<S: TextSink>(count: usize, out: &mut S)
 }
 
 /// Says what was found of both logs.
-pub(crate) fn say_sessions<S: TextSink>(title: &PairTitle<'_>, held: &Held, out: &mut S)
-    ensures { S.says out.old (sessions_text (pair_title_of title.now) held.now) out.new }
+pub(crate) fn say_sessions<S: TextSink>(title: &PairTitle<'_>, two: &Two, out: &mut S)
+    ensures { S.says out.old (sessions_text (pair_title_of title.now) two.now) out.new }
 {
     say_text(out, "<div class=\"two\">\n");
-    say_session(LogName::A, title.left, &held.left, out);
-    say_session(LogName::B, title.right, &held.right, out);
+    say_session(LogName::A, title.left, two.left(), out);
+    say_session(LogName::B, title.right, two.right(), out);
     say_text(out, "</div>\n</section>\n");
 }
 
 /// Says what was found of one log.
-fn say_session<S: TextSink>(log: LogName, name: &[u8], session: &HeldSession, out: &mut S)
+fn say_session<S: TextSink>(log: LogName, name: &[u8], session: &Session, out: &mut S)
     ensures { S.says out.old (session_text log name.now session.now) out.new }
 {
     say_text(out, "<section>\n<h3>");
@@ -114,7 +144,7 @@ fn say_session<S: TextSink>(log: LogName, name: &[u8], session: &HeldSession, ou
 }
 
 /// Says whether the recording of a session is clean.
-fn say_state_of<S: TextSink>(session: &HeldSession, out: &mut S)
+fn say_state_of<S: TextSink>(session: &Session, out: &mut S)
     ensures { S.says out.old (state_text session.now.summary) out.new }
 {
     say_state(&session.summary(), out);
@@ -124,36 +154,52 @@ fn say_state_of<S: TextSink>(session: &HeldSession, out: &mut S)
 fn say_state<S: TextSink>(summary: &Summary, out: &mut S)
     ensures { S.says out.old (state_text summary.now) out.new }
 {
-    if summary.is_clean() {
+    if is_called_clean(summary) {
         say_text(out, "The recording is clean.");
     } else {
         say_unclean_state(summary, out);
     }
 }
 
-/// Says why a recording is not clean.
+/// Says why a recording is not called clean.
 fn say_unclean_state<S: TextSink>(summary: &Summary, out: &mut S)
     ensures { S.says out.old (unclean_state summary.now) out.new }
 {
-    say_text(out, "<b>The recording is not clean:</b> ");
-    say_unclean_reasons(summary, out);
+    say_state_start(summary, out);
+    say(out, UncleanReasons(summary));
+}
+
+/// Says that the sides of a recording look exchanged, that it is not clean, or both.
+fn say_state_start<S: TextSink>(summary: &Summary, out: &mut S)
+    ensures { S.says out.old (state_start summary.now) out.new }
+{
+    say(
+        out,
+        Either(
+            summary.looks_exchanged,
+            Either(
+                summary.is_clean(),
+                "<b>Tester and unit look exchanged:</b> ",
+                "<b>The recording is not clean, and tester and unit look exchanged:</b> ",
+            ),
+            "<b>The recording is not clean:</b> ",
+        ),
+    );
 }
 
 /// Says the counts of a session.
-fn say_counts_of<S: TextSink>(session: &HeldSession, out: &mut S)
+fn say_counts_of<S: TextSink>(session: &Session, out: &mut S)
     ensures { S.says out.old (counts_text (counts_in session.now.rows) session.now.summary) out.new }
 {
-    say_counts(&counts_of(session.rows()), &session.summary(), out);
+    say(out, Counts(&session.rows().counts(), &session.summary()));
 }
 
 /// Says from when to when a session goes.
-fn say_span_of_session<S: TextSink>(session: &HeldSession, out: &mut S)
+fn say_span_of_session<S: TextSink>(session: &Session, out: &mut S)
     ensures { S.says out.old (span_of session.now.summary.frames session.now.first session.now.last) out.new }
 {
-    say_span_of(
-        session.summary().frames,
-        session.first(),
-        session.last(),
+    say(
         out,
+        SpanOf(session.summary().frames, session.first(), session.last()),
     );
 }

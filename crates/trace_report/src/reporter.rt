@@ -2,26 +2,28 @@
 ghost use Rattle.std.specs.Prelude.{◌≡◌, List, [], ◌∷◌, ◌++◌, Option};
 ghost use Rattle.isotp_receive.specs.declared.TheConstants.{MESSAGE_LIMIT};
 ghost use Rattle.isotp_receive.specs.Trace.{Entry};
-ghost use Rattle.trace_run.specs.Told.{RanLenient, answers_counts, needs_none};
+ghost use Rattle.trace_run.specs.Told.{RanLenient, answers_counts, glimpse_of, needs_none};
 ghost use Rattle.trace_io.specs.Counted.{IsLowCount};
 ghost use Rattle.trace_report.specs.Front.{page_title};
-ghost use Rattle.trace_report.specs.Page.{first_time, front_before, last_time, page_end, refused_end, report_script};
+ghost use Rattle.trace_report.specs.Page.{first_time, front_before, last_time, report_script};
 ghost use Rattle.trace_report.specs.proving.Following.{times_of};
 ghost use Rattle.trace_report.specs.proving.Pages.{title_of};
 ghost use Rattle.trace_log.specs.Devices.{HasLowCounts};
 
-use crate::blocks::say_block_end;
+use crate::blocks::BlockEnd;
+use crate::cause::{Cause, cause_of};
 use crate::chart::Chart;
 use crate::follower::Follower;
-use crate::front::{Title, say_front};
-use crate::help::say_help;
-use crate::verdict::{say_refused_verdict, say_stop_line, say_verdict};
+use crate::front::{Front, Title};
+use crate::help::Help;
+use crate::refusal::StopLine;
+use crate::verdict::{RefusedVerdict, Verdict};
 use isotp_receive::Pair;
 use std::alloc::{AllocError, Global};
+use text_parts::{Part, say};
 use trace_io::{Source, Target, TextSink};
 use trace_log::{Config, Fault, Summary};
-use trace_run::{Machine, Seen, Stop, run_lenient};
-use trace_text::say::say_text;
+use trace_run::{Glimpse, Machine, Seen, Stop, run_lenient};
 
 /// Reads a log and writes its session as a page of HTML, with this style and the name of the log: each row as its frame comes, and
 /// at the end the verdict, which the style shows first.
@@ -39,7 +41,7 @@ pub fn report<R: Source, W: Target>(
     requires writer { IsLowCount (W.failures writer.old) }
 
     // What is answered and written; that it is written before more is read; and what was done with the devices.
-    ensures ran { RanLenient R.Source W.Target (report_script (page_title style.now name.now config.now) MESSAGE_LIMIT) answers_counts needs_none MESSAGE_LIMIT config.now reader.old writer.old result reader.new writer.new }
+    ensures ran { RanLenient R.Source W.Target (report_script (page_title style.now name.now config.now) MESSAGE_LIMIT (glimpse_of R.Source reader.new)) answers_counts needs_none MESSAGE_LIMIT config.now reader.old writer.old result reader.new writer.new }
 {
     let machine = Reporter {
         title: Title {
@@ -47,6 +49,7 @@ pub fn report<R: Source, W: Target>(
             name,
             tester: config.tester(),
             unit: config.unit(),
+            most: config.max_bytes(),
         },
         span: None,
         follower: Follower::start(),
@@ -75,7 +78,7 @@ pub(crate) struct Reporter<'a> {
 impl<'a> Machine for Reporter<'a> {
     ghost use Rattle.isotp_receive.specs.declared.TheConstants.{MESSAGE_LIMIT};
     ghost use Rattle.trace_run.specs.Told.{answers_counts};
-    ghost use Rattle.trace_report.specs.Page.{report_script};
+    ghost use Rattle.trace_report.specs.Page.{nothing_seen, refused_text, report_script};
     ghost use Rattle.trace_report.specs.proving.Following.{Reports};
     ghost use Rattle.trace_report.specs.proving.Pages.{title_of};
 
@@ -83,7 +86,9 @@ impl<'a> Machine for Reporter<'a> {
 
     ghost stands = { λ start T now. Reports (title_of start.title) T now };
 
-    ghost script = { λ start. report_script (title_of start.title) MESSAGE_LIMIT };
+    ghost script = { λ start. report_script (title_of start.title) MESSAGE_LIMIT nothing_seen };
+
+    ghost refusal = { λ start. refused_text (title_of start.title) MESSAGE_LIMIT };
 
     ghost answers = { λ start. answers_counts };
 
@@ -120,11 +125,11 @@ impl<'a> Machine for Reporter<'a> {
         } = self;
         let origin = say_front_before(&title, span, 0, out);
         chart.say_rows(origin, follower.end(pair), out);
-        say_page_end(&chart, summary, origin, last_of(span), out);
+        say(out, PageEnd(&chart, summary, origin, last_of(span)));
         Ok(*summary)
     }
 
-    fn refused<S: TextSink>(self, summary: &Summary, why: Fault, out: &mut S) {
+    fn refused<S: TextSink>(self, summary: &Summary, why: Fault, source: Glimpse<'_>, out: &mut S) {
         let Reporter {
             title,
             span,
@@ -132,7 +137,11 @@ impl<'a> Machine for Reporter<'a> {
             chart,
         } = self;
         let origin = say_front_before(&title, span, 0, out);
-        say_refused_end(why, &chart, summary, origin, last_of(span), out);
+        let cause = cause_of(why, title.most, source);
+        say(
+            out,
+            RefusedEnd(why, cause, &chart, summary, origin, last_of(span)),
+        );
     }
 }
 
@@ -150,7 +159,7 @@ fn say_front_before<S: TextSink>(
     match span {
         Some(span) => span.first,
         None => {
-            say_front(title, out);
+            say(out, Front(*title));
             micros
         }
     }
@@ -166,30 +175,49 @@ fn last_of(span: Option<Span>) -> u64
     }
 }
 
-/// Says what stands behind all rows, in a page whose first frame has the time `first`, and its last one the time `last`.
-fn say_page_end<S: TextSink>(chart: &Chart, summary: &Summary, first: u64, last: u64, out: &mut S)
-    ensures { S.says out.old (page_end chart.now.blocks chart.now.tally summary.now first last) out.new }
-{
-    say_block_end(chart.blocks.count, out);
-    say_text(out, "</main>\n");
-    say_verdict(&chart.tally, summary, first, last, out);
-    say_help(out);
+/// What stands behind all rows, in a page whose first frame and last one have these times.
+#[derive(Clone, Copy)]
+struct PageEnd<'a>(&'a Chart, &'a Summary, u64, u64);
+
+impl<'a> Part for PageEnd<'a> {
+    ghost use Rattle.trace_report.specs.Page.{page_end};
+
+    ghost text = { λ end. page_end end.0.now.blocks end.0.now.tally end.1.now end.2 end.3 };
+
+    fn say<S: TextSink>(self, out: &mut S) {
+        let PageEnd(chart, summary, first, last) = self;
+        say(
+            out,
+            (
+                BlockEnd(chart.blocks.count),
+                "</main>\n",
+                Verdict(&chart.tally, summary, first, last),
+                Help,
+            ),
+        );
+    }
 }
 
-/// Says the same of the page of a log that is refused.
-fn say_refused_end<S: TextSink>(
-    why: Fault,
-    chart: &Chart,
-    summary: &Summary,
-    first: u64,
-    last: u64,
-    out: &mut S,
-)
-    ensures { S.says out.old (refused_end why chart.now.blocks chart.now.tally summary.now first last) out.new }
-{
-    say_block_end(chart.blocks.count, out);
-    say_stop_line(why, out);
-    say_text(out, "</main>\n");
-    say_refused_verdict(why, &chart.tally, summary, first, last, out);
-    say_help(out);
+/// The same of the page of a log that is refused.
+#[derive(Clone, Copy)]
+struct RefusedEnd<'a>(Fault, Option<Cause>, &'a Chart, &'a Summary, u64, u64);
+
+impl<'a> Part for RefusedEnd<'a> {
+    ghost use Rattle.trace_report.specs.Page.{refused_end};
+
+    ghost text = { λ end. refused_end end.0 end.1 end.2.now.blocks end.2.now.tally end.3.now end.4 end.5 };
+
+    fn say<S: TextSink>(self, out: &mut S) {
+        let RefusedEnd(why, cause, chart, summary, first, last) = self;
+        say(
+            out,
+            (
+                BlockEnd(chart.blocks.count),
+                StopLine(why),
+                "</main>\n",
+                RefusedVerdict(why, cause, &chart.tally, summary, first, last),
+                Help,
+            ),
+        );
+    }
 }

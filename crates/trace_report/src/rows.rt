@@ -4,10 +4,11 @@ ghost use Rattle.trace_report.specs.Blocks.{blocks_behind, rows_text};
 ghost use Rattle.trace_report.specs.Rows.{row_text};
 ghost use Rattle.trace_report.specs.proving.Pages.{row_of};
 
-use crate::blocks::{Blocks, begins_exchange, is_brief, one_more_row, say_opening};
+use crate::blocks::{Blocks, Opening, begins_exchange, is_brief, one_more_row};
 use crate::brief_rows::say_message;
 use crate::lost_rows::{say_dropped_row, say_ended_row, say_no_answer_row, say_unfinished_row};
 use crate::row::Row;
+use text_parts::say;
 use trace_io::TextSink;
 
 /// Says a row behind those before, and what begins before it.
@@ -15,7 +16,7 @@ pub(crate) fn say_next_row<S: TextSink>(origin: u64, blocks: &mut Blocks, row: R
     ensures says { blocks.old.count < 2 ^ 64 - 1 → blocks.old.rows < 2 ^ 64 - 1 → S.says out.old (rows_text origin blocks.old (row_of row.entry ∷ [])) out.new }
     ensures stands { blocks.old.count < 2 ^ 64 - 1 → blocks.old.rows < 2 ^ 64 - 1 → blocks.new ≡ blocks_behind blocks.old (row_of row.entry ∷ []) }
 {
-    say_opening(origin, *blocks, row, out);
+    say(out, Opening(origin, *blocks, row));
     *blocks = one_more_row(begins_exchange(row), *blocks);
     say_row(is_brief(*blocks), origin, row, out);
 }

@@ -1,14 +1,14 @@
 //! The words of a report: times, and the bytes of messages.
 ghost use Rattle.std.specs.Prelude.{◌≡◌, ◌<◌, ◌≤◌, length, take};
-ghost use Rattle.std.specs.Fmt.{decimal};
-ghost use Rattle.trace_canon.specs.MessageLines.{stamp_text};
-ghost use Rattle.trace_report.specs.Words.{brief_cut, brief_data, bytes_apart, bytes_behind, cut_data, data_text, folded_data, grey_letters, letter_text, letters, letters_text, milliseconds_between, milliseconds_text, seconds_between, short_data, sign_text};
+ghost use Rattle.trace_report.specs.Words.{bytes_apart, bytes_behind, letter_text, letters};
 ghost use Rattle.trace_report.specs.Words as Spec;
 
 use can_log::digits_of_bytes;
 use std::simd::prelude::*;
+use text_parts::{Part, When, say};
 use trace_io::TextSink;
-use trace_text::say::{say_byte, say_number, say_six_decimals, say_text, say_three_decimals};
+use trace_text::say::say_byte;
+use trace_text::{Number, SixDecimals, ThreeDecimals};
 
 /// Up to so many bytes, all of a message are shown.
 pub(crate) const MOST_SHOWN: usize = 64;
@@ -19,48 +19,60 @@ const MOST_FOLDED: usize = 512;
 /// So many are the first ones.
 pub(crate) const SHOWN_FIRST: usize = 32;
 
-/// Says a time in seconds.
-pub(crate) fn say_stamp<S: TextSink>(micros: u64, out: &mut S)
-    ensures { S.says out.old (stamp_text micros) out.new }
-{
-    say_number(out, micros / 1_000_000);
-    say_text(out, ".");
-    say_six_decimals(out, micros);
-}
+/// A time in seconds.
+#[derive(Clone, Copy)]
+pub(crate) struct Stamp(pub u64);
 
-/// Says a time in milliseconds.
-fn say_milliseconds<S: TextSink>(micros: u64, out: &mut S)
-    ensures { S.says out.old (milliseconds_text micros) out.new }
-{
-    say_number(out, micros / 1000);
-    say_text(out, ".");
-    say_three_decimals(out, micros);
-    say_text(out, "&#160;ms");
-}
+impl Part for Stamp {
+    ghost use Rattle.trace_canon.specs.MessageLines.{stamp_text};
 
-/// Says a minus, where one time is before another.
-fn say_sign<S: TextSink>(start: u64, end: u64, out: &mut S)
-    ensures { S.says out.old (sign_text start end) out.new }
-{
-    if start > end {
-        say_text(out, "-");
+    ghost text = { λ stamp. stamp_text stamp.0 };
+
+    fn say<S: TextSink>(self, out: &mut S) {
+        say(out, (Number(self.0 / 1_000_000), ".", SixDecimals(self.0)));
     }
 }
 
-/// Says the seconds from one time to another.
-pub(crate) fn say_seconds_between<S: TextSink>(start: u64, end: u64, out: &mut S)
-    ensures { S.says out.old (seconds_between start end) out.new }
-{
-    say_sign(start, end, out);
-    say_stamp(start.abs_diff(end), out);
+/// The seconds from one time to another: a minus, where one is before another.
+#[derive(Clone, Copy)]
+pub(crate) struct Seconds(pub u64, pub u64);
+
+impl Part for Seconds {
+    ghost use Rattle.trace_report.specs.Words.{seconds_between};
+
+    ghost text = { λ time. seconds_between time.0 time.1 };
+
+    fn say<S: TextSink>(self, out: &mut S) {
+        let Seconds(from, to) = self;
+        say(out, (When(from > to, "-"), Stamp(from.abs_diff(to))));
+    }
 }
 
-/// Says the milliseconds from one time to another.
-pub(crate) fn say_milliseconds_between<S: TextSink>(start: u64, end: u64, out: &mut S)
-    ensures { S.says out.old (milliseconds_between start end) out.new }
-{
-    say_sign(start, end, out);
-    say_milliseconds(start.abs_diff(end), out);
+/// The milliseconds from one time to another.
+#[derive(Clone, Copy)]
+pub(crate) struct Milliseconds(pub u64, pub u64);
+
+impl Part for Milliseconds {
+    ghost use Rattle.trace_report.specs.Words.{milliseconds_between};
+
+    ghost text = { λ time. milliseconds_between time.0 time.1 };
+
+    fn say<S: TextSink>(self, out: &mut S) {
+        let Milliseconds(from, to) = self;
+        let between = from.abs_diff(to);
+        say(
+            out,
+            (
+                When(from > to, "-"),
+                (
+                    Number(between / 1000),
+                    ".",
+                    ThreeDecimals(between),
+                    "&#160;ms",
+                ),
+            ),
+        );
+    }
 }
 
 /// Says two digits for each byte, and a blank between.
@@ -233,101 +245,126 @@ fn eight_letters(bytes: &[u8; 8]) -> [u8; 8]
     ]
 }
 
-/// Says bytes as letters, where they may be text.
-fn say_letters_text<S: TextSink>(bytes: &[u8], out: &mut S)
-    ensures { S.says out.old (letters_text bytes.now) out.new }
-{
-    if has_word(bytes) {
-        say_grey_letters(bytes, out);
-    }
-}
+/// Bytes as letters, in grey, where they may be text.
+#[derive(Clone, Copy)]
+struct LettersText<'a>(&'a [u8]);
 
-/// Says bytes as letters, in grey.
-fn say_grey_letters<S: TextSink>(bytes: &[u8], out: &mut S)
-    ensures { S.says out.old (grey_letters bytes.now) out.new }
-{
-    say_text(out, " <samp>");
-    say_letters(bytes, out);
-    say_text(out, "</samp>");
-}
+impl<'a> Part for LettersText<'a> {
+    ghost use Rattle.trace_report.specs.Words.{letters_text};
 
-/// Says the bytes of a message, as far as its row shows them.
-pub(crate) fn say_data<S: TextSink>(bytes: &[u8], out: &mut S)
-    ensures { S.says out.old (data_text bytes.now) out.new }
-{
-    if bytes.len() <= MOST_SHOWN {
-        say_short_data(bytes, out);
-    } else {
-        let (front, rest) = bytes.split_at(SHOWN_FIRST);
-        if bytes.len() <= MOST_FOLDED {
-            say_folded_data(front, rest, out);
-        } else {
-            say_cut_data(front, rest.len() as u64, out);
+    ghost text = { λ bytes. letters_text bytes.0.now };
+
+    fn say<S: TextSink>(self, out: &mut S) {
+        if has_word(self.0) {
+            say(out, (" <samp>", Letters(self.0), "</samp>"));
         }
     }
 }
 
-/// Says the bytes of a message, as far as a brief row shows them.
-pub(crate) fn say_brief_data<S: TextSink>(bytes: &[u8], out: &mut S)
-    ensures { S.says out.old (brief_data bytes.now) out.new }
-{
-    if bytes.len() <= SHOWN_FIRST {
-        say_bytes_apart(bytes, out);
-    } else {
-        let (front, rest) = bytes.split_at(SHOWN_FIRST);
-        say_brief_cut(front, rest.len() as u64, out);
+/// What is shown for each byte.
+#[derive(Clone, Copy)]
+struct Letters<'a>(&'a [u8]);
+
+impl<'a> Part for Letters<'a> {
+    ghost use Rattle.trace_report.specs.Words.{letters};
+
+    ghost text = { λ bytes. letters bytes.0.now };
+
+    #[inline(always)]
+    fn say<S: TextSink>(self, out: &mut S) {
+        say_letters(self.0, out);
     }
 }
 
-/// Says the first bytes of a message, and how many others it has.
-fn say_brief_cut<S: TextSink>(front: &[u8], more: u64, out: &mut S)
-    ensures { S.says out.old (brief_cut front.now more) out.new }
-{
-    say_bytes_apart(front, out);
-    say_text(out, " and ");
-    say_number(out, more);
-    say_text(out, " bytes more");
+/// Two digits for each byte, and a blank between.
+#[derive(Clone, Copy)]
+struct BytesApart<'a>(&'a [u8]);
+
+impl<'a> Part for BytesApart<'a> {
+    ghost use Rattle.trace_report.specs.Words.{bytes_apart};
+
+    ghost text = { λ bytes. bytes_apart bytes.0.now };
+
+    #[inline(always)]
+    fn say<S: TextSink>(self, out: &mut S) {
+        say_bytes_apart(self.0, out);
+    }
 }
 
-/// Says all bytes of a short message.
-fn say_short_data<S: TextSink>(bytes: &[u8], out: &mut S)
-    ensures { S.says out.old (short_data bytes.now) out.new }
-{
-    say_text(out, "<code>");
-    say_bytes_apart(bytes, out);
-    say_text(out, "</code>");
-    say_letters_text(bytes, out);
+/// The bytes of a message, as far as its row shows them.
+#[derive(Clone, Copy)]
+pub(crate) struct Data<'a>(pub &'a [u8]);
+
+impl<'a> Part for Data<'a> {
+    ghost use Rattle.trace_report.specs.Words.{data_text};
+
+    ghost text = { λ bytes. data_text bytes.0.now };
+
+    fn say<S: TextSink>(self, out: &mut S) {
+        let bytes = self.0;
+        if bytes.len() <= MOST_SHOWN {
+            say(
+                out,
+                ("<code>", BytesApart(bytes), "</code>", LettersText(bytes)),
+            );
+        } else {
+            let (front, rest) = bytes.split_at(SHOWN_FIRST);
+            let more = Number(rest.len() as u64);
+            if bytes.len() <= MOST_FOLDED {
+                say(
+                    out,
+                    (
+                        "<code>",
+                        BytesApart(front),
+                        "</code> <details><summary>",
+                        more,
+                        " bytes more</summary><code>",
+                        BytesApart(rest),
+                        "</code>",
+                        LettersText(rest),
+                        "</details>",
+                    ),
+                );
+            } else {
+                say(
+                    out,
+                    (
+                        "<code>",
+                        BytesApart(front),
+                        "</code> <i>",
+                        more,
+                        " bytes more, not shown</i>",
+                    ),
+                );
+            }
+        }
+    }
 }
 
-/// Says the first bytes of a longer one, and the others folded.
-fn say_folded_data<S: TextSink>(front: &[u8], rest: &[u8], out: &mut S)
-    ensures { S.says out.old (folded_data front.now rest.now) out.new }
-{
-    say_text(out, "<code>");
-    say_bytes_apart(front, out);
-    say_text(out, "</code> <details><summary>");
-    say_count(rest, out);
-    say_text(out, " bytes more</summary><code>");
-    say_bytes_apart(rest, out);
-    say_text(out, "</code>");
-    say_letters_text(rest, out);
-    say_text(out, "</details>");
-}
+/// The bytes of a message, as far as a brief row shows them.
+#[derive(Clone, Copy)]
+pub(crate) struct BriefData<'a>(pub &'a [u8]);
 
-/// Says how many bytes these are.
-fn say_count<S: TextSink>(bytes: &[u8], out: &mut S)
-    ensures { S.says out.old (decimal (length bytes.now)) out.new }
-{
-    say_number(out, bytes.len() as u64);
-}
+impl<'a> Part for BriefData<'a> {
+    ghost use Rattle.trace_report.specs.Words.{brief_data};
 
-/// Says the first bytes of a block of data, and how many others it has.
-fn say_cut_data<S: TextSink>(front: &[u8], more: u64, out: &mut S)
-    ensures { S.says out.old (cut_data front.now more) out.new }
-{
-    say_text(out, "<code>");
-    say_bytes_apart(front, out);
-    say_text(out, "</code> <i>");
-    say_number(out, more);
-    say_text(out, " bytes more, not shown</i>");
+    ghost text = { λ bytes. brief_data bytes.0.now };
+
+    fn say<S: TextSink>(self, out: &mut S) {
+        let bytes = self.0;
+        if bytes.len() <= SHOWN_FIRST {
+            say(out, BytesApart(bytes));
+        } else {
+            let (front, rest) = bytes.split_at(SHOWN_FIRST);
+            say(
+                out,
+                (
+                    BytesApart(front),
+                    " and ",
+                    Number(rest.len() as u64),
+                    " bytes more",
+                ),
+            );
+        }
+    }
 }

@@ -22,7 +22,7 @@ use Rattle.trace_run.specs.declared.machine.Stop.TheVariants as end_stop
 use Rattle.trace_log.specs.declared.summary.Summary.{Summary}
 use Rattle.trace_run.specs.proving.Carrying.{StopsFor, stops_for, Carries, Speaks, Settles, IsTellingStart, Tells, StopsTelling, EndsSaying, EndsTelling, EndsAs, SettlesAs, SettlesWith, RefusesTelling, GivesUp, WroteTold}
 use Rattle.trace_log.specs.Feeding.{FeedsLog, FeedsSome, CountsRead, WroteBefore, Took, TakesFront, StopsWithin}
-use Rattle.uds_exchange.specs.Judging.{HasJudged}
+use Rattle.uds_exchange.specs.Judging.{IsJudgeOf}
 use Rattle.trace_log.specs.Failing.{FailedIf}
 use Rattle.trace_log.specs.LinesRead.{counts_last, AreGiven, AreLinesRead, AreReadBefore, WritesTextOfRead}
 use Rattle.trace_log.specs.Settings.{Settings}
@@ -70,9 +70,9 @@ one_more_told word T e = told-append word [] T (e ∷ []) ∙ ap (λ l. told wor
 
 -- what one more frame's message counts
 pub counts_next : (T : List Entry) (e : Entry) (line : ℕ) (d : Dir) (event : EventValue) (judge : Judge) → e.dir ≡ d → event ≡ verdict MESSAGE_LIMIT T e
-    → HasJudged (messages MESSAGE_LIMIT T ++ told_message d event.verdict) judge → HasJudged (messages MESSAGE_LIMIT (T ++ e ∷ [])) judge
+    → IsJudgeOf (messages MESSAGE_LIMIT T ++ told_message d event.verdict) judge → IsJudgeOf (messages MESSAGE_LIMIT (T ++ e ∷ [])) judge
 counts_next T e line d event judge dir_is is counts =
-    subst (λ M. HasJudged M judge)
+    subst (λ M. IsJudgeOf M judge)
     (ap (λ v. messages MESSAGE_LIMIT T ++ told_message d v) (ap (λ (x : EventValue). x.verdict) is)
     ∙ ap (λ x. messages MESSAGE_LIMIT T ++ told_message x (verdict MESSAGE_LIMIT T e).verdict) (sym dir_is) ∙ sym (messages_more MESSAGE_LIMIT T e)) counts
 
@@ -131,7 +131,7 @@ module _ {M W : Type 0} (stands : List Entry → M → Type 0) (target : Ghosts 
   pub tells_next : (line : ℕ) (d : Dir) (event : EventValue) → e.dir ≡ d → event ≡ verdict MESSAGE_LIMIT T e
       → (machine machine_now : M) (judge judge_now : Judge) (failed failed_now : Bool) (held held_now : List ℕ) (old new : W)
       → Tells stands target script start T machine judge failed held old
-      → HasJudged (messages MESSAGE_LIMIT T ++ told_message d event.verdict) judge_now → stands (T ++ e ∷ []) machine_now → (script.strict ≡ true → AnnouncesWithin e)
+      → IsJudgeOf (messages MESSAGE_LIMIT T ++ told_message d event.verdict) judge_now → stands (T ++ e ∷ []) machine_now → (script.strict ≡ true → AnnouncesWithin e)
       → Speaks target failed held old (script.word T e) failed_now held_now new
       → Tells stands target script start (T ++ e ∷ []) machine_now judge_now failed_now held_now new
   tells_next line d event dir_is is machine machine_now judge judge_now failed failed_now held held_now old new so_far counts machine_stands one speaks = record {
@@ -358,7 +358,7 @@ module _ {M W : Type 0} (stands : M → List Entry → M → Type 0) (scripts : 
   HasToldNothing telling = IsTellingStart (stands telling.machine [] telling.machine) telling.judge telling.page.failed telling.page.block
 
   -- so it is with a machine that stands at its start
-  pub told_none : (machine : M) (telling : Telling M W) → telling.machine ≡ machine → stands machine [] machine → HasJudged [] telling.judge → telling.page.failed ≡ false
+  pub told_none : (machine : M) (telling : Telling M W) → telling.machine ≡ machine → stands machine [] machine → IsJudgeOf [] telling.judge → telling.page.failed ≡ false
       → telling.page.block ≡ [] → HasToldNothing telling
   told_none machine telling same at_start removed well blank =
       record { stands = subst (λ m. stands m [] m) (sym same) at_start; judged = removed; well = well; blank = blank }
@@ -426,21 +426,26 @@ module _ {M W : Type 0} (stands : M → List Entry → M → Type 0) (scripts : 
         let stops = has_stopped StoppedTelling settings start now begun meanings what why line in
         (stops.0, stops.1, stops.2, stops.3, stops.4 begun.fresh low)
 
-    module _ (new : W) where
+    -- where a refusal is told so
+    module _ (refusal : M → List Entry → Summary → Fault → List ℕ) (new : W) where
+      -- the script of this machine then
+      abbrev pub ending : M → Script
+      ending first = record (scripts first) { refused = refusal first }
+
       -- how the run ends on a refusal that is told, after these lines
-      refuses : (why answer : Fault) (meanings : List (Option Stamped)) → TookLines ToldEvents start meanings now → RefusesTelling stands scripts target why now.0 now.1 answer new
-          → SettlesWith (refusal_of_lines (scripts start.0.telling.machine) MESSAGE_LIMIT settings why meanings) why target now.0.telling.page.failed now.0.telling.page.block now.1 answer new
+      refuses : (why answer : Fault) (meanings : List (Option Stamped)) → TookLines ToldEvents start meanings now → RefusesTelling stands ending target why now.0 now.1 answer new
+          → SettlesWith (refusal_of_lines (ending start.0.telling.machine) MESSAGE_LIMIT settings why meanings) why target now.0.telling.page.failed now.0.telling.page.block now.1 answer new
       refuses why answer meanings taken up =
           let told_so = gives meanings taken in
           up start.0.telling.machine settings meanings (has_received ToldEvents settings start now begun meanings taken) told_so.judged told_so.machine_stands
 
-      refuses_all : (why answer : Fault) (meanings : List (Option Stamped)) → TookLines ToldEvents start meanings now → RefusesTelling stands scripts target why now.0 now.1 answer new
-          → EndsAs why target start.1 (refused_of_lines (scripts start.0.telling.machine) MESSAGE_LIMIT settings why meanings) answer new
+      refuses_all : (why answer : Fault) (meanings : List (Option Stamped)) → TookLines ToldEvents start meanings now → RefusesTelling stands ending target why now.0 now.1 answer new
+          → EndsAs why target start.1 (refused_of_lines (ending start.0.telling.machine) MESSAGE_LIMIT settings why meanings) answer new
       refuses_all why answer meanings taken up =
           refuses why answer meanings taken up start.1 (told_of_lines (scripts start.0.telling.machine) settings meanings) (gives meanings taken).carried
 
       -- only more is written
-      pub more_given_up : (B : Type 0) (why answer : Fault) → FedSome start {A = B} (Err why) now → GivesUp stands scripts target why now.0 now.1 answer new
+      pub more_given_up : (B : Type 0) (why answer : Fault) → FedSome start {A = B} (Err why) now → GivesUp stands ending target why now.0 now.1 answer new
           → (mid : W) (said : List ℕ) → Carries target mid said now.0.telling.page.failed now.0.telling.page.block now.1 → Begins (target.taken mid) (target.taken new)
       more_given_up B (fault.BadLine line column) answer (meanings, taken) up mid said carries =
           more_at_fault (fault.BadLine line column) answer mid _ new (refuses (fault.BadLine line column) answer meanings taken up mid said carries)
@@ -454,12 +459,12 @@ module _ {M W : Type 0} (stands : M → List Entry → M → Type 0) (scripts : 
 
       -- what is answered on a fault of the lines
       pub told_of_fault : {B : Type 0} (replies : Answering B) (log : List ℕ) (given : ℕ) (why : Fault) (answer : Fault) (m : ℕ) → m ≡ settings.max_bytes
-          → Fed start m log given (Err why) now → GivesUp stands scripts target why now.0 now.1 answer new
-          → AnswersTold (scripts start.0.telling.machine) replies MESSAGE_LIMIT settings log given (Err answer) (target.taken start.1) (target.taken new)
+          → Fed start m log given (Err why) now → GivesUp stands ending target why now.0 now.1 answer new
+          → AnswersTold (ending start.0.telling.machine) replies MESSAGE_LIMIT settings log given (Err answer) (target.taken start.1) (target.taken new)
       told_of_fault replies log given why answer m is read up = by why (subst (λ k. Fed start k log given (Err why) now) is read) up
         where
           script : Script
-          script = scripts start.0.telling.machine
+          script = ending start.0.telling.machine
 
           text : List (Option Stamped) → List ℕ
           text = told_of_lines script settings
@@ -485,7 +490,7 @@ module _ {M W : Type 0} (stands : M → List Entry → M → Type 0) (scripts : 
           -- a line or the limit refuses the log
           refused : (why : Fault) (meanings : List (Option Stamped)) → is_told why ≡ true → TookLines ToldEvents start meanings now
               → IsUnreadFor script.strict MESSAGE_LIMIT settings log why → AreReadBefore passes settings log given why meanings
-              → RefusesTelling stands scripts target why now.0 now.1 answer new
+              → RefusesTelling stands ending target why now.0 now.1 answer new
               → (WritesRefused script MESSAGE_LIMIT settings log given why old (target.taken new) → Answers why) → Answers answer
           refused why meanings tells taken unread read up answers =
               let all = refused_of_lines script MESSAGE_LIMIT settings why meanings in
@@ -496,7 +501,7 @@ module _ {M W : Type 0} (stands : M → List Entry → M → Type 0) (scripts : 
               ]
 
           bad : (line column bytes : ℕ) (meanings : List (Option Stamped)) → IsBadBehind log line column meanings bytes → bytes ≤ settings.max_bytes → bytes ≤ given
-              → TookLines ToldEvents start meanings now → RefusesTelling stands scripts target (fault.BadLine line column) now.0 now.1 answer new → Answers answer
+              → TookLines ToldEvents start meanings now → RefusesTelling stands ending target (fault.BadLine line column) now.0 now.1 answer new → Answers answer
           bad line column bytes meanings place few come taken up =
               let passed = each meanings (gives meanings taken).within in
               let unread = unread_for_place settings log script.strict line column meanings bytes place few passed in
@@ -560,7 +565,7 @@ module _ {M W : Type 0} (stands : M → List Entry → M → Type 0) (scripts : 
               told_some script MESSAGE_LIMIT settings log given (meanings ++ what ∷ []) (came meanings what line place) (omega arith)
 
           by : (why : Fault) → Fed start settings.max_bytes log given (Err why) now
-              → GivesUp stands scripts target why now.0 now.1 answer new → Answers answer
+              → GivesUp stands ending target why now.0 now.1 answer new → Answers answer
           by (fault.BadLine line column) (meanings, taken, inl (few, refuses)) up =
               bad line column given meanings (bad_in_front log given line column meanings refuses) few (omega arith) taken up
           by (fault.BadLine line column) (meanings, taken, inr (short, all, place)) up =
@@ -601,7 +606,7 @@ module _ {M W : Type 0} (stands : M → List Entry → M → Type 0) (scripts : 
       -- what is known of the devices then
       -- a frame of the log needed memory, where it was refused
       pub needed : (log : List ℕ) (given : ℕ) (why : Fault) (answer : Fault) (m : ℕ) → m ≡ settings.max_bytes
-          → Fed start m log given (Err why) now → GivesUp stands scripts target why now.0 now.1 answer new → answer ≡ fault.Memory
+          → Fed start m log given (Err why) now → GivesUp stands ending target why now.0 now.1 answer new → answer ≡ fault.Memory
           → HasFrame (λ T e. IsKeptForMessage MESSAGE_LIMIT T e ⊎ needs start.0.telling.machine T e) settings log
       needed log given why answer m is read up refused = by why (subst (λ k. Fed start k log given (Err why) now) is read) up
         where
@@ -613,7 +618,7 @@ module _ {M W : Type 0} (stands : M → List Entry → M → Type 0) (scripts : 
           other name said apart (inr wrong) = absurd (cc (wrong.0, refused))
 
           by : (why : Fault) → Fed start settings.max_bytes log given (Err why) now
-              → GivesUp stands scripts target why now.0 now.1 answer new → Needed
+              → GivesUp stands ending target why now.0 now.1 answer new → Needed
           by fault.Memory (meanings, what, line_stopped, place) up =
               let halted = halts meanings what fault.Memory line_stopped in
               has_frame (λ T e. IsKeptForMessage MESSAGE_LIMIT T e ⊎ needs start.0.telling.machine T e) settings log given meanings what halted.0 halted.1 place halted.2 halted.3 halted.4.reason.1
@@ -629,7 +634,7 @@ module _ {M W : Type 0} (stands : M → List Entry → M → Type 0) (scripts : 
           by fault.Write read up = absurd (cc (up.0, refused))
 
       pub known : (B : Type 0) (why : Fault) (answer : Fault) → FedSome start {A = B} (Err why) now
-          → GivesUp stands scripts target why now.0 now.1 answer new
+          → GivesUp stands ending target why now.0 now.1 answer new
           → (said : List ℕ) × (failed : Bool) × Carries target start.1 said failed [] new × IsOutcomeOf failed answer × IsReadOnly why answer
       known B why answer takes up = by why takes up
         where
@@ -641,7 +646,7 @@ module _ {M W : Type 0} (stands : M → List Entry → M → Type 0) (scripts : 
           on name said apart other (inr wrong) = (said, true, wrong.1, wrong.0, subst (λ f. f ≢ fault.Read) (sym wrong.0) (λ is. absurd (cc is)))
 
           by : (why : Fault) → FedSome start {A = B} (Err why) now
-              → GivesUp stands scripts target why now.0 now.1 answer new
+              → GivesUp stands ending target why now.0 now.1 answer new
               → (said : List ℕ) × (failed : Bool) × Carries target start.1 said failed [] new × IsOutcomeOf failed answer × IsReadOnly why answer
           by (fault.BadLine line column) (meanings, taken) up =
               on (fault.BadLine line column) _ (λ is. absurd (cc is)) (λ is. absurd (cc is)) (refuses_all (fault.BadLine line column) answer meanings taken up)
@@ -669,6 +674,25 @@ module _ {M W : Type 0} (stands : M → List Entry → M → Type 0) (scripts : 
               (up start.1 _ (halts meanings what (fault.Oversize place announced) line).4.carried)
           by fault.Memory (meanings, what, line) up =
               on fault.Memory (told_of_lines (scripts start.0.telling.machine) settings meanings) (λ is. absurd (cc is)) (λ is. absurd (cc is)) (up start.1 _ (halts meanings what fault.Memory line).4.carried)
+
+-- what is told eagerly stays so, whatever is told of a refusal
+pub eagerly_with : (script : Script) (refused : List Entry → Summary → Fault → List ℕ) (limit : ℕ) (settings : Settings) (log : List ℕ) (given : ℕ) (old new : List ℕ)
+    → TellsEagerly script limit settings log given old new → TellsEagerly (record script { refused = refused }) limit settings log given old new
+eagerly_with script refused limit settings log given old new eager =
+    record { meanings = eager.meanings; read = eager.read; more = eager.more; wrote = eager.wrote }
+
+-- and so does the end
+pub ends_with : {A W : Type 0} (target : Ghosts W) (script : Script) (refused : List Entry → Summary → Fault → List ℕ) (answers : Answering A) (start : W) (settings : Settings) (log : List ℕ)
+    (meanings : List (Option Stamped)) (result : Result A Fault) (new : W)
+    → EndsTelling target script answers start settings log meanings result new → EndsTelling target (record script { refused = refused }) answers start settings log meanings result new
+ends_with target script refused answers start settings log meanings (Ok value) new ends = ends
+ends_with target script refused answers start settings log meanings (Err fault.OutputLimit) new ends = ends
+ends_with target script refused answers start settings log meanings (Err fault.Write) new ends = ends
+ends_with target script refused answers start settings log meanings (Err fault.Read) new ends = ends
+ends_with target script refused answers start settings log meanings (Err fault.Memory) new ends = ends
+ends_with target script refused answers start settings log meanings (Err fault.LogLimit) new ends = ends
+ends_with target script refused answers start settings log meanings (Err (fault.BadLine line column)) new ends = ends
+ends_with target script refused answers start settings log meanings (Err (fault.Oversize line announced)) new ends = ends
 
 -- so the fault of the target is answered exactly where it failed
 pub fails_so : {A W : Type 0} (target : Ghosts W) (start new : W) (answer : Fault) (said : List ℕ) (failed : Bool) → Carries target start said failed [] new → IsOutcomeOf failed answer

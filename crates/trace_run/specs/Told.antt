@@ -31,6 +31,27 @@ pub record Script : Type 0 where
   pub last : List Entry → Summary → List ℕ
   pub refused : List Entry → Summary → Fault → List ℕ
 
+-- What is seen of a source where a log is refused: its first bytes, as many as it keeps, and whether it is over.
+pub record Glimpse : Type 0 where
+  pub first : List ℕ
+  pub is_over : Bool
+
+-- of this source
+abbrev pub glimpse_of : {R : Type 0} → SourceGhosts R → R → Glimpse
+glimpse_of source after = record { first = source.first after; is_over = source.is_over after }
+
+-- what is told of a refusal, by that too
+abbrev pub Refusal : Type 0
+Refusal = List Entry → Summary → Fault → Glimpse → List ℕ
+
+-- nothing
+abbrev pub tells_no_refusal : Refusal
+tells_no_refusal T summary why glimpse = []
+
+-- the script with that of a refusal
+abbrev pub told_with : Script → Refusal → Glimpse → Script
+told_with script refusal glimpse = record script { refused = λ T summary why. refusal T summary why glimpse }
+
 -- A script that tells nothing.
 pub record TellsNothing (script : Script) : Type 0 where
   pub of_frames : (T : List Entry) (e : Entry) → script.word T e ≡ []

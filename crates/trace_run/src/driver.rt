@@ -9,13 +9,14 @@ ghost use Rattle.trace_run.specs.proving.Telling.{HasTold};
 ghost use Rattle.trace_log.specs.proving.Receiving.{Receives};
 ghost use Rattle.trace_log.specs.Settings.{Settings};
 ghost use Rattle.trace_log.specs.Summing.{ends_in_line_feed};
-ghost use Rattle.trace_run.specs.Told.{Ran, RanLenient};
+ghost use Rattle.trace_run.specs.Seen.{glimpse_value};
+ghost use Rattle.trace_run.specs.Told.{Ran, RanLenient, glimpse_of, told_with};
 ghost use Rattle.trace_log.specs.Trace.{trace};
 ghost use Rattle.trace_run.specs.declared.machine.Stop.TheVariants.{OutputLimit};
 ghost use Rattle.trace_log.specs.declared.summary.Summary.{Summary as SummaryValue};
 ghost use Rattle.trace_log.specs.Devices.{HasLowCounts};
 
-use crate::machine::{Machine, Stop};
+use crate::machine::{Glimpse, Machine, Stop};
 use crate::page::{Page, settle};
 use crate::receiver::Receiver;
 use crate::summing::sum_up;
@@ -38,13 +39,19 @@ pub fn run<M: Machine + Drop, R: Source, W: Target>(
     requires machine { M.stands machine [] machine }
     requires reader { HasLowCounts R.Source reader.old }
     requires writer { IsLowCount (W.failures writer.old) }
-    ensures ran { Ran R.Source W.Target (M.script machine) (M.answers machine) (M.needs machine) MESSAGE_LIMIT config.now reader.old writer.old result reader.new writer.new }
+    ensures ran { Ran R.Source W.Target (told_with (M.script machine) (M.refusal machine) (glimpse_of R.Source reader.new)) (M.answers machine) (M.needs machine) MESSAGE_LIMIT config.now reader.old writer.old result reader.new writer.new }
 {
     let pair = Pair::new(alloc);
     let mut receiver = Receiver::start(config, pair, Telling::start(machine));
     match feed_lines(config.max_bytes(), reader, &mut receiver, writer) {
         Ok(ended) => finish(receiver, ended, writer),
-        Err(fault) => Err(give_up(fault, receiver, writer)),
+        Err(fault) => {
+            let source = Glimpse {
+                first: reader.first(),
+                is_over: reader.has_ended(),
+            };
+            Err(give_up(fault, source, receiver, writer))
+        }
     }
 }
 
@@ -61,7 +68,7 @@ pub fn run_lenient<M: Machine + Drop, R: Source, W: Target>(
     requires has_answer { (T : List Entry) (summary : SummaryValue) → M.answers machine T summary (Err OutputLimit) → ⊥ }
     requires reader { HasLowCounts R.Source reader.old }
     requires writer { IsLowCount (W.failures writer.old) }
-    ensures ran { RanLenient R.Source W.Target (M.script machine) (M.answers machine) (M.needs machine) MESSAGE_LIMIT config.now reader.old writer.old result reader.new writer.new }
+    ensures ran { RanLenient R.Source W.Target (told_with (M.script machine) (M.refusal machine) (glimpse_of R.Source reader.new)) (M.answers machine) (M.needs machine) MESSAGE_LIMIT config.now reader.old writer.old result reader.new writer.new }
 {
     run(alloc, config, machine, reader, writer)
 }
@@ -70,13 +77,14 @@ pub fn run_lenient<M: Machine + Drop, R: Source, W: Target>(
 /// what was said is written. A fault of a device stands as it is, and nothing is written.
 fn give_up<M: Machine + Drop, W: Target>(
     fault: Fault,
+    source: Glimpse<'_>,
     receiver: Receiver<M, W>,
     target: &mut W,
 ) -> Fault
-    ensures { GivesUp M.stands M.script W.Target fault receiver target.old result target.new }
+    ensures { GivesUp M.stands (λ start. told_with (M.script start) (M.refusal start) (glimpse_value source.entry)) W.Target fault receiver target.old result target.new }
 {
     match fault {
-        Fault::BadLine { .. } | Fault::LogLimit => refuse(fault, receiver, target),
+        Fault::BadLine { .. } | Fault::LogLimit => refuse(fault, source, receiver, target),
         Fault::Oversize { .. } | Fault::OutputLimit | Fault::Memory => {
             stop(fault, receiver, target)
         }
@@ -98,8 +106,13 @@ fn stop<M: Machine + Drop, W: Target>(
 }
 
 /// Writes what is said of a refusal, after the lines that were received, and answers what that is called.
-fn refuse<M: Machine, W: Target>(why: Fault, receiver: Receiver<M, W>, target: &mut W) -> Fault
-    ensures { RefusesTelling M.stands M.script W.Target why receiver target.old result target.new }
+fn refuse<M: Machine, W: Target>(
+    why: Fault,
+    source: Glimpse<'_>,
+    receiver: Receiver<M, W>,
+    target: &mut W,
+) -> Fault
+    ensures { RefusesTelling M.stands (λ start. told_with (M.script start) (M.refusal start) (glimpse_value source.entry)) W.Target why receiver target.old result target.new }
 {
     let Receiver {
         pair,
@@ -114,8 +127,8 @@ fn refuse<M: Machine, W: Target>(why: Fault, receiver: Receiver<M, W>, target: &
         mut page,
         ..
     } = telling;
-    let summary = sum_up(&pair, lines, counts, judge.removed, false);
-    tell_refusal(machine, target, &mut page, &summary, why);
+    let summary = sum_up(&pair, lines, counts, &judge, false);
+    tell_refusal(machine, target, &mut page, &summary, why, source);
     settle_before(why, target, &mut page)
 }
 
@@ -157,7 +170,7 @@ fn finish<M: Machine, W: Target>(
         mut page,
         ..
     } = telling;
-    let summary = sum_up(&pair, lines, counts, judge.removed, ended);
+    let summary = sum_up(&pair, lines, counts, &judge, ended);
     let answer = tell_end(machine, target, &mut page, &pair, &summary);
     if !settle(target, &mut page) {
         return Err(Fault::Write);

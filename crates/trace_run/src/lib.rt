@@ -28,6 +28,6 @@ mod summing;
 mod telling;
 
 pub use driver::{run, run_lenient};
-pub use machine::{Machine, Seen, Stop};
+pub use machine::{Glimpse, Machine, Seen, Stop};
 pub use nowhere::Nowhere;
 pub use printer::{Printable, print};

@@ -4,8 +4,8 @@ ghost use Rattle.isotp_receive.specs.declared.TheConstants.{MESSAGE_LIMIT};
 ghost use Rattle.isotp_receive.specs.Capacities.{KeepsWithin};
 ghost use Rattle.isotp_receive.specs.StandingReception.{receptions_after};
 ghost use Rattle.isotp_receive.specs.Trace.{Entry};
-ghost use Rattle.trace_run.specs.Seen.{IsSeen};
-ghost use Rattle.trace_run.specs.Told.{Script};
+ghost use Rattle.trace_run.specs.Seen.{IsSeen, glimpse_value};
+ghost use Rattle.trace_run.specs.Told.{Refusal, Script};
 ghost use Rattle.trace_run.specs.declared.machine.Stop.{Stop as StopValue};
 ghost use Rattle.trace_log.specs.declared.summary.Summary.{Summary as SummaryValue};
 
@@ -36,6 +36,15 @@ pub struct Seen<'a> {
     pub message: Option<Judged<'a>>,
 }
 
+/// What is seen of the source where a log is refused.
+#[derive(Clone, Copy, Debug)]
+pub struct Glimpse<'a> {
+    /// Its first bytes, as many as it keeps.
+    pub first: &'a [u8],
+    /// Whether it is over.
+    pub is_over: bool,
+}
+
 /// A command's machine. It is handed what each frame did ([`Seen`]), in order, and the end or why the log is refused, and says its
 /// text. It sees no source and no target.
 pub trait Machine {
@@ -47,6 +56,9 @@ pub trait Machine {
 
     /// What it says, by what it was at the start.
     ghost script: { Self → Script };
+
+    /// What it says where the log is refused, by what it was at the start.
+    ghost refusal: { Self → Refusal };
 
     /// What it may answer at the end of a trace with these counts, by what it was at the start.
     ghost answers: { Self → List Entry → SummaryValue → Result Self.Answer StopValue → Type 0 };
@@ -78,8 +90,8 @@ pub trait Machine {
         ensures answered { (start : Self) (T : List Entry) → stands start T self → pair.now.receptions ≡ receptions_after MESSAGE_LIMIT T
             → answers start T summary.now result };
 
-    /// Takes why the log is refused, where a line or the limit of the log refuses it, and the counts of the lines
-    /// before. No event and no end follows. The counts are those of a log that ends in no line feed.
-    fn refused<S: TextSink>(self, summary: &Summary, why: Fault, out: &mut S)
-        ensures says { (start : Self) (T : List Entry) → stands start T self → S.says out.old ((script start).refused T summary.now why) out.new };
+    /// Takes why the log is refused, where a line or the limit of the log refuses it, the counts of the lines before, and
+    /// what is seen of the source. No event and no end follows. The counts are those of a log that ends in no line feed.
+    fn refused<S: TextSink>(self, summary: &Summary, why: Fault, source: Glimpse<'_>, out: &mut S)
+        ensures says { (start : Self) (T : List Entry) → stands start T self → S.says out.old (refusal start T summary.now why (glimpse_value source.entry)) out.new };
 }

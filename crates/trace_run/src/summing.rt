@@ -1,10 +1,10 @@
 //! What was counted in a log, summed up.
-ghost use Rattle.std.specs.Prelude.{◌≡◌, ℕ, List, length, Option};
+ghost use Rattle.std.specs.Prelude.{◌≡◌, ℕ, List, Option};
 ghost use Rattle.can_log.specs.declared.frame.Stamped.{Stamped};
 ghost use Rattle.isotp_receive.specs.StandingReception.{receptions_after};
 ghost use Rattle.isotp_receive.specs.Trace.{Entry};
 ghost use Rattle.isotp_receive.specs.declared.TheConstants.{MESSAGE_LIMIT};
-ghost use Rattle.uds_exchange.specs.Meaning.{removed_messages};
+ghost use Rattle.uds_exchange.specs.Judging.{IsJudgeOf};
 ghost use Rattle.trace_log.specs.Settings.{Settings};
 ghost use Rattle.trace_log.specs.Messages.{messages_of_lines};
 ghost use Rattle.isotp_receive.specs.Events.{unfinished_in};
@@ -14,20 +14,28 @@ ghost use Rattle.trace_log.specs.proving.Receiving.{Receives};
 use direction::Dir;
 use isotp_receive::Pair;
 use trace_log::Summary;
+use uds_exchange::Judge;
 
-/// The summary of a log that was received to its end, of whose messages the meaning leaves out this many, and that
-/// ended in a line feed or not.
-pub(crate) fn sum_up(pair: &Pair, lines: u64, counts: Summary, pending: u64, ended: bool) -> Summary
+/// The summary of a log that was received to its end, whose messages were judged so, and that ended in a line feed or
+/// not.
+pub(crate) fn sum_up(
+    pair: &Pair,
+    lines: u64,
+    counts: Summary,
+    judge: &Judge,
+    ended: bool,
+) -> Summary
     ensures { (settings : Settings) (log : List ℕ) (meanings : List (Option Stamped)) → Receives settings meanings pair.now lines counts
         → ended ≡ ends_in_line_feed log
-        → pending ≡ length (removed_messages (messages_of_lines MESSAGE_LIMIT settings meanings)) → result ≡ summary_of MESSAGE_LIMIT settings log meanings }
+        → IsJudgeOf (messages_of_lines MESSAGE_LIMIT settings meanings) judge.now → result ≡ summary_of MESSAGE_LIMIT settings log meanings }
 {
     Summary {
         lines,
         frames: counts.tester_frames.saturating_add(counts.unit_frames),
         unfinished: unfinished(pair),
-        pending,
+        pending: judge.removed,
         ends_in_line_feed: ended,
+        looks_exchanged: judge.sides.look_exchanged(),
         ..counts
     }
 }

@@ -8,11 +8,11 @@ ghost use Rattle.isotp_receive.specs.Events.{announced_by};
 ghost use Rattle.isotp_receive.specs.StandingReception.{receptions_after};
 ghost use Rattle.isotp_receive.specs.Trace.{Entry};
 ghost use Rattle.isotp_receive.specs.Verdict.{told_message};
-ghost use Rattle.uds_exchange.specs.Judging.{HasJudged, IsJudgedOf};
-ghost use Rattle.trace_run.specs.Seen.{IsSeen};
+ghost use Rattle.uds_exchange.specs.Judging.{HasJudged, IsJudgeOf, IsJudgedOf};
+ghost use Rattle.trace_run.specs.Seen.{IsSeen, glimpse_value};
 ghost use Rattle.trace_run.specs.proving.Carrying.{SaysToPage, stops_for};
 
-use crate::machine::{Machine, Seen, Stop};
+use crate::machine::{Glimpse, Machine, Seen, Stop};
 use crate::page::{Drain, Page, settle};
 use direction::Dir;
 use isotp_receive::{Event, Pair, Reason, Verdict};
@@ -43,12 +43,12 @@ pub(crate) struct Telling<M, W> {
 
 impl<M, W> Telling<M, W> {
     ghost use Rattle.std.specs.Prelude.{◌≡◌, [], false};
-    ghost use Rattle.uds_exchange.specs.Judging.{HasJudged};
+    ghost use Rattle.uds_exchange.specs.Judging.{IsJudgeOf};
 
     /// Before the first event.
     pub(crate) fn start(machine: M) -> Telling<M, W>
         ensures machine { result.machine ≡ machine }
-        ensures judged { HasJudged [] result.judge }
+        ensures judged { IsJudgeOf [] result.judge }
         ensures well { result.page.failed ≡ false }
         ensures blank { result.page.block ≡ [] }
     {
@@ -120,8 +120,8 @@ impl<M: Machine, W: Target> Telling<M, W> {
 /// The message that a frame of this direction completed, judged. Laid in line, since most frames complete none.
 #[inline(always)]
 fn judged_message<'a>(judge: &mut Judge, dir: Dir, verdict: Verdict<'a>) -> Option<Judged<'a>>
-    ensures next { (M : List Message) → length M < 2 ^ 62 → HasJudged M judge.old
-        → HasJudged (M ++ told_message dir (seen_verdict verdict.entry)) judge.new }
+    ensures next { (M : List Message) → length M < 2 ^ 62 → IsJudgeOf M judge.old
+        → IsJudgeOf (M ++ told_message dir (seen_verdict verdict.entry)) judge.new }
     ensures judged { (M : List Message) → length M < 2 ^ 62 → HasJudged M judge.old
         → IsJudgedOf M (told_message dir (seen_verdict verdict.entry)) result }
 {
@@ -207,10 +207,11 @@ pub(crate) fn tell_refusal<M: Machine, W: Target>(
     page: &mut Page,
     summary: &Summary,
     why: Fault,
+    source: Glimpse<'_>,
 )
     ensures says { (start : M) (T : List Entry) → M.stands start T machine
-        → SaysToPage W.Target page.old target.old ((M.script start).refused T summary.now why) page.new target.new }
+        → SaysToPage W.Target page.old target.old (M.refusal start T summary.now why (glimpse_value source.entry)) page.new target.new }
 {
     let mut out = Drain { target, page };
-    machine.refused(summary, why, &mut out);
+    machine.refused(summary, why, source, &mut out);
 }

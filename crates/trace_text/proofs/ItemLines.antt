@@ -1,42 +1,15 @@
 -- The lines of items, one after another.
-use Rattle.std.proofs.Common.{◌≡◌, ℕ, ◌+◌, ◌<◌, List, [], ◌∷◌, ◌++◌, length, take, arith, ap, ap₂, sym, refl, ◌∙◌, append_assoc, append-nil, length-take, codes, true, false, Option, Some, None}
+use Rattle.std.proofs.Common.{◌≡◌, ℕ, ◌+◌, ◌<◌, List, [], ◌∷◌, ◌++◌, length, take, arith, ap, ap₂, sym, refl, ◌∙◌, append_assoc, append-nil, length-take, Some, None}
 use Rattle.std.specs.Prelude.{slice_get}
 use Rattle.std.proofs.lemmas.List.{take_more}
 use Rattle.std.proofs.lemmas.Option.{slice_get_within, get_or_from_slice_get, slice_get-get_or, none-some}
-use Rattle.direction.specs.declared.Dir.{Dir}
-use Rattle.uds_exchange.specs.Meaning.{ItemValue, exchange, stray}
-use Rattle.uds_message.specs.Message.{sid, is_negative_response, response_code}
-use Rattle.trace_text.specs.Words.{bytes_text, code_text, direction_text, service_text}
+use Rattle.uds_exchange.specs.Meaning.{ItemValue}
 use Rattle.trace_text.specs.declared.item_style.ItemStyle.{ItemStyle}
 use Rattle.trace_text.specs.declared.item_style.Numbering.TheVariants.{Hidden}
 use Rattle.trace_text.specs.declared.notation.Notation.{Notation}
 use Rattle.trace_text.specs.declared.notation.Notation.TheVariants.{Text, Json}
 use Rattle.trace_text.specs.Laws.{UnnumberedListsJoin}
-use Rattle.trace_text.specs.ListText.{item_line, written_line, item_text, answer_text, outcome_line, outcome_text, list_text, list_text_from}
-
--- the front of an exchange, up to what came of it
-abbrev pub exchange_front : List ℕ → ℕ → List ℕ
-exchange_front request service = codes "exchange " ++ service_text service ++ codes " " ++ bytes_text request ++ codes " -> "
-
--- the exchange to the end of its line is this and then what came of the request
-pub exchange_line : (item : ItemValue) (request : List ℕ) (reply : Option (List ℕ)) (service : ℕ) → item ≡ exchange request reply
-    → service ≡ sid request → exchange_front request service ++ outcome_line request reply ≡ item_text item ++ codes "\n"
-exchange_line item request reply service item_is is =
-    rw (item_is, is) (sym (append_assoc (exchange_front request (sid request)) (outcome_text request reply) (codes "\n")))
-
--- a negative answer to the end of its line
-pub negative_line : (reply : List ℕ) (code : ℕ) → is_negative_response reply ≡ true → code ≡ response_code reply
-    → codes "negative " ++ code_text code ++ codes " " ++ bytes_text reply ++ codes "\n" ≡ answer_text reply ++ codes "\n"
-negative_line reply code so code_is = rw (code_is, so) refl
-
--- another one
-pub positive_line : (reply : List ℕ) → is_negative_response reply ≡ false → codes "positive " ++ bytes_text reply ++ codes "\n" ≡ answer_text reply ++ codes "\n"
-positive_line reply so = rw so refl
-
--- a message that belongs to no exchange
-pub stray_line : (item : ItemValue) (dir : Dir) (bytes : List ℕ) → item ≡ stray dir bytes
-    → codes "stray " ++ direction_text dir ++ codes " " ++ bytes_text bytes ++ codes "\n" ≡ item_text item ++ codes "\n"
-stray_line item dir bytes is = rw is refl
+use Rattle.trace_text.specs.ListText.{item_line, written_line, list_text, list_text_from}
 
 module _ (style : ItemStyle) where
   -- the lines of two lists of items

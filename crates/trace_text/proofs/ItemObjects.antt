@@ -4,7 +4,6 @@ use Rattle.std.specs.Prelude.{if◌then◌else◌}
 use Rattle.std.specs.Fmt.{decimal}
 use Rattle.uds_exchange.specs.Meaning.{ItemValue, exchange, stray}
 use Rattle.uds_message.specs.Message.{sid, is_negative_response, response_code, is_suppressing}
-use Rattle.direction.specs.declared.Dir.{Dir}
 use Rattle.trace_text.specs.declared.item_style.Numbering.{Numbering}
 use Rattle.trace_text.specs.declared.item_style.Numbering.TheVariants.{Shown, Hidden}
 use Rattle.trace_text.specs.Json.{Members, nothing, member, object, object_line, value_text}
@@ -12,7 +11,7 @@ use Rattle.trace_text.specs.Json as json
 use Rattle.trace_text.specs.Words.{bytes_text, direction_text, service_text, code_text}
 use Rattle.trace_text.specs.ListText.{outcome_members, item_members, item_object}
 use Rattle.trace_text.specs.proving.Spelling.{later_then, members_then}
-use Rattle.trace_text.specs.proving.OpenItems.{front_of_item, open_answer, open_item, open_object, open_outcome}
+use Rattle.trace_text.specs.proving.OpenItems.{open_item, open_object, open_outcome}
 use Rattle.trace_text.proofs.JsonTexts.{members_are, line_is}
 use Rattle.trace_text.proofs.JoinedTexts.{four_parts, five_parts}
 
@@ -79,40 +78,3 @@ object_is numbering number item =
 pub object_line_is : (numbering : Numbering) (number : ℕ) (item : ItemValue)
     → open_object numbering number item ++ codes "\"}\n" ≡ object_line (item_object numbering number item)
 object_line_is numbering number item = closed_object numbering number item (codes "\n") ∙ sym (line_is (item_object numbering number item))
-
--- what came of a request, by what is known there
-pub silent_is : (request : List ℕ) (answer : Option (List ℕ)) → answer ≡ None → is_suppressing request ≡ true
-    → codes "\",\"outcome\":\"silent" ≡ open_outcome request answer
-silent_is request answer none so = rw (none, so) refl
-
-pub unanswered_is : (request : List ℕ) (answer : Option (List ℕ)) → answer ≡ None → is_suppressing request ≡ false
-    → codes "\",\"outcome\":\"unanswered" ≡ open_outcome request answer
-unanswered_is request answer none so = rw (none, so) refl
-
--- a negative response
-pub negative_is : (reply : List ℕ) (code : ℕ) → is_negative_response reply ≡ true → code ≡ response_code reply
-    → codes "\",\"outcome\":\"negative\",\"code\":\"" ++ code_text code ++ codes "\",\"answer\":\"" ++ bytes_text reply ≡ open_answer reply
-negative_is reply code so code_is = rw (code_is, so) refl
-
--- another answer
-pub positive_is : (reply : List ℕ) → is_negative_response reply ≡ false
-    → codes "\",\"outcome\":\"positive\",\"answer\":\"" ++ bytes_text reply ≡ open_answer reply
-positive_is reply so = rw so refl
-
--- an exchange, and a message that belongs to none
-pub exchange_is : (item : ItemValue) (request : List ℕ) (reply : Option (List ℕ)) (service : ℕ) → item ≡ exchange request reply → service ≡ sid request
-    → codes "exchange\",\"service\":\"" ++ service_text service ++ codes "\",\"request\":\"" ++ bytes_text request ++ open_outcome request reply ≡ open_item item
-exchange_is item request reply service is service_is = rw (is, service_is) refl
-
-pub stray_is : (item : ItemValue) (d : Dir) (bytes : List ℕ) → item ≡ stray d bytes
-    → codes "stray\",\"direction\":\"" ++ direction_text d ++ codes "\",\"message\":\"" ++ bytes_text bytes ≡ open_item item
-stray_is item d bytes is = rw is refl
-
--- the front of an item that has a number
-pub shown_front : (numbering : Numbering) (number : ℕ) → numbering ≡ Shown
-    → codes "{\"item\":" ++ decimal number ++ codes ",\"kind\":\"" ≡ front_of_item numbering number
-shown_front numbering number is = rw is (sym (append_assoc (codes "{\"item\":" ++ decimal number) (codes ",") (codes "\"kind\":\"")))
-
--- and of one that has none
-pub hidden_front : (numbering : Numbering) (number : ℕ) → numbering ≡ Hidden → codes "{\"kind\":\"" ≡ front_of_item numbering number
-hidden_front numbering number is = rw is refl

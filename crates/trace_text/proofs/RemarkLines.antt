@@ -13,7 +13,7 @@ use Rattle.trace_log.specs.declared.summary.Count.{Count}
 use Rattle.trace_text.specs.ExplainText.{cause_text, layout_fault_text, count_text, counts_text, reception_text, reason_line, remark_line}
 use Rattle.trace_log.specs.Summing.{seen_counts}
 use Rattle.trace_text.specs.Words.{direction_text}
-use Rattle.trace_text.specs.Parts.{counts_between}
+use Rattle.trace_text.specs.Counts.{counts_between}
 
 -- pieces put together from the back, and from the front
 seven : (a b c d e f g : List ℕ) → a ++ (b ++ (c ++ (d ++ (e ++ (f ++ g))))) ≡ a ++ b ++ c ++ d ++ e ++ f ++ g

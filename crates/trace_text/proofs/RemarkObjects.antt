@@ -8,7 +8,7 @@ use Rattle.trace_log.specs.declared.summary.Summary.{Summary}
 use Rattle.trace_text.specs.ExplainText.{count_members, reason_members, remark_members}
 use Rattle.trace_text.specs.Json.{object_line}
 use Rattle.trace_log.specs.Summing.{named_counts, seen_counts}
-use Rattle.trace_text.specs.Parts.{counts_between}
+use Rattle.trace_text.specs.Counts.{counts_between}
 use Rattle.trace_text.specs.proving.Spelling.{later_then, quotes_then}
 use Rattle.trace_text.proofs.JsonTexts.{line_is}
 

@@ -1,5 +1,5 @@
 pub mod Words
-pub mod Parts
+pub mod Counts
 pub mod Json
 pub mod ListText
 pub mod ExplainText

@@ -23,10 +23,6 @@ abbrev pub outcome_text : List ℕ → Option (List ℕ) → List ℕ
 outcome_text request (Some reply) = answer_text reply
 outcome_text request None = if is_suppressing request then codes "silent" else codes "unanswered"
 
--- and the end of its line
-abbrev pub outcome_line : List ℕ → Option (List ℕ) → List ℕ
-outcome_line request reply = outcome_text request reply ++ codes "\n"
-
 -- what an item is
 abbrev pub item_text : ItemValue → List ℕ
 item_text (exchange request reply) =

@@ -1,12 +1,12 @@
 //! The text of a meaning, said item by item.
-ghost use Rattle.std.specs.Prelude.{◌++◌, codes, option_map};
 ghost use Rattle.uds_exchange.specs.ItemSeen.{item_value};
-ghost use Rattle.trace_text.specs.ListText.{answer_text, item_line, worded_line, item_text, list_text, number_text, outcome_line};
+ghost use Rattle.trace_text.specs.ListText.{item_line, list_text, worded_line};
 
 use crate::item_objects::say_object_line;
 use crate::item_style::{ItemStyle, Numbering};
 use crate::notation::Notation;
-use crate::say::{say_bytes, say_code, say_direction, say_number, say_service, say_text};
+use crate::values::{Bytes, Code, Number, Sender, Service};
+use text_parts::{Part, say};
 use trace_io::TextSink;
 use uds_exchange::{Item, Meaning};
 use uds_message::{is_negative_response, is_suppressing, response_code, sid};
@@ -36,70 +36,104 @@ pub fn say_item<S: TextSink>(number: u64, style: ItemStyle, item: Item<'_>, out:
 pub fn say_worded<S: TextSink>(number: u64, numbering: Numbering, item: Item<'_>, out: &mut S)
     ensures { S.says out.old (worded_line numbering number (item_value item.entry)) out.new }
 {
-    say_item_number(number, numbering, out);
-    say_unnumbered(item, out);
+    say(
+        out,
+        (ItemNumber { number, numbering }, ItemWords(item), "\n"),
+    );
 }
 
-/// Says the number of an item, where it is shown.
-fn say_item_number<S: TextSink>(number: u64, numbering: Numbering, out: &mut S)
-    ensures { S.says out.old (number_text numbering number) out.new }
-{
-    match numbering {
-        Numbering::Shown => {
-            say_number(out, number);
-            say_text(out, " ");
-        }
-        Numbering::Hidden => {}
-    }
+/// The number of an item, where it is shown.
+#[derive(Clone, Copy)]
+struct ItemNumber {
+    number: u64,
+    numbering: Numbering,
 }
 
-/// Says what an item is, to the end of its line.
-fn say_unnumbered<S: TextSink>(item: Item<'_>, out: &mut S)
-    ensures { S.says out.old (item_text (item_value item.entry) ++ codes "\n") out.new }
-{
-    match item {
-        Item::Exchange { request, answer } => {
-            say_text(out, "exchange ");
-            say_service(out, sid(request));
-            say_text(out, " ");
-            say_bytes(out, request);
-            say_text(out, " -> ");
-            say_outcome(request, answer, out);
-        }
-        Item::Stray { dir, bytes } => {
-            say_text(out, "stray ");
-            say_direction(out, dir);
-            say_text(out, " ");
-            say_bytes(out, bytes);
-            say_text(out, "\n");
+impl Part for ItemNumber {
+    ghost use Rattle.trace_text.specs.ListText.{number_text};
+
+    ghost text = { λ number. number_text number.numbering number.number };
+
+    #[inline(always)]
+    fn say<S: TextSink>(self, out: &mut S) {
+        match self.numbering {
+            Numbering::Shown => say(out, (Number(self.number), " ")),
+            Numbering::Hidden => {}
         }
     }
 }
 
-/// Says what came of a request, to the end of its line.
-fn say_outcome<S: TextSink>(request: &[u8], answer: Option<&[u8]>, out: &mut S)
-    ensures { S.says out.old (outcome_line request.now (option_map (λ reply. reply.now) answer.entry)) out.new }
-{
-    match answer {
-        None if is_suppressing(request) => say_text(out, "silent\n"),
-        None => say_text(out, "unanswered\n"),
-        Some(reply) => say_answer(reply, out),
+/// What an item is.
+#[derive(Clone, Copy)]
+struct ItemWords<'a>(Item<'a>);
+
+impl<'a> Part for ItemWords<'a> {
+    ghost use Rattle.uds_exchange.specs.ItemSeen.{item_value};
+    ghost use Rattle.trace_text.specs.ListText.{item_text};
+
+    ghost text = { λ words. item_text (item_value words.0) };
+
+    #[inline(always)]
+    fn say<S: TextSink>(self, out: &mut S) {
+        match self.0 {
+            Item::Exchange { request, answer } => say(
+                out,
+                (
+                    "exchange ",
+                    Service(sid(request)),
+                    " ",
+                    Bytes(request),
+                    " -> ",
+                    Outcome { request, answer },
+                ),
+            ),
+            Item::Stray { dir, bytes } => say(out, ("stray ", Sender(dir), " ", Bytes(bytes))),
+        }
     }
 }
 
-/// Says the answer to a request, to the end of its line.
-fn say_answer<S: TextSink>(reply: &[u8], out: &mut S)
-    ensures { S.says out.old (answer_text reply.now ++ codes "\n") out.new }
-{
-    if is_negative_response(reply) {
-        say_text(out, "negative ");
-        say_code(out, response_code(reply));
-        say_text(out, " ");
-        say_bytes(out, reply);
-        say_text(out, "\n");
-    } else {
-        say_text(out, "positive ");
-        say_bytes(out, reply);
-        say_text(out, "\n");
+/// What came of a request.
+#[derive(Clone, Copy)]
+struct Outcome<'a> {
+    request: &'a [u8],
+    answer: Option<&'a [u8]>,
+}
+
+impl<'a> Part for Outcome<'a> {
+    ghost use Rattle.std.specs.Prelude.{option_map};
+    ghost use Rattle.trace_text.specs.ListText.{outcome_text};
+
+    ghost text = { λ outcome. outcome_text outcome.request.now (option_map (λ reply. reply.now) outcome.answer) };
+
+    #[inline(always)]
+    fn say<S: TextSink>(self, out: &mut S) {
+        match self.answer {
+            None if is_suppressing(self.request) => say(out, "silent"),
+            None => say(out, "unanswered"),
+            Some(reply) => say(out, Answer(reply)),
+        }
+    }
+}
+
+/// The answer to a request.
+#[derive(Clone, Copy)]
+struct Answer<'a>(&'a [u8]);
+
+impl<'a> Part for Answer<'a> {
+    ghost use Rattle.trace_text.specs.ListText.{answer_text};
+
+    ghost text = { λ answer. answer_text answer.0.now };
+
+    #[inline(always)]
+    fn say<S: TextSink>(self, out: &mut S) {
+        let reply = self.0;
+        if is_negative_response(reply) {
+            say(
+                out,
+                ("negative ", Code(response_code(reply)), " ", Bytes(reply)),
+            );
+        } else {
+            say(out, ("positive ", Bytes(reply)));
+        }
     }
 }

@@ -1,12 +1,11 @@
 //! The items of a meaning as objects of JSON.
-ghost use Rattle.std.specs.Prelude.{option_map};
 ghost use Rattle.uds_exchange.specs.ItemSeen.{item_value};
 ghost use Rattle.trace_text.specs.Json.{object, object_line, value_text};
 ghost use Rattle.trace_text.specs.ListText.{item_object};
-ghost use Rattle.trace_text.specs.proving.OpenItems.{front_of_item, open_answer, open_item, open_object, open_outcome};
 
 use crate::item_style::Numbering;
-use crate::say::{say_bytes, say_code, say_direction, say_number, say_service, say_text};
+use crate::values::{Bytes, Code, Number, Sender, Service};
+use text_parts::{Part, say};
 use trace_io::TextSink;
 use uds_exchange::Item;
 use uds_message::{is_negative_response, is_suppressing, response_code, sid};
@@ -15,8 +14,7 @@ use uds_message::{is_negative_response, is_suppressing, response_code, sid};
 pub fn say_item_object<S: TextSink>(number: u64, numbering: Numbering, item: Item<'_>, out: &mut S)
     ensures { S.says out.old (value_text (object (item_object numbering number (item_value item.entry)))) out.new }
 {
-    say_open_object(number, numbering, item, out);
-    say_text(out, "\"}");
+    say(out, (OpenObject(number, numbering, item), "\"}"));
 }
 
 /// Says the line of the object.
@@ -28,75 +26,127 @@ pub(crate) fn say_object_line<S: TextSink>(
 )
     ensures { S.says out.old (object_line (item_object numbering number (item_value item.entry))) out.new }
 {
-    say_open_object(number, numbering, item, out);
-    say_text(out, "\"}\n");
+    say(out, (OpenObject(number, numbering, item), "\"}\n"));
 }
 
-/// Says the object up to the quote and the brace that end it, whatever the item is.
-fn say_open_object<S: TextSink>(number: u64, numbering: Numbering, item: Item<'_>, out: &mut S)
-    ensures { S.says out.old (open_object numbering number (item_value item.entry)) out.new }
-{
-    say_front(number, numbering, out);
-    say_open_item(item, out);
-}
+/// The object up to the quote and the brace that end it, whatever the item is.
+#[derive(Clone, Copy)]
+struct OpenObject<'a>(u64, Numbering, Item<'a>);
 
-/// Says the front of the object, with the number where it is shown, up to the word of its kind.
-fn say_front<S: TextSink>(number: u64, numbering: Numbering, out: &mut S)
-    ensures { S.says out.old (front_of_item numbering number) out.new }
-{
-    match numbering {
-        Numbering::Shown => {
-            say_text(out, "{\"item\":");
-            say_number(out, number);
-            say_text(out, ",\"kind\":\"");
-        }
-        Numbering::Hidden => say_text(out, "{\"kind\":\""),
+impl<'a> Part for OpenObject<'a> {
+    ghost use Rattle.uds_exchange.specs.ItemSeen.{item_value};
+    ghost use Rattle.trace_text.specs.proving.OpenItems.{open_object};
+
+    ghost text = { λ object. open_object object.1 object.0 (item_value object.2) };
+
+    #[inline(never)]
+    fn say<S: TextSink>(self, out: &mut S) {
+        let OpenObject(number, numbering, item) = self;
+        say(out, (Front(number, numbering), OpenItem(item)));
     }
 }
 
-/// Says what an item is, from the word of its kind on.
-fn say_open_item<S: TextSink>(item: Item<'_>, out: &mut S)
-    ensures { S.says out.old (open_item (item_value item.entry)) out.new }
-{
-    match item {
-        Item::Exchange { request, answer } => {
-            say_text(out, "exchange\",\"service\":\"");
-            say_service(out, sid(request));
-            say_text(out, "\",\"request\":\"");
-            say_bytes(out, request);
-            say_outcome(request, answer, out);
-        }
-        Item::Stray { dir, bytes } => {
-            say_text(out, "stray\",\"direction\":\"");
-            say_direction(out, dir);
-            say_text(out, "\",\"message\":\"");
-            say_bytes(out, bytes);
+/// The front of the object, with the number where it is shown, up to the word of its kind.
+#[derive(Clone, Copy)]
+struct Front(u64, Numbering);
+
+impl Part for Front {
+    ghost use Rattle.trace_text.specs.proving.OpenItems.{front_of_item};
+
+    ghost text = { λ front. front_of_item front.1 front.0 };
+
+    #[inline(always)]
+    fn say<S: TextSink>(self, out: &mut S) {
+        match self.1 {
+            Numbering::Shown => say(out, ("{\"item\":", Number(self.0), ",\"kind\":\"")),
+            Numbering::Hidden => say(out, "{\"kind\":\""),
         }
     }
 }
 
-/// Says what came of a request, from the quote behind it on.
-fn say_outcome<S: TextSink>(request: &[u8], answer: Option<&[u8]>, out: &mut S)
-    ensures { S.says out.old (open_outcome request.now (option_map (λ reply. reply.now) answer.entry)) out.new }
-{
-    match answer {
-        None if is_suppressing(request) => say_text(out, "\",\"outcome\":\"silent"),
-        None => say_text(out, "\",\"outcome\":\"unanswered"),
-        Some(reply) => say_answer(reply, out),
+/// What an item is, from the word of its kind on.
+#[derive(Clone, Copy)]
+struct OpenItem<'a>(Item<'a>);
+
+impl<'a> Part for OpenItem<'a> {
+    ghost use Rattle.uds_exchange.specs.ItemSeen.{item_value};
+    ghost use Rattle.trace_text.specs.proving.OpenItems.{open_item};
+
+    ghost text = { λ item. open_item (item_value item.0) };
+
+    #[inline(always)]
+    fn say<S: TextSink>(self, out: &mut S) {
+        match self.0 {
+            Item::Exchange { request, answer } => say(
+                out,
+                (
+                    "exchange\",\"service\":\"",
+                    Service(sid(request)),
+                    "\",\"request\":\"",
+                    Bytes(request),
+                    OpenOutcome(request, answer),
+                ),
+            ),
+            Item::Stray { dir, bytes } => say(
+                out,
+                (
+                    "stray\",\"direction\":\"",
+                    Sender(dir),
+                    "\",\"message\":\"",
+                    Bytes(bytes),
+                ),
+            ),
+        }
     }
 }
 
-/// Says the answer to a request, from the quote behind the request on.
-fn say_answer<S: TextSink>(reply: &[u8], out: &mut S)
-    ensures { S.says out.old (open_answer reply.now) out.new }
-{
-    if is_negative_response(reply) {
-        say_text(out, "\",\"outcome\":\"negative\",\"code\":\"");
-        say_code(out, response_code(reply));
-        say_text(out, "\",\"answer\":\"");
-        say_bytes(out, reply);
-    } else {
-        say_text(out, "\",\"outcome\":\"positive\",\"answer\":\"");
-        say_bytes(out, reply);
+/// What came of a request, from the quote behind it on.
+#[derive(Clone, Copy)]
+struct OpenOutcome<'a>(&'a [u8], Option<&'a [u8]>);
+
+impl<'a> Part for OpenOutcome<'a> {
+    ghost use Rattle.std.specs.Prelude.{option_map};
+    ghost use Rattle.trace_text.specs.proving.OpenItems.{open_outcome};
+
+    ghost text = { λ outcome. open_outcome outcome.0.now (option_map (λ reply. reply.now) outcome.1) };
+
+    #[inline(always)]
+    fn say<S: TextSink>(self, out: &mut S) {
+        match self.1 {
+            None if is_suppressing(self.0) => say(out, "\",\"outcome\":\"silent"),
+            None => say(out, "\",\"outcome\":\"unanswered"),
+            Some(reply) => say(out, OpenAnswer(reply)),
+        }
+    }
+}
+
+/// The answer to a request, from the quote behind the request on.
+#[derive(Clone, Copy)]
+struct OpenAnswer<'a>(&'a [u8]);
+
+impl<'a> Part for OpenAnswer<'a> {
+    ghost use Rattle.trace_text.specs.proving.OpenItems.{open_answer};
+
+    ghost text = { λ answer. open_answer answer.0.now };
+
+    #[inline(always)]
+    fn say<S: TextSink>(self, out: &mut S) {
+        let reply = self.0;
+        if is_negative_response(reply) {
+            say(
+                out,
+                (
+                    "\",\"outcome\":\"negative\",\"code\":\"",
+                    Code(response_code(reply)),
+                    "\",\"answer\":\"",
+                    Bytes(reply),
+                ),
+            );
+        } else {
+            say(
+                out,
+                ("\",\"outcome\":\"positive\",\"answer\":\"", Bytes(reply)),
+            );
+        }
     }
 }

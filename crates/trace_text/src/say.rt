@@ -1,17 +1,17 @@
-//! The parts of a line of text, said one after another.
+//! Numbers, bytes and names, said.
 ghost use Rattle.std.specs.Prelude.{◌+◌, ◌<◌, ◌≤◌, ◌++◌, length, take};
 ghost use Rattle.std.specs.Fmt.{decimal};
-ghost use Rattle.trace_text.specs.Parts.{counts_between, part_text, parts_text};
+ghost use Rattle.trace_text.specs.Counts.{counts_between};
 ghost use Rattle.can_log.specs.Digits.{hexadecimal};
 ghost use Rattle.can_log.specs.Digits as digits;
 ghost use Rattle.trace_text.specs.ExplainText.{cause_text, layout_fault_text};
 ghost use Rattle.trace_text.specs.Words.{bytes_text, code_text, direction_text, service_text};
 
-use crate::names::{cause_name, direction_name, layout_fault_name};
-use crate::parts::{
-    Part, four_decimals, hexadecimal_digits, last_digit, numbered_code, numbered_service,
-    six_decimals, three_decimals, two_decimals,
+use crate::digits::{
+    four_decimals, hexadecimal_digits, last_digit, numbered_code, numbered_service, six_decimals,
+    three_decimals, two_decimals,
 };
+use crate::names::{cause_name, direction_name, layout_fault_name};
 use can_log::digits_of_bytes;
 use direction::Dir;
 use isotp_pdu::PduFault;
@@ -20,15 +20,6 @@ use itoa::Buffer;
 use trace_io::TextSink;
 use trace_log::Count;
 use uds_message::{code_name, service_name};
-
-/// Says the parts, one after another.
-pub fn say_parts<S: TextSink>(out: &mut S, parts: &[Part<'_>])
-    ensures { S.says out.old (parts_text parts.now) out.new }
-{
-    'parts: for part in parts {
-        say_part(out, *part);
-    }
-}
 
 /// Says counts one after another: each as `before`, its name, `between`, and its number in decimal.
 pub fn say_counts<S: TextSink>(
@@ -55,7 +46,7 @@ pub fn say_text<S: TextSink>(out: &mut S, text: &str)
     out.put(text.as_bytes());
 }
 
-/// Says a number in decimal, whole. It stands apart, as what else is long to say, so that [`say_parts`] is a small loop.
+/// Says a number in decimal, whole. It stands apart, as what else is long to say, so that a row of parts is small.
 #[inline(never)]
 pub fn say_number<S: TextSink>(out: &mut S, number: u64)
     ensures { S.says out.old (decimal number) out.new }
@@ -205,24 +196,6 @@ pub fn say_code<S: TextSink>(out: &mut S, code: u8)
     match code_name(code) {
         Some(name) => say_text(out, name),
         None => out.put(&numbered_code(code)),
-    }
-}
-
-/// Says a part.
-#[inline(always)]
-fn say_part<S: TextSink>(out: &mut S, part: Part<'_>)
-    ensures { S.says out.old (part_text part.entry) out.new }
-{
-    match part {
-        Part::Text(text) => say_text(out, text),
-        Part::Number(number) => say_number(out, number),
-        Part::Place(place) => say_place(out, place),
-        Part::Digit(number) => say_digit(out, number),
-        Part::Decimals(number) => say_six_decimals(out, number),
-        Part::Spelled(bytes) => out.put_whole(bytes),
-        Part::Bytes(bytes) => say_bytes(out, bytes),
-        Part::Service(sid) => say_service(out, sid),
-        Part::Code(code) => say_code(out, code),
     }
 }
 

@@ -4,7 +4,7 @@ use Rattle.std.proofs.lemmas.List.{drop_more, map-append}
 use Rattle.std.proofs.lemmas.List.Sums.{sum_by-cons}
 use Rattle.direction.specs.Dir.{Message}
 use Rattle.uds_exchange.specs.declared.held.HeldMessage.{HeldMessage}
-use Rattle.uds_exchange.specs.proving.Blocks.{bytes_at, IsInside, Holds, GoesOn}
+use Rattle.uds_exchange.specs.Blocks.{bytes_at, IsInside, Holds, GoesOn}
 use Rattle.uds_exchange.specs.proving.HeldMessages.{span_of, message_at, messages_at, message_length, AreHeldIn, AreHeldAndSummed}
 use Rattle.uds_exchange.proofs.InBlocks.{inside-on, bytes_at-on}
 

@@ -5,7 +5,8 @@ use Rattle.std.specs.declared.alloc.Global.{Global}
 use Rattle.std.proofs.lemmas.Bool.{cases_eq}
 use Rattle.std.proofs.lemmas.List.{take-append-le, drop-append-le, take_all, map-set, get_or-map, set-get_or, length-map}
 use Rattle.uds_exchange.specs.declared.messages.Span.{Span}
-use Rattle.uds_exchange.specs.proving.Blocks.{block_bytes, block_at, bytes_at, IsInside, Holds, GoesOn, IsSpan, Lays}
+use Rattle.uds_exchange.specs.Blocks.{block_at, bytes_at, IsInside, Holds, GoesOn, Lays}
+use Rattle.uds_exchange.specs.proving.Blocks.{block_bytes, IsSpan}
 
 -- one block goes on, or there is one more
 set-goes-on : (old : List (List ℕ)) (k : ℕ) (more : List ℕ) → k < length old → GoesOn old (slice_set old k (block_at old k ++ more))
@@ -106,3 +107,6 @@ module _ (old new : List (List ℕ)) (on : GoesOn old new) where
       let block = block_at old span.block in
       rw (more.1, drop-append-le span.start block more.0 (omega (arith, inside.end)))
       (take-append-le span.len (drop span.start block) more.0 (omega (arith, inside.end, length-drop span.start block)))
+
+  pub holds-on : (span : Span) (message : List ℕ) → Holds old span message → Holds new span message
+  holds-on span message lies = record { inside = inside-on span lies.inside; bytes = bytes_at-on span lies.inside ∙ lies.bytes }

@@ -1,7 +1,9 @@
 -- How many items there are with one more message, and so the numbers of items.
-use Rattle.std.proofs.Common.{◌≡◌, ℕ, ◌-◌, not, ◌&&◌, ◌+◌, ◌<◌, ◌≤◌, ◌^◌, false, List, [], ◌∷◌, ◌++◌, length, Option, Some, None, arith, refl, sym, ◌∙◌, ap, inl, inr, length-append, zero, suc, option_map}
+use Rattle.std.proofs.Common.{◌≡◌, ℕ, ◌-◌, not, ◌&&◌, ◌||◌, Bool, ◌+◌, ◌<◌, ◌≤◌, ◌^◌, true, false, List, [], ◌∷◌, ◌++◌, length, Option, Some, None, arith, refl, sym, ◌∙◌, ap, inl, inr, length-append, zero, suc, option_map}
 use Rattle.std.specs.Prelude.{slice_set}
+use Rattle.std.specs.List.{list_any}
 use Rattle.std.proofs.lemmas.Bool.{cases_Bool}
+use Rattle.std.proofs.lemmas.List.Folds.{list_any-append}
 use Rattle.direction.specs.Dir.{Message}
 use Rattle.direction.specs.declared.Dir.TheVariants as dir
 use Rattle.uds_message.specs.Message.{sid, is_request, is_final_for, is_pending_for}
@@ -14,6 +16,8 @@ use Rattle.uds_exchange.specs.OneMessage.{step_of}
 use Rattle.uds_exchange.specs.proving.Steps.{Standing, standing_after, stand_for}
 use Rattle.uds_exchange.specs.Judging.{step_after, number_by, number_after, items_with, waiting_number, waits_with, IsOpenSid, HasJudged, advanced, number_in}
 use Rattle.uds_exchange.specs.declared.judge.Judge.{Judge}
+use Rattle.uds_exchange.specs.Exchanged.{is_tester_response, is_unit_request, noted, sides_of}
+use Rattle.uds_exchange.specs.declared.sides.Sides.{Sides}
 use Rattle.uds_exchange.specs.declared.step.Step.{Step}
 use Rattle.uds_exchange.specs.declared.step.Step.TheVariants as step
 use Rattle.uds_exchange.proofs.Kept.{join-step}
@@ -122,32 +126,43 @@ removed-next M x =
 few-removed : (M : List Message) → length (removed_messages M) ≤ length M
 few-removed M = let all = none-lost M in omega arith
 
-next-by : (s : Step) (M : List Message) (x : Message) (judge : Judge) → length M < 2 ^ 62 → HasJudged M judge
+or-false : (b : Bool) → (b || false) ≡ b
+or-false true = refl
+or-false false = refl
+
+-- what is gathered of one more message
+sides-next : (M : List Message) (x : Message) → noted x (sides_of M) ≡ sides_of (M ++ x ∷ [])
+sides-next M x =
+    let any-next : (is_so : Message → Bool) → (list_any is_so M || is_so x) ≡ list_any is_so (M ++ x ∷ []) = λ is_so.
+    sym (list_any-append is_so M (x ∷ []) ∙ ap (λ b. list_any is_so M || b) (or-false (is_so x))) in
+    rw (sym (any-next is_tester_request), sym (any-next is_tester_response), sym (any-next is_unit_request)) refl
+
+next-by : (s : Step) (M : List Message) (x : Message) (judge : Judge) (seen : Sides) → length M < 2 ^ 62 → HasJudged M judge
     → standing_after (M ++ x ∷ []) ≡ stand_for s (standing_after M) x → length (meaning (M ++ x ∷ [])) ≡ items_with s (length (meaning M))
     → length (removed_messages (M ++ x ∷ [])) ≡ length (removed_messages M) + left-out-by s
-    → HasJudged (M ++ x ∷ []) (advanced s judge)
-next-by (step.Request service) M x judge few counts stands grown gone =
+    → HasJudged (M ++ x ∷ []) (advanced s (record judge { sides = seen }))
+next-by (step.Request service) M x judge seen few counts stands grown gone =
     let few_items = few-items M in let is = counts.items in record {
       waits = ap (λ (o : Standing). o.open_sid) (sym stands);
       items = omega arith;
       held = ap (λ (o : Standing). length o.holds) (sym stands);
       removed = omega (arith, counts.removed, gone);
     }
-next-by step.Answer M x judge few counts stands grown gone =
+next-by step.Answer M x judge seen few counts stands grown gone =
     record {
       waits = ap (λ (o : Standing). o.open_sid) (sym stands);
       items = counts.items ∙ sym grown;
       held = ap (λ (o : Standing). length o.holds) (sym stands);
       removed = omega (arith, counts.removed, gone);
     }
-next-by step.Removed M x judge few counts stands grown gone =
+next-by step.Removed M x judge seen few counts stands grown gone =
     let few_removed = few-removed M in let removed_were = counts.removed in record {
       waits = counts.waits ∙ ap (λ (o : Standing). o.open_sid) (sym stands);
       items = counts.items ∙ sym grown;
       held = counts.held ∙ ap (λ (o : Standing). length o.holds) (sym stands);
       removed = omega arith;
     }
-next-by step.Hold M x judge few counts stands grown gone =
+next-by step.Hold M x judge seen few counts stands grown gone =
     let few_items = few-items M in let few_held = few-held M in let items_were = counts.items in let held_were = counts.held in
     let more = length-append (held M) (x ∷ []) in let now = ap (λ (o : Standing). length o.holds) stands in record {
       waits = counts.waits ∙ ap (λ (o : Standing). o.open_sid) (sym stands);
@@ -155,7 +170,7 @@ next-by step.Hold M x judge few counts stands grown gone =
       held = omega arith;
       removed = omega (arith, counts.removed, gone);
     }
-next-by step.Pass M x judge few counts stands grown gone =
+next-by step.Pass M x judge seen few counts stands grown gone =
     let few_items = few-items M in let is = counts.items in record {
       waits = counts.waits ∙ ap (λ (o : Standing). o.open_sid) (sym stands);
       items = omega arith;
@@ -164,45 +179,58 @@ next-by step.Pass M x judge few counts stands grown gone =
     }
 
 -- what is kept is advanced by one more message
-pub counts-next : (M : List Message) (x : Message) (judge now : Judge) (s : Step) → length M < 2 ^ 62 → HasJudged M judge
-    → s ≡ step_of judge.open_sid x → now ≡ advanced s judge → HasJudged (M ++ x ∷ []) now
-counts-next M x judge now s few counts s_is now_is =
+pub counts-next : (M : List Message) (x : Message) (judge now : Judge) (s : Step) (seen : Sides) → length M < 2 ^ 62 → HasJudged M judge
+    → s ≡ step_of judge.open_sid x → now ≡ advanced s (record judge { sides = seen }) → HasJudged (M ++ x ∷ []) now
+counts-next M x judge now s seen few counts s_is now_is =
     let found : s ≡ step_after M x = s_is ∙ ap (λ o. step_of o x) counts.waits in
-    rw (now_is, found) (next-by (step_after M x) M x judge few counts (sym (stands-next M x)) (items-next M x) (removed-next M x))
+    rw (now_is, found) (next-by (step_after M x) M x judge seen few counts (sym (stands-next M x)) (items-next M x) (removed-next M x))
 
-number-by : (s : Step) (M : List Message) (judge : Judge) → length M < 2 ^ 62 → HasJudged M judge → number_in s judge ≡ number_by s M
-number-by (step.Request service) M judge few counts = let few_items = few-items M in let is = counts.items in omega arith
-number-by step.Answer M judge few counts = let items_are = counts.items in let held_are = counts.held in omega arith
-number-by step.Removed M judge few counts = let items_are = counts.items in let held_are = counts.held in omega arith
-number-by step.Hold M judge few counts = let few_items = few-items M in let is = counts.items in omega arith
-number-by step.Pass M judge few counts = let few_items = few-items M in let is = counts.items in omega arith
+sides-kept : (s : Step) (judge : Judge) (seen : Sides) → (advanced s (record judge { sides = seen })).sides ≡ seen
+sides-kept (step.Request service) judge seen = refl
+sides-kept step.Answer judge seen = refl
+sides-kept step.Removed judge seen = refl
+sides-kept step.Hold judge seen = refl
+sides-kept step.Pass judge seen = refl
+
+-- and so is what tells exchanged sides
+pub sides-found : (M : List Message) (x : Message) (judge now : Judge) (s : Step) (seen : Sides) → judge.sides ≡ sides_of M → seen ≡ noted x judge.sides
+    → now ≡ advanced s (record judge { sides = seen }) → now.sides ≡ sides_of (M ++ x ∷ [])
+sides-found M x judge now s seen were seen_is now_is =
+    ap (λ (j : Judge). j.sides) now_is ∙ sides-kept s judge seen ∙ seen_is ∙ ap (noted x) were ∙ sides-next M x
+
+number-by : (s : Step) (M : List Message) (judge : Judge) (seen : Sides) → length M < 2 ^ 62 → HasJudged M judge → number_in s (record judge { sides = seen }) ≡ number_by s M
+number-by (step.Request service) M judge seen few counts = let few_items = few-items M in let is = counts.items in omega arith
+number-by step.Answer M judge seen few counts = let items_are = counts.items in let held_are = counts.held in omega arith
+number-by step.Removed M judge seen few counts = let items_are = counts.items in let held_are = counts.held in omega arith
+number-by step.Hold M judge seen few counts = let few_items = few-items M in let is = counts.items in omega arith
+number-by step.Pass M judge seen few counts = let few_items = few-items M in let is = counts.items in omega arith
 
 -- what becomes of it
 pub step-found : (M : List Message) (x : Message) (judge : Judge) (s : Step) → IsOpenSid M judge.open_sid → s ≡ step_of judge.open_sid x → s ≡ step_after M x
 step-found M x judge s waits s_is = s_is ∙ ap (λ o. step_of o x) waits
 
 -- which request waits then
-waits-by : (s : Step) (judge : Judge) (standing : Standing) (x : Message) → judge.open_sid ≡ standing.open_sid
-    → (advanced s judge).open_sid ≡ (stand_for s standing x).open_sid
-waits-by (step.Request service) judge standing x waits = refl
-waits-by step.Answer judge standing x waits = refl
-waits-by step.Removed judge standing x waits = waits
-waits-by step.Hold judge standing x waits = waits
-waits-by step.Pass judge standing x waits = waits
+waits-by : (s : Step) (judge : Judge) (seen : Sides) (standing : Standing) (x : Message) → judge.open_sid ≡ standing.open_sid
+    → (advanced s (record judge { sides = seen })).open_sid ≡ (stand_for s standing x).open_sid
+waits-by (step.Request service) judge seen standing x waits = refl
+waits-by step.Answer judge seen standing x waits = refl
+waits-by step.Removed judge seen standing x waits = waits
+waits-by step.Hold judge seen standing x waits = waits
+waits-by step.Pass judge seen standing x waits = waits
 
-pub waits-found : (M : List Message) (x : Message) (judge now : Judge) (s : Step) → IsOpenSid M judge.open_sid → s ≡ step_of judge.open_sid x
-    → now ≡ advanced s judge → IsOpenSid (M ++ x ∷ []) now.open_sid
-waits-found M x judge now s waits s_is now_is =
+pub waits-found : (M : List Message) (x : Message) (judge now : Judge) (s : Step) (seen : Sides) → IsOpenSid M judge.open_sid → s ≡ step_of judge.open_sid x
+    → now ≡ advanced s (record judge { sides = seen }) → IsOpenSid (M ++ x ∷ []) now.open_sid
+waits-found M x judge now s seen waits s_is now_is =
     ap (λ (j : Judge). j.open_sid) now_is
-    ∙ waits-by s judge (standing_after M) x waits
+    ∙ waits-by s judge seen (standing_after M) x waits
     ∙ ap (λ r. (stand_for r (standing_after M) x).open_sid) (step-found M x judge s waits s_is)
     ∙ ap (λ (o : Standing). o.open_sid) (stands-next M x)
 
 -- and the number of its item
-pub number-found : (M : List Message) (x : Message) (judge : Judge) (s : Step) (number : ℕ) → length M < 2 ^ 62 → HasJudged M judge
-    → s ≡ step_of judge.open_sid x → number ≡ number_in s judge → number ≡ number_after M x
-number-found M x judge s number few counts s_is is =
-    is ∙ number-by s M judge few counts ∙ ap (λ t. number_by t M) (step-found M x judge s counts.waits s_is)
+pub number-found : (M : List Message) (x : Message) (judge : Judge) (s : Step) (seen : Sides) (number : ℕ) → length M < 2 ^ 62 → HasJudged M judge
+    → s ≡ step_of judge.open_sid x → number ≡ number_in s (record judge { sides = seen }) → number ≡ number_after M x
+number-found M x judge s seen number few counts s_is is =
+    is ∙ number-by s M judge seen few counts ∙ ap (λ t. number_by t M) (step-found M x judge s counts.waits s_is)
 
 -- ---- the number of the exchange that waits
 

@@ -7,7 +7,7 @@ use Rattle.uds_exchange.specs.declared.meaning.KeptItem.{KeptItem}
 use Rattle.uds_exchange.specs.declared.meaning.KeptItem.TheVariants as kept
 use Rattle.uds_exchange.specs.declared.messages.Span.{Span}
 use Rattle.uds_exchange.specs.Meaning.{ItemValue, exchange}
-use Rattle.uds_exchange.specs.proving.Blocks.{bytes_at, Holds, GoesOn}
+use Rattle.uds_exchange.specs.Blocks.{bytes_at, Holds, GoesOn}
 use Rattle.uds_exchange.specs.proving.KeptItems.{item_at, items_at, IsKeptIn, AreKeptIn}
 use Rattle.uds_exchange.proofs.InBlocks.{inside-on, bytes_at-on}
 

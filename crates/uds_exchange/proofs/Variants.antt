@@ -1,5 +1,5 @@
 -- Results, by their variants.
-use Rattle.std.proofs.Common.{◌≡◌, Result, Ok, Err, IfErr, OnOk, OnErr, sym, subst}
+use Rattle.std.proofs.Common.{◌≡◌, Result, Ok, Err, IfErr, OnOk, OnErr, sym, subst, ◌∙◌}
 use Rattle.std.specs.Prelude.{IsErrAnd}
 
 pub if_err_along : {T E : Type 0} (r : Result T E) (P Q : E → Type 0) → ((e : E) → P e → Q e) → IfErr r P → IfErr r Q
@@ -22,3 +22,8 @@ on_err (Err e) P h = h
 pub handed_on : {T E : Type 0} (r : Result T E) (fault : E) (P : E → Type 0) → IsErrAnd r (λ e. e ≡ fault) → P fault → IfErr r P
 handed_on (Ok x) fault P is h = absurd is
 handed_on (Err e) fault P is h = subst P (sym is) h
+
+-- and where it hands on this one, it was this
+pub handed_fault : {T E : Type 0} (r : Result T E) (fault handed : E) → IsErrAnd r (λ e. e ≡ fault) → r ≡ Err handed → fault ≡ handed
+handed_fault (Ok x) fault handed is same = absurd is
+handed_fault (Err e) fault handed is same = sym is ∙ cc same

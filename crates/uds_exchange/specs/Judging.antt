@@ -5,6 +5,7 @@ use Rattle.uds_message.specs.Message.{sid}
 use Rattle.uds_exchange.specs.Meaning.{meaning, removed_messages}
 use Rattle.uds_exchange.specs.Order.{open_request, held}
 use Rattle.uds_exchange.specs.Order as order
+use Rattle.uds_exchange.specs.Exchanged.{sides_of}
 use Rattle.uds_exchange.specs.OneMessage.{step_of}
 use Rattle.uds_exchange.specs.declared.judge.Judge.{Judge}
 use Rattle.uds_exchange.specs.declared.judge.Judged.{Judged}
@@ -67,6 +68,11 @@ pub record HasJudged (M : List Message) (judge : Judge) : Type 0 where
   pub items : judge.items ≡ length (meaning M)
   pub held : judge.held_count ≡ length (order.held M)
   pub removed : judge.removed ≡ length (removed_messages M)
+
+-- A judge has judged these messages, and gathered what tells whether tester and unit look exchanged.
+pub record IsJudgeOf (M : List Message) (judge : Judge) : Type 0 where
+  pub judged : HasJudged M judge
+  pub sides : judge.sides ≡ sides_of M
 
 -- a message that was judged, without where it lies in memory
 abbrev pub sent : Judged → Message

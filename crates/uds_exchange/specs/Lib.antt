@@ -11,5 +11,7 @@ pub mod Decider
 pub mod Laws
 pub mod OneMessage
 pub mod WaitingExchange
+pub mod Exchanged
 pub mod Judging
+pub mod Blocks
 pub mod proving

@@ -2,8 +2,10 @@
 
 ghost use Rattle.std.specs.Prelude.{◌≡◌, ◌^◌, ◌<◌, ◌++◌, ◌∷◌, [], List, length};
 ghost use Rattle.direction.specs.Dir.{Message};
-ghost use Rattle.uds_exchange.specs.Judging.{HasJudged, IsOpenSid, advanced, number_after, number_in, one_more, sent, step_after};
+ghost use Rattle.uds_exchange.specs.Exchanged.{sides_of};
+ghost use Rattle.uds_exchange.specs.Judging.{HasJudged, IsJudgeOf, IsOpenSid, advanced, number_after, number_in, one_more, sent, step_after};
 
+use crate::sides::Sides;
 use crate::step::{Step, step_of};
 use direction::Dir;
 
@@ -30,18 +32,21 @@ pub struct Judge {
     pub held_count: u64,
     /// How many replies were left out.
     pub removed: u64,
+    /// What tells whether tester and unit are exchanged.
+    pub sides: Sides,
 }
 
 impl Judge {
     /// Before the first message.
     pub fn new() -> Judge
-        ensures { HasJudged [] result }
+        ensures { IsJudgeOf [] result }
     {
         Judge {
             open_sid: None,
             items: 0,
             held_count: 0,
             removed: 0,
+            sides: Sides::none(),
         }
     }
 
@@ -53,8 +58,10 @@ impl Judge {
         ensures waits { (M : List Message) → IsOpenSid M self.old.open_sid → IsOpenSid (M ++ (dir, message.now) ∷ []) self.new.open_sid }
         ensures step { (M : List Message) → IsOpenSid M self.old.open_sid → result.step ≡ step_after M (dir, message.now) }
         ensures item { (M : List Message) → length M < 2 ^ 62 → HasJudged M self.old → result.item ≡ number_after M (dir, message.now) }
+        ensures sides { (M : List Message) → self.old.sides ≡ sides_of M → self.new.sides ≡ sides_of (M ++ (dir, message.now) ∷ []) }
     {
         let step = step_of(self.open_sid, dir, message);
+        self.sides.note(step, dir, message);
         let item = self.advance(step);
         Judged {
             dir,

@@ -14,6 +14,7 @@ ghost use Rattle.uds_exchange.specs.Decider.{PutsDecided};
 ghost use Rattle.uds_exchange.specs.ItemSink.{PutsItems};
 ghost use Rattle.uds_exchange.specs.Laws.{EarlyThenHeld, OneMoreIsPutIn, EarlyStays, EarlyGrows, NoneIsLostInOrder};
 ghost use Rattle.uds_exchange.specs.Laws.{DecidedThenUndecided, DecidedGrows, UndecidedMustWait};
+ghost use Rattle.uds_exchange.specs.Blocks.{MessageStays};
 
 use crate::item_sink::ItemSink;
 use crate::sink::MessageSink;
@@ -112,6 +113,11 @@ pub fn decided_grows()
 /// Where a request is open, an answer would change its exchange: nothing more is decided.
 pub fn undecided_must_wait()
     ensures { UndecidedMustWait }
+{}
+
+/// A message that is kept stays where it lies, whatever is kept after it.
+pub fn message_stays()
+    ensures { MessageStays }
 {}
 
 /// What was put in two runs was put in one.

@@ -29,6 +29,7 @@ mod messages;
 mod order_fault;
 mod orderer;
 mod pairing;
+mod sides;
 mod sink;
 mod step;
 
@@ -39,8 +40,10 @@ pub use judge::{Judge, Judged};
 pub use judged_orderer::JudgedOrderer;
 pub use judged_pairing::JudgedPairing;
 pub use meaning::Meaning;
+pub use messages::{Messages, Span};
 pub use order_fault::OrderFault;
 pub use orderer::Orderer;
 pub use pairing::Pairing;
+pub use sides::Sides;
 pub use sink::{MessageSink, NoFault};
 pub use step::Step;

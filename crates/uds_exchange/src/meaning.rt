@@ -5,7 +5,7 @@ ghost use Rattle.uds_exchange.specs.ItemSeen.{item_value};
 ghost use Rattle.uds_exchange.specs.Difference.{IsFirstDifference};
 ghost use Rattle.uds_exchange.specs.Meaning.{exchange, stray};
 ghost use Rattle.uds_exchange.specs.proving.KeptItems.{item_at, IsKeptIn, IsInsideIfAny};
-ghost use Rattle.uds_exchange.specs.proving.Blocks.{bytes_at, IsInside};
+ghost use Rattle.uds_exchange.specs.Blocks.{bytes_at, IsInside};
 ghost use Rattle.uds_exchange.specs.declared.messages.Span.{Span as SpanValue};
 ghost use Rattle.uds_exchange.specs.declared.meaning.KeptItem.TheVariants.{Exchange};
 

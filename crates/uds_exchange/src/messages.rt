@@ -1,7 +1,8 @@
 //! Messages that are kept, in blocks of memory that are never moved.
 
 ghost use Rattle.std.specs.Prelude.{◌≡◌, ◌<◌, ◌≤◌, ◌+◌, ◌++◌, ◌∷◌, [], ℕ, IsTrue, IfOk, OnOk, OnErr, length};
-ghost use Rattle.uds_exchange.specs.proving.Blocks.{block_at, bytes_at, block_bytes, IsInside, IsSpan, Lays, MayGoOn};
+ghost use Rattle.uds_exchange.specs.Blocks.{block_at, bytes_at, IsInside, Lays};
+ghost use Rattle.uds_exchange.specs.proving.Blocks.{block_bytes, IsSpan, MayGoOn};
 
 use std::alloc::{AllocError, Global};
 use std::marker::Model;
@@ -21,7 +22,7 @@ const LAST_START: usize = 65_535;
 
 /// Messages, each whole in a block, where it stays when more are kept: so what is kept takes its own length, and is copied once.
 #[derive(Drop)]
-pub(crate) struct Messages {
+pub struct Messages {
     /// It lies beside the list of the later ones, so that a few messages take memory once.
     first: Vec<u8>,
     later: Vec<Vec<u8>>,
@@ -31,7 +32,7 @@ pub(crate) struct Messages {
 
 /// Where the bytes of a message lie.
 #[derive(Clone, Copy)]
-pub(crate) struct Span {
+pub struct Span {
     pub(crate) len: usize,
     pub(crate) block: u32,
     pub(crate) start: u16,
@@ -48,7 +49,7 @@ impl Model for Messages {
 
 impl Messages {
     /// No message. It takes no memory.
-    pub(crate) fn new(alloc: Global) -> Messages
+    pub fn new(alloc: Global) -> Messages
         ensures { result ≡ [] ∷ [] }
     {
         Messages {
@@ -60,7 +61,7 @@ impl Messages {
 
     /// The message that lies there.
     #[inline(always)]
-    pub(crate) fn message(&self, span: Span) -> &[u8]
+    pub fn message(&self, span: Span) -> &[u8]
         requires { IsInside self.now span }
         ensures { result.now ≡ bytes_at self.now span }
     {
@@ -69,7 +70,7 @@ impl Messages {
 
     /// Keeps one message more, and answers where it lies. After an `Err` nothing has changed.
     #[inline(always)]
-    pub(crate) fn append(&mut self, message: &[u8]) -> Result<Span, AllocError>
+    pub fn append(&mut self, message: &[u8]) -> Result<Span, AllocError>
         ensures laid { IfOk result (λ span. Lays self.old span message.now self.new) }
         ensures err { OnErr result (self.new ≡ self.old) }
     {

@@ -15,7 +15,7 @@ use Rattle.trace_log.specs.declared.fault.Fault.{Fault}
 use Rattle.trace_run.specs.declared.machine.Stop.{Stop}
 use Rattle.trace_log.specs.declared.summary.Summary.{Summary}
 use Rattle.trace_log.proofs.Promises.{clean_log_is_recording, clean_summary_is_certificate, summary_certifies}
-use Rattle.trace_run.specs.Told.{AnswersTold, IsReadToEnd, Script, answers_counts}
+use Rattle.trace_run.specs.Told.{AnswersTold, Glimpse, IsReadToEnd, Script, answers_counts}
 use Rattle.trace_report.specs.Held as Holds
 use Rattle.trace_report.specs.Session.{SessionValue}
 use Rattle.udsnorm.specs.Commands.{Engine, normalises, writes, finds, runs, runs_in_style, EngineAnswers, PairEngineAnswers, answers_of, engine_of}
@@ -70,10 +70,10 @@ of_engine (runs script needs) settings log given summary old new told = of_scrip
 of_engine (runs_in_style script) settings log given summary old new (style, told) = of_script (script style settings MESSAGE_LIMIT) settings log given summary old new told
 
 -- whatever the job
-pub answer_certifies : (job : Job) (name : List ℕ) (settings : Settings) (log : List ℕ) (given : ℕ) (answer : Result Summary Fault) (old new : List ℕ)
-    → EngineAnswers job name MESSAGE_LIMIT settings log given answer old new → IfOk answer (λ summary. is_clean summary ≡ true → IsCertified MESSAGE_LIMIT settings log)
-answer_certifies job name settings log given (Ok summary) old new engine = of_engine (engine_of job name) settings log given summary old new engine
-answer_certifies job name settings log given (Err fault) old new engine = tt
+pub answer_certifies : (job : Job) (name : List ℕ) (seen : Glimpse) (settings : Settings) (log : List ℕ) (given : ℕ) (answer : Result Summary Fault) (old new : List ℕ)
+    → EngineAnswers job name seen MESSAGE_LIMIT settings log given answer old new → IfOk answer (λ summary. is_clean summary ≡ true → IsCertified MESSAGE_LIMIT settings log)
+answer_certifies job name seen settings log given (Ok summary) old new engine = of_engine (engine_of job name seen) settings log given summary old new engine
+answer_certifies job name seen settings log given (Err fault) old new engine = tt
 
 -- both logs of a comparison are clean where they have to be
 are_clean : (strict one other : Bool) → strict ≡ true → (strict && not (one && other)) ≡ false → (one ≡ true) × (other ≡ true)
@@ -92,23 +92,23 @@ of_held : (settings : Settings) (log : List ℕ) (session : SessionValue) → Ho
 of_held settings log session (meanings, read, is) = of_told settings log meanings session.summary read.1 (ap (λ (s : SessionValue). Ok s.summary) is)
 
 -- what is certified of two logs by the answer of a job over them
-of_pair : (job : PairJob) (left_name right_name : List ℕ) (strict : Bool) (settings : Settings) (one other : List ℕ) (pair : PairAnswer) (text : List ℕ)
-    → PairEngineAnswers job left_name right_name strict MESSAGE_LIMIT settings one other (Ok pair) text → is_clean pair.left ≡ true → is_clean pair.right ≡ true
+of_pair : (job : PairJob) (left_name right_name : List ℕ) (left_seen right_seen : Glimpse) (strict : Bool) (settings : Settings) (one other : List ℕ) (pair : PairAnswer) (text : List ℕ)
+    → PairEngineAnswers job left_name right_name left_seen right_seen strict MESSAGE_LIMIT settings one other (Ok pair) text → is_clean pair.left ≡ true → is_clean pair.right ≡ true
     → IsCertified MESSAGE_LIMIT settings one × IsCertified MESSAGE_LIMIT settings other
-of_pair (pair_job.Compare style) left_name right_name strict settings one other pair text (compared, compares, is, wrote) left_clean right_clean = (
+of_pair (pair_job.Compare style) left_name right_name left_seen right_seen strict settings one other pair text (compared, compares, is, wrote) left_clean right_clean = (
   is_certified settings one compared.left compares.0 (sym (ap (λ (p : PairAnswer). is_clean p.left) is) ∙ left_clean),
   is_certified settings other compared.right compares.1 (sym (ap (λ (p : PairAnswer). is_clean p.right) is) ∙ right_clean),
 )
-of_pair pair_job.Report left_name right_name strict settings one other pair text (style, held, (left, right), is, wrote) left_clean right_clean = (
+of_pair pair_job.Report left_name right_name left_seen right_seen strict settings one other pair text (style, held, (left, right), is, wrote) left_clean right_clean = (
   of_held settings one held.left left (sym (ap (λ (p : PairAnswer). is_clean p.left) is) ∙ left_clean),
   of_held settings other held.right right (sym (ap (λ (p : PairAnswer). is_clean p.right) is) ∙ right_clean),
 )
 
 -- so where a strict run over two logs has an answer, each log is a recording
-pub both_certified : (job : PairJob) (left_name right_name : List ℕ) (strict wrote : Bool) (settings : Settings) (one other : List ℕ) (answer : Result PairAnswer CompareFault) (text : List ℕ) (status : ℕ)
-    → PairEngineAnswers job left_name right_name strict MESSAGE_LIMIT settings one other answer text → status ≡ status_of_run_of_two wrote strict answer → strict ≡ true → status ≤ 1
+pub both_certified : (job : PairJob) (left_name right_name : List ℕ) (left_seen right_seen : Glimpse) (strict wrote : Bool) (settings : Settings) (one other : List ℕ) (answer : Result PairAnswer CompareFault) (text : List ℕ) (status : ℕ)
+    → PairEngineAnswers job left_name right_name left_seen right_seen strict MESSAGE_LIMIT settings one other answer text → status ≡ status_of_run_of_two wrote strict answer → strict ≡ true → status ≤ 1
     → IsCertified MESSAGE_LIMIT settings one × IsCertified MESSAGE_LIMIT settings other
-both_certified job left_name right_name strict wrote settings one other answer text status engine is so low =
+both_certified job left_name right_name left_seen right_seen strict wrote settings one other answer text status engine is so low =
     let done = accepted_pair strict wrote answer status is low in
     let clean = are_clean strict (is_clean done.0.left) (is_clean done.0.right) so done.3 in
-    of_pair job left_name right_name strict settings one other done.0 text (subst (λ a. PairEngineAnswers job left_name right_name strict MESSAGE_LIMIT settings one other a text) done.2 engine) clean.0 clean.1
+    of_pair job left_name right_name left_seen right_seen strict settings one other done.0 text (subst (λ a. PairEngineAnswers job left_name right_name left_seen right_seen strict MESSAGE_LIMIT settings one other a text) done.2 engine) clean.0 clean.1

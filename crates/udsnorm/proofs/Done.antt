@@ -14,7 +14,11 @@ use Rattle.trace_io.specs.Counted.{CountedReader}
 use Rattle.udsnorm.specs.Asked.{Did, DidAsked, DidWords, IsDone, IsDoneBy, ToldWords}
 use Rattle.udsnorm.specs.Opening.{Saying, opened, two_files}
 use Rattle.udsnorm.specs.Ending.{flushes, has_unclean, is_unclean, status_of_run_of_two}
+use Rattle.trace_report.specs.Page.{nothing_seen}
+use Rattle.trace_run.specs.Told.{Glimpse, glimpse_of}
 use Rattle.udsnorm.specs.Commands.{EngineAnswers, PairEngineAnswers}
+use Rattle.udsnorm.specs.declared.commands.Job.TheVariants as job
+use Rattle.udsnorm.specs.declared.pair_jobs.PairJob.TheVariants as pair_job
 use Rattle.udsnorm.specs.Values.{page_name, page_name_beside}
 use Rattle.udsnorm.specs.Run.{RanOne, RanTwo}
 use Rattle.udsnorm.specs.Telling.{WroteText}
@@ -52,26 +56,45 @@ of_well {A} {E} {X} is holds = subst (λ (a : Result A E). OnOk a X) is holds
 is_not_four : (status : ℕ) → status ≡ 0 → status ≡ 4 → ⊥
 is_not_four status zero four = absurd (omega (arith, zero, four))
 
+-- what is seen of a source says nothing of a log that is accepted
+unseen : (job : Job) (name : List ℕ) (seen : Glimpse) (settings : Settings) (log : List ℕ) (n : ℕ) (summary : Summary) (old new : List ℕ)
+    → EngineAnswers job name seen MESSAGE_LIMIT settings log n (Ok summary) old new → EngineAnswers job name nothing_seen MESSAGE_LIMIT settings log n (Ok summary) old new
+unseen job.Normalise name seen settings log n summary old new answers = answers
+unseen (job.List style) name seen settings log n summary old new answers = answers
+unseen (job.Watch style) name seen settings log n summary old new answers = answers
+unseen (job.Explain notation) name seen settings log n summary old new answers = answers
+unseen (job.Messages notation) name seen settings log n summary old new answers = answers
+unseen job.Report name seen settings log n summary old new (style, told) = (style, told)
+unseen (job.Find notation) name seen settings log n summary old new answers = answers
+
+unseen_pair : (job : PairJob) (left_name right_name : List ℕ) (left_seen right_seen : Glimpse) (strict : Bool) (settings : Settings) (one other : List ℕ) (pair : PairAnswer) (text : List ℕ)
+    → PairEngineAnswers job left_name right_name left_seen right_seen strict MESSAGE_LIMIT settings one other (Ok pair) text
+    → PairEngineAnswers job left_name right_name nothing_seen nothing_seen strict MESSAGE_LIMIT settings one other (Ok pair) text
+unseen_pair (pair_job.Compare style) left_name right_name left_seen right_seen strict settings one other pair text answers = answers
+unseen_pair pair_job.Report left_name right_name left_seen right_seen strict settings one other pair text answers = answers
+
 -- the logs are the same, and clean where they have to be, and the output took the text of that
-same_of_done : {W : Type 0} (output : TargetGhosts W) (job : PairJob) (left_name right_name : List ℕ) (strict wrote : Bool) (settings : Settings) (one other : List ℕ)
+same_of_done : {W : Type 0} (output : TargetGhosts W) (job : PairJob) (left_name right_name : List ℕ) (left_seen right_seen : Glimpse) (strict wrote : Bool) (settings : Settings) (one other : List ℕ)
     (answer : Result PairAnswer CompareFault) (text : List ℕ) (status : ℕ) (old new : W)
-    → PairEngineAnswers job left_name right_name strict MESSAGE_LIMIT settings one other answer text → status ≡ status_of_run_of_two wrote strict answer
+    → PairEngineAnswers job left_name right_name left_seen right_seen strict MESSAGE_LIMIT settings one other answer text → status ≡ status_of_run_of_two wrote strict answer
     → WroteText output text wrote old new → status ≡ 0
     → (pair : PairAnswer) × (has_unclean strict pair ≡ false) × (pair.comparison ≡ Same)
-    × PairEngineAnswers job left_name right_name strict MESSAGE_LIMIT settings one other (Ok pair) text × (output.taken new ≡ output.taken old ++ text)
-same_of_done output job left_name right_name strict wrote settings one other answer text status old new engine is told zero =
+    × PairEngineAnswers job left_name right_name nothing_seen nothing_seen strict MESSAGE_LIMIT settings one other (Ok pair) text × (output.taken new ≡ output.taken old ++ text)
+same_of_done output job left_name right_name left_seen right_seen strict wrote settings one other answer text status old new engine is told zero =
     let done = accepted_pair strict wrote answer status is (omega (arith, zero)) in (
       done.0,
       done.3,
       same_of_zero done.0.comparison (sym zero ∙ done.4),
-      subst (λ a. PairEngineAnswers job left_name right_name strict MESSAGE_LIMIT settings one other a text) done.2 engine,
+      unseen_pair job left_name right_name left_seen right_seen strict settings one other done.0 text
+          (subst (λ a. PairEngineAnswers job left_name right_name left_seen right_seen strict MESSAGE_LIMIT settings one other a text) done.2 engine),
       told.whole done.1,
     )
 
-accepted : (job : Job) (name : List ℕ) (strict : Bool) (settings : Settings) (log : List ℕ) (n : ℕ) (answer : Result Summary Fault) (old new : List ℕ)
-    → EngineAnswers job name MESSAGE_LIMIT settings log n answer old new → (summary : Summary) × (answer ≡ Ok summary) × (is_unclean strict summary ≡ false)
-    → (summary : Summary) × (is_unclean strict summary ≡ false) × EngineAnswers job name MESSAGE_LIMIT settings log n (Ok summary) old new
-accepted job name strict settings log n answer old new engine is = (is.0, is.2, subst (λ a. EngineAnswers job name MESSAGE_LIMIT settings log n a old new) is.1 engine)
+accepted : (job : Job) (name : List ℕ) (seen : Glimpse) (strict : Bool) (settings : Settings) (log : List ℕ) (n : ℕ) (answer : Result Summary Fault) (old new : List ℕ)
+    → EngineAnswers job name seen MESSAGE_LIMIT settings log n answer old new → (summary : Summary) × (answer ≡ Ok summary) × (is_unclean strict summary ≡ false)
+    → (summary : Summary) × (is_unclean strict summary ≡ false) × EngineAnswers job name nothing_seen MESSAGE_LIMIT settings log n (Ok summary) old new
+accepted job name seen strict settings log n answer old new engine is =
+    (is.0, is.2, unseen job name seen settings log n is.0 old new (subst (λ a. EngineAnswers job name seen MESSAGE_LIMIT settings log n a old new) is.1 engine))
 
 done_by : {F R W E : Type 0} (says : Saying F → Type 0) (file : SourceGhosts (CountedReader F)) (source : SourceGhosts R) (output : TargetGhosts W) (errors : TargetGhosts E) (asked : Result Plan WordsFault)
     (before : R) (old : W) (unsaid : E) (status : ℕ) (known : Option Known) (after : R) (new : W) (said : E) (log : List ℕ)
@@ -79,14 +102,14 @@ done_by : {F R W E : Type 0} (says : Saying F → Type 0) (file : SourceGhosts (
     → status ≡ 0 → source.given after ≡ source.given before ++ log → IsDoneBy says file asked log (output.taken old) (output.taken new)
 done_by says file source output errors (Ok (One job strict settings None)) before old unsaid status known after new said log (outcome, ran, known_is) zero grown =
     let is = summary_of_done strict (flushes ran.answer (output.taken new)) ran.answer outcome status ran.comes ran.status_is zero in
-    accepted job (page_name None) strict settings log _ ran.answer (output.taken old) (output.taken new)
-    (answers_on_more job (page_name None) MESSAGE_LIMIT settings (source.given before) (source.given after) log (source.is_over after) ran.answer (output.taken old) (output.taken new) grown ran.engine) is
+    accepted job (page_name None) (glimpse_of source after) strict settings log _ ran.answer (output.taken old) (output.taken new)
+    (answers_on_more job (page_name None) (glimpse_of source after) MESSAGE_LIMIT settings (source.given before) (source.given after) log (source.is_over after) ran.answer (output.taken old) (output.taken new) grown ran.engine) is
 done_by says file source output errors (Ok (One job strict settings (Some name))) before old unsaid status known after new said log (same, inl found) zero grown =
     let ran = found.ran in
     let log = file.given found.left in
     let is = summary_of_done strict (flushes ran.answer (output.taken new)) ran.answer found.outcome status ran.comes ran.status_is zero in
-    let done = accepted job (page_name (Some (string_bytes name))) strict settings log _ ran.answer (output.taken old) (output.taken new)
-    (answers_from_start job (page_name (Some (string_bytes name))) MESSAGE_LIMIT settings (file.given found.log) log (file.is_over found.left) ran.answer (output.taken old) (output.taken new) found.unread.from_start ran.engine) is in (
+    let done = accepted job (page_name (Some (string_bytes name))) (glimpse_of file found.left) strict settings log _ ran.answer (output.taken old) (output.taken new)
+    (answers_from_start job (page_name (Some (string_bytes name))) (glimpse_of file found.left) MESSAGE_LIMIT settings (file.given found.log) log (file.is_over found.left) ran.answer (output.taken old) (output.taken new) found.unread.from_start ran.engine) is in (
       log,
       record { opened = found.log; unread = found.unread; read = found.left; gave = refl; over = of_well is.1 ran.read.over },
       done.0,
@@ -101,7 +124,7 @@ done_by says file source output errors (Ok (Two job strict settings left right))
     let other = file.given found.other_left in
     let engine = ran.engine one other (agrees_from_start (file.given found.one) one (file.is_over found.one_left) found.one_unread.from_start)
     (agrees_from_start (file.given found.other) other (file.is_over found.other_left) found.other_unread.from_start) in
-    let done = same_of_done output job (page_name_beside (string_bytes left) (string_bytes right)) (page_name_beside (string_bytes right) (string_bytes left)) strict ran.wrote settings one other ran.answer ran.text status old new engine
+    let done = same_of_done output job (page_name_beside (string_bytes left) (string_bytes right)) (page_name_beside (string_bytes right) (string_bytes left)) (glimpse_of file found.one_left) (glimpse_of file found.other_left) strict ran.wrote settings one other ran.answer ran.text status old new engine
     ran.status_is ran.output_is zero in
     let well = accepted_pair strict ran.wrote ran.answer status ran.status_is (omega (arith, zero)) in (
       one,

@@ -13,4 +13,3 @@ pub mod Fronts
 pub mod Serving
 pub mod AskedHints
 pub mod Awaited
-pub mod Signs

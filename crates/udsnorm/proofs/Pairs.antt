@@ -16,15 +16,15 @@ use Rattle.trace_log.specs.declared.fault.Fault.{Fault}
 use Rattle.trace_log.specs.declared.fault.Fault.TheVariants as fault
 use Rattle.trace_io.specs.Written.{HasFront}
 use Rattle.trace_io.specs.declared.device.Target.{Ghosts as TargetGhosts}
-use Rattle.trace_report.specs.Held.{HoldsTwo}
+use Rattle.trace_report.specs.Held.{HoldsTwo, TwoValue}
 use Rattle.trace_report.specs.PairPage.{pair_page, pair_title}
-use Rattle.trace_report.specs.declared.held_session.Held.{Held}
 use Rattle.udsnorm.specs.Commands.{ComparesPair, PagesPair, has_text, pair_of}
 use Rattle.udsnorm.specs.Ending.{has_unclean, status_of_comparison, status_of_run_of_two}
 use Rattle.udsnorm.specs.Status.{status_of}
 use Rattle.udsnorm.specs.Telling.{WroteText}
 use Rattle.udsnorm.specs.proving.Flushed.{FlushedIf}
-use Rattle.udsnorm.specs.proving.Pairs.{answer_held, answer_of, text_of_answer}
+use Rattle.trace_run.specs.Told.{Glimpse}
+use Rattle.udsnorm.specs.proving.Pairs.{answer_held, answer_of, cause_in, text_of_answer}
 use Rattle.udsnorm.specs.declared.pair_jobs.PairAnswer.{PairAnswer}
 use Rattle.udsnorm.specs.declared.pair_jobs.PairJob.{PairJob}
 use Rattle.udsnorm.specs.declared.pair_jobs.PairJob.TheVariants as pair_job
@@ -39,17 +39,18 @@ compared_pair style strict limit settings one other (Ok compared) compares = (co
 compared_pair style strict limit settings one other (Err why) compares = (compares, refl)
 
 -- two logs that are held, without what they say, and their page
-pub pages_pair : (style left_name right_name : List ℕ) (strict : Bool) (limit : ℕ) (settings : Settings) (one other : List ℕ) (answer : Result Held CompareFault) → HoldsTwo limit settings one other answer
-    → PagesPair left_name right_name strict limit settings one other (answer_held answer) (pair_page (pair_title style left_name right_name settings) answer)
-pages_pair style left_name right_name strict limit settings one other (Ok held) holds = (style, held, holds, refl, refl)
-pages_pair style left_name right_name strict limit settings one other (Err why) holds = (style, holds, refl)
+pub pages_pair : (style left_name right_name : List ℕ) (left_seen right_seen : Glimpse) (strict : Bool) (limit : ℕ) (settings : Settings) (one other : List ℕ) (answer : Result TwoValue CompareFault) → HoldsTwo limit settings one other answer
+    → PagesPair left_name right_name left_seen right_seen strict limit settings one other (answer_held answer)
+    (pair_page (pair_title style left_name right_name settings) answer (cause_in answer settings.max_bytes left_seen right_seen))
+pages_pair style left_name right_name left_seen right_seen strict limit settings one other (Ok held) holds = (style, held, holds, refl, refl)
+pages_pair style left_name right_name left_seen right_seen strict limit settings one other (Err why) holds = (style, holds, refl)
 
 -- a fault of the answer is one of what the answer leaves out
 pub fault_compared : (answer : Result Compared CompareFault) (why : CompareFault) → answer_of answer ≡ Err why → answer ≡ Err why
 fault_compared (Ok compared) why is = cc
 fault_compared (Err other) why is = cc
 
-pub fault_held : (answer : Result Held CompareFault) (why : CompareFault) → answer_held answer ≡ Err why → answer ≡ Err why
+pub fault_held : (answer : Result TwoValue CompareFault) (why : CompareFault) → answer_held answer ≡ Err why → answer ≡ Err why
 fault_held (Ok held) why is = cc
 fault_held (Err other) why is = cc
 

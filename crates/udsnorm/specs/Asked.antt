@@ -13,6 +13,7 @@ use Rattle.trace_io.specs.Counted.{CountedReader}
 use Rattle.trace_io.specs.Written.{HasFront}
 use Rattle.trace_io.specs.declared.device.Source.{Ghosts as SourceGhosts}
 use Rattle.trace_io.specs.declared.device.Target.{Ghosts as TargetGhosts}
+use Rattle.trace_report.specs.Page.{nothing_seen}
 use Rattle.udsnorm.specs.Commands.{EngineAnswers, PairEngineAnswers}
 use Rattle.udsnorm.specs.FaultLines.{fault_line, one_stream_line, side_line, words_text}
 use Rattle.udsnorm.specs.Ending.{has_unclean, is_unclean}
@@ -156,14 +157,14 @@ pub record IsLogOf {F : Type 0} (says : Saying F → Type 0) (file : SourceGhost
 -- or those of both files. Each log is clean where it has to be.
 abbrev pub IsDoneBy : {F : Type 0} → (Saying F → Type 0) → SourceGhosts (CountedReader F) → Result Plan WordsFault → List ℕ → List ℕ → List ℕ → Type 0
 IsDoneBy says file (Ok (One job strict settings None)) log before after =
-    (summary : Summary) × (is_unclean strict summary ≡ false) × EngineAnswers job (page_name None) MESSAGE_LIMIT settings log (length log) (Ok summary) before after
+    (summary : Summary) × (is_unclean strict summary ≡ false) × EngineAnswers job (page_name None) nothing_seen MESSAGE_LIMIT settings log (length log) (Ok summary) before after
 IsDoneBy says file (Ok (One job strict settings (Some name))) log before after =
     (one : List ℕ) × IsLogOf says file (string_bytes name) one
-    × (summary : Summary) × (is_unclean strict summary ≡ false) × EngineAnswers job (page_name (Some (string_bytes name))) MESSAGE_LIMIT settings one (length one) (Ok summary) before after
+    × (summary : Summary) × (is_unclean strict summary ≡ false) × EngineAnswers job (page_name (Some (string_bytes name))) nothing_seen MESSAGE_LIMIT settings one (length one) (Ok summary) before after
 IsDoneBy says file (Ok (Two job strict settings left right)) log before after =
     (one other text : List ℕ) × IsLogOf says file (string_bytes left) one × IsLogOf says file (string_bytes right) other
     × (pair : PairAnswer) × (has_unclean strict pair ≡ false) × (pair.comparison ≡ Same)
-    × PairEngineAnswers job (page_name_beside (string_bytes left) (string_bytes right)) (page_name_beside (string_bytes right) (string_bytes left)) strict MESSAGE_LIMIT settings one other (Ok pair) text
+    × PairEngineAnswers job (page_name_beside (string_bytes left) (string_bytes right)) (page_name_beside (string_bytes right) (string_bytes left)) nothing_seen nothing_seen strict MESSAGE_LIMIT settings one other (Ok pair) text
     × (after ≡ before ++ text)
 IsDoneBy says file (Err (words.Help text)) log before after = after ≡ before ++ string_bytes text
 IsDoneBy says file (Err (words.Words text)) log before after = ⊥

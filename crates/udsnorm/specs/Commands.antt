@@ -21,7 +21,7 @@ use Rattle.trace_log.specs.Needing.{HasFrame, IsKeptForMessage, NeedsMemoryToRec
 use Rattle.trace_canon.specs.Keeping.{CompletesKept, NeedsMemoryToCollect, NeedsMemoryToOrder}
 use Rattle.trace_log.specs.Refusal.{HasNoBadPlaceWithin, IsNotRefusedWithin}
 use Rattle.trace_log.specs.Settings.{Settings}
-use Rattle.trace_run.specs.Told.{Script, AnswersTold, RanLenient, TellsEagerly, answers_counts, needs_none}
+use Rattle.trace_run.specs.Told.{Glimpse, Script, AnswersTold, RanLenient, TellsEagerly, answers_counts, needs_none}
 use Rattle.trace_canon.specs.WatchScript.{watching_script}
 use Rattle.trace_canon.specs.declared.comparing.Compared.{Compared}
 use Rattle.trace_canon.specs.declared.comparison_lines.ComparisonStyle.{ComparisonStyle}
@@ -34,10 +34,9 @@ use Rattle.isotp_receive.specs.Trace.{Entry}
 use Rattle.trace_io.specs.declared.device.Source.{Ghosts as SourceGhosts}
 use Rattle.trace_io.specs.declared.device.Target.{Ghosts as TargetGhosts}
 use Rattle.trace_report.specs.Front.{page_title}
-use Rattle.trace_report.specs.Held.{HasOwnFrame, HoldsTwo, comparison_in}
+use Rattle.trace_report.specs.Held.{HasOwnFrame, HoldsTwo, TwoValue, comparison_in}
 use Rattle.trace_report.specs.Page.{report_script}
-use Rattle.trace_report.specs.PairPage.{pair_page, pair_title}
-use Rattle.trace_report.specs.declared.held_session.Held.{Held}
+use Rattle.trace_report.specs.PairPage.{cause_of_pair, held_page, pair_page, pair_title}
 use Rattle.udsnorm.specs.Ending.{has_unclean}
 use Rattle.udsnorm.specs.Status.{is_refusal}
 use Rattle.udsnorm.specs.Values.{comparison_style_in, notation_in, style_in}
@@ -206,31 +205,32 @@ RanBy source target (finds notation) limit settings = RanToFind source target no
 RanBy source target (runs script needs) limit settings = RanLenient source target (script limit) answers_counts (needs limit) limit settings
 RanBy source target (runs_in_style script) limit settings = RanAny source target (runs_in_style script) limit settings
 
--- the engine that does this job over one log, which has this name on a page
-abbrev pub engine_of : Job → List ℕ → Engine
-engine_of job.Normalise name = normalises
-engine_of (job.List style) name = writes (list_text style)
-engine_of (job.Watch style) name = runs (λ limit. watching_script style) CompletesKept
-engine_of (job.Explain notation) name = runs (explain_script notation) (λ limit. needs_none)
-engine_of (job.Messages notation) name = runs (placing_script notation) (λ limit. needs_none)
-engine_of job.Report name = runs_in_style (λ style settings. report_script (page_title style name settings))
-engine_of (job.Find notation) name = finds notation
+-- the engine that does this job over one log, which has this name on a page, and of whose source this is seen where it is
+-- refused
+abbrev pub engine_of : Job → List ℕ → Glimpse → Engine
+engine_of job.Normalise name seen = normalises
+engine_of (job.List style) name seen = writes (list_text style)
+engine_of (job.Watch style) name seen = runs (λ limit. watching_script style) CompletesKept
+engine_of (job.Explain notation) name seen = runs (explain_script notation) (λ limit. needs_none)
+engine_of (job.Messages notation) name seen = runs (placing_script notation) (λ limit. needs_none)
+engine_of job.Report name seen = runs_in_style (λ style settings limit. report_script (page_title style name settings) limit seen)
+engine_of (job.Find notation) name seen = finds notation
 
 -- what it answers, and what it writes
-abbrev pub EngineAnswers : Job → List ℕ → ℕ → Settings → List ℕ → ℕ → Result Summary Fault → List ℕ → List ℕ → Type 0
-EngineAnswers job name = answers_of (engine_of job name)
+abbrev pub EngineAnswers : Job → List ℕ → Glimpse → ℕ → Settings → List ℕ → ℕ → Result Summary Fault → List ℕ → List ℕ → Type 0
+EngineAnswers job name seen = answers_of (engine_of job name seen)
 
 -- what it has written before more is read
-abbrev pub EngineTellsEagerly : Job → List ℕ → ℕ → Settings → List ℕ → ℕ → List ℕ → List ℕ → Type 0
-EngineTellsEagerly job name = tells_eagerly_of (engine_of job name)
+abbrev pub EngineTellsEagerly : Job → List ℕ → Glimpse → ℕ → Settings → List ℕ → ℕ → List ℕ → List ℕ → Type 0
+EngineTellsEagerly job name seen = tells_eagerly_of (engine_of job name seen)
 
 -- for which logs it may be refused memory
-abbrev pub EngineNeeds : Job → List ℕ → ℕ → Settings → List ℕ → Type 0
-EngineNeeds job name = needs_of (engine_of job name)
+abbrev pub EngineNeeds : Job → List ℕ → Glimpse → ℕ → Settings → List ℕ → Type 0
+EngineNeeds job name seen = needs_of (engine_of job name seen)
 
 -- how near to what refuses the log it stops reading
-abbrev pub EngineReads : Job → List ℕ → ℕ → Settings → List ℕ → ℕ → ℕ → ℕ → Type 0
-EngineReads job name limit settings log = ReadsWhile (unrefused_of (engine_of job name) limit settings log)
+abbrev pub EngineReads : Job → List ℕ → Glimpse → ℕ → Settings → List ℕ → ℕ → ℕ → ℕ → Type 0
+EngineReads job name seen limit settings log = ReadsWhile (unrefused_of (engine_of job name seen) limit settings log)
 
 -- ---- two logs
 
@@ -267,16 +267,18 @@ ComparesPair style strict limit settings one other (Ok pair) text =
 ComparesPair style strict limit settings one other (Err fault) text = Compares limit settings one other (Err fault) × (text ≡ [])
 
 -- what two logs that are held are to each other, without what they say
-abbrev pub pair_held : Held → PairAnswer
+abbrev pub pair_held : TwoValue → PairAnswer
 pair_held held = record { comparison = comparison_in held; left = held.left.summary; right = held.right.summary }
 
--- what both logs say, and the page of that, in some style, or of a log that is refused
-abbrev pub PagesPair : List ℕ → List ℕ → Bool → ℕ → Settings → List ℕ → List ℕ → Result PairAnswer CompareFault → List ℕ → Type 0
-PagesPair left_name right_name strict limit settings one other (Ok pair) text =
-    (style : List ℕ) × (held : Held) × HoldsTwo limit settings one other (Ok held) × (pair ≡ pair_held held)
-    × (text ≡ pair_page (pair_title style left_name right_name settings) (Ok held))
-PagesPair left_name right_name strict limit settings one other (Err fault) text =
-    (style : List ℕ) × HoldsTwo limit settings one other (Err fault) × (text ≡ pair_page (pair_title style left_name right_name settings) (Err fault))
+-- what both logs say, and the page of that, in some style, or of a log that is refused, with its cause by what is seen of
+-- both sources
+abbrev pub PagesPair : List ℕ → List ℕ → Glimpse → Glimpse → Bool → ℕ → Settings → List ℕ → List ℕ → Result PairAnswer CompareFault → List ℕ → Type 0
+PagesPair left_name right_name left_seen right_seen strict limit settings one other (Ok pair) text =
+    (style : List ℕ) × (held : TwoValue) × HoldsTwo limit settings one other (Ok held) × (pair ≡ pair_held held)
+    × (text ≡ held_page (pair_title style left_name right_name settings) held)
+PagesPair left_name right_name left_seen right_seen strict limit settings one other (Err fault) text =
+    (style : List ℕ) × HoldsTwo limit settings one other (Err fault)
+    × (text ≡ pair_page (pair_title style left_name right_name settings) (Err fault) (cause_of_pair fault settings.max_bytes left_seen right_seen))
 
 -- the job has a text of this answer: a comparison of logs of which each is clean that has to be; a page of all logs but
 -- those of which a device failed or memory was refused
@@ -286,23 +288,23 @@ has_text (pair_job.Compare style) strict (Err fault) = false
 has_text pair_job.Report strict (Ok pair) = true
 has_text pair_job.Report strict (Err fault) = is_refusal (fault_in fault)
 
--- the engine that does this job over two logs, which have these names on a page
-abbrev pub engine_of_pair : PairJob → List ℕ → List ℕ → PairEngine
-engine_of_pair (pair_job.Compare style) left_name right_name = record { answers = ComparesPair style; needs = NeedsMemoryToCollect; unrefused = IsNotRefusedWithin }
-engine_of_pair pair_job.Report left_name right_name =
-    record { answers = PagesPair left_name right_name; needs = λ limit. HasOwnFrame; unrefused = λ limit settings. HasNoBadPlaceWithin }
+-- the engine that does this job over two logs, which have these names on a page, and of whose sources this is seen
+abbrev pub engine_of_pair : PairJob → List ℕ → List ℕ → Glimpse → Glimpse → PairEngine
+engine_of_pair (pair_job.Compare style) left_name right_name left_seen right_seen = record { answers = ComparesPair style; needs = NeedsMemoryToCollect; unrefused = IsNotRefusedWithin }
+engine_of_pair pair_job.Report left_name right_name left_seen right_seen =
+    record { answers = PagesPair left_name right_name left_seen right_seen; needs = λ limit. HasOwnFrame; unrefused = λ limit settings. HasNoBadPlaceWithin }
 
 -- what it answers, and what it writes
-abbrev pub PairEngineAnswers : PairJob → List ℕ → List ℕ → Bool → ℕ → Settings → List ℕ → List ℕ → Result PairAnswer CompareFault → List ℕ → Type 0
-PairEngineAnswers job left_name right_name = (engine_of_pair job left_name right_name).answers
+abbrev pub PairEngineAnswers : PairJob → List ℕ → List ℕ → Glimpse → Glimpse → Bool → ℕ → Settings → List ℕ → List ℕ → Result PairAnswer CompareFault → List ℕ → Type 0
+PairEngineAnswers job left_name right_name left_seen right_seen = (engine_of_pair job left_name right_name left_seen right_seen).answers
 
 -- for which log it may be refused memory
-abbrev pub PairEngineNeeds : PairJob → List ℕ → List ℕ → ℕ → Settings → List ℕ → Type 0
-PairEngineNeeds job left_name right_name = (engine_of_pair job left_name right_name).needs
+abbrev pub PairEngineNeeds : PairJob → List ℕ → List ℕ → Glimpse → Glimpse → ℕ → Settings → List ℕ → Type 0
+PairEngineNeeds job left_name right_name left_seen right_seen = (engine_of_pair job left_name right_name left_seen right_seen).needs
 
 -- how near to what refuses a log it stops reading
-abbrev pub PairEngineReads : PairJob → List ℕ → List ℕ → ℕ → Settings → List ℕ → ℕ → ℕ → ℕ → Type 0
-PairEngineReads job left_name right_name limit settings log = ReadsWhile ((engine_of_pair job left_name right_name).unrefused limit settings log)
+abbrev pub PairEngineReads : PairJob → List ℕ → List ℕ → Glimpse → Glimpse → ℕ → Settings → List ℕ → ℕ → ℕ → ℕ → Type 0
+PairEngineReads job left_name right_name left_seen right_seen limit settings log = ReadsWhile ((engine_of_pair job left_name right_name left_seen right_seen).unrefused limit settings log)
 
 -- ---- the program
 

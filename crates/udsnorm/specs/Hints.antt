@@ -7,7 +7,7 @@ use Rattle.clap.specs.Walk.{Text}
 use Rattle.trace_io.specs.declared.device.Target.{Ghosts as TargetGhosts}
 use Rattle.udsnorm.specs.Advice.{IsAdviceFor}
 use Rattle.udsnorm.specs.Commands.{words_or_normalise}
-use Rattle.udsnorm.specs.Looks.{row_of}
+use Rattle.trace_report.specs.Causes.{cause_text}
 use Rattle.udsnorm.specs.Names.{behind_command, named}
 use Rattle.udsnorm.specs.Telling.{TookText}
 use Rattle.udsnorm.specs.Words.{IsPlanned}
@@ -19,13 +19,8 @@ use Rattle.udsnorm.specs.declared.ended.Which.TheVariants.{First, Second}
 use Rattle.udsnorm.specs.declared.job.Plan.{Plan}
 use Rattle.udsnorm.specs.declared.job.Plan.TheVariants.{One, Two}
 use Rattle.udsnorm.specs.declared.job.WordsFault.{WordsFault}
-use Rattle.udsnorm.specs.declared.looks.Look.{Look}
 
 -- ---- the line
-
--- what is said of a log that looks so, with what mends it
-abbrev pub look_line : Look → Option (List ℕ) → List ℕ
-look_line look log = codes "hint: " ++ named log ++ codes " " ++ (row_of look).words ++ codes "; " ++ (row_of look).command ++ codes "\n"
 
 -- what is said of a file that is not there, behind its name: a dash is meant for standard input
 abbrev pub missing_words : Option (List ℕ) → List ℕ
@@ -39,17 +34,16 @@ hint_line matter.Folder log = codes "hint: " ++ named log ++ codes " is a folder
 hint_line matter.Denied log = codes "hint: no permission to read " ++ named log ++ codes "\n"
 hint_line matter.Unopened log = codes "hint: " ++ named log ++ codes " can't be opened\n"
 hint_line matter.Unread log = codes "hint: reading " ++ named log ++ codes " failed\n"
-hint_line (matter.Limit limit) log = codes "hint: the limit is " ++ decimal limit ++ codes " bytes; --limit sets it, up to 1099511627776\n"
 hint_line matter.NoPair log =
     codes "hint: nothing in " ++ named log ++ codes " answers another identifier; find needs the frames of both sides, and looks at each identifier up to 1FFFFFFF\n"
 hint_line (matter.Foreign tester unit) log =
     codes "hint: " ++ named log ++ codes " has no frame of " ++ identifier_text tester ++ codes " or " ++ identifier_text unit ++ codes "; udsnorm find" ++ behind_command log
     ++ codes " names its identifiers\n"
+hint_line (matter.Exchanged tester unit) log =
+    codes "hint: tester and unit look exchanged in " ++ named log ++ codes ": udsnorm list --tester " ++ identifier_text unit ++ codes " --unit "
+    ++ identifier_text tester ++ behind_command log ++ codes "\n"
 hint_line matter.Empty log = codes "hint: " ++ named log ++ codes " is empty\n"
-hint_line (matter.Looks look) log = look_line look log
-hint_line matter.Cut log = codes "hint: the last line of " ++ named log ++ codes " looks cut; sed '$d' leaves it out, and a frame is missing\n"
-hint_line (matter.NoStamp line) log =
-    codes "hint: line " ++ decimal line ++ codes " of " ++ named log ++ codes " begins with no stamp; if it is a notice of candump -d, grep -v ^DROPCOUNT leaves it out\n"
+hint_line (matter.Refused cause) log = codes "hint: " ++ cause_text cause (named log) ++ codes "\n"
 hint_line (matter.Dropped count) log = codes "hint: dropped frames in " ++ named log ++ codes ": " ++ decimal count ++ codes "; udsnorm explain shows where\n"
 
 -- ---- what is told

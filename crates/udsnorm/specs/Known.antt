@@ -1,13 +1,14 @@
 -- What is known of a log for a hint, by what a run over it came to.
 use Rattle.std.specs.Prelude.{◌≡◌, ◌⊎◌, ℕ, ◌==◌, nat_lt, Bool, List, length, take, Option, Some, None, Result, Ok, Err, if◌then◌else◌}
 use Rattle.trace_log.specs.Settings.{Settings}
-use Rattle.trace_log.specs.declared.config.TheConstants.{LARGEST_LIMIT}
 use Rattle.trace_log.specs.declared.fault.CompareFault.{CompareFault}
 use Rattle.trace_log.specs.declared.fault.CompareFault.TheVariants.{Left, Right}
 use Rattle.trace_log.specs.declared.fault.Fault.{Fault}
 use Rattle.trace_log.specs.declared.fault.Fault.TheVariants.{BadLine, Oversize, LogLimit, OutputLimit, Read, Write, Memory}
 use Rattle.trace_log.specs.declared.summary.Summary.{Summary}
-use Rattle.udsnorm.specs.Looks.{lacks_stamp, look_of}
+use Rattle.trace_report.specs.Causes.{cause_of}
+use Rattle.trace_report.specs.declared.cause.Cause.{Cause}
+use Rattle.trace_run.specs.Told.{Glimpse}
 use Rattle.udsnorm.specs.declared.commands.Job.{Job}
 use Rattle.udsnorm.specs.declared.commands.Job.TheVariants as job
 use Rattle.udsnorm.specs.declared.ended.Known.{Known}
@@ -15,7 +16,6 @@ use Rattle.udsnorm.specs.declared.ended.Matter.{Matter}
 use Rattle.udsnorm.specs.declared.ended.Matter.TheVariants as matter
 use Rattle.udsnorm.specs.declared.ended.Which.{Which}
 use Rattle.udsnorm.specs.declared.ended.Which.TheVariants.{First, Second}
-use Rattle.udsnorm.specs.declared.looks.Look.{Look}
 use Rattle.udsnorm.specs.declared.opening.OpenFault.{OpenFault}
 use Rattle.udsnorm.specs.declared.opening.OpenFault.TheVariants.{Missing, Denied, Other}
 use Rattle.udsnorm.specs.declared.pair_jobs.PairAnswer.{PairAnswer}
@@ -24,36 +24,31 @@ use Rattle.udsnorm.specs.declared.pair_jobs.PairAnswer.{PairAnswer}
 abbrev pub knows : Which → Matter → Option Known
 knows which about = Some (record { which = which; matter = about })
 
--- the limit that this log passes is known where a larger one can be given
-abbrev pub knows_limit : Which → ℕ → Option Known
-knows_limit which most = if nat_lt most LARGEST_LIMIT then knows which (matter.Limit most) else None
-
--- it is known what this log looks like, if anything
-abbrev pub knows_look : Which → Option Look → Option Known
-knows_look which None = None
-knows_look which (Some look) = knows which (matter.Looks look)
+-- it is known why this log is refused, if anything is
+abbrev pub knows_cause : Which → Option Cause → Option Known
+knows_cause which None = None
+knows_cause which (Some cause) = knows which (matter.Refused cause)
 
 -- the bytes by which it is seen what a log looks like: its first sixteen
 abbrev pub front_of : List ℕ → List ℕ
 front_of given = take 16 given
 
--- What is known of this log that is refused at this place, whose source gave these bytes and was over or not. Where it
--- was over, nothing before the end was refused: the last line is cut. Else it is known that a line lacks its stamp, or
--- what the log looks like.
-abbrev pub knows_refused : Which → List ℕ → Bool → ℕ → ℕ → Option Known
-knows_refused which given is_over line column =
-    if is_over then knows which matter.Cut
-    else if lacks_stamp (front_of given) line column then knows which (matter.NoStamp line)
-    else knows_look which (look_of (front_of given) line column)
+-- what is seen of a source that gave these bytes and was over or not
+abbrev pub seen_of : List ℕ → Bool → Glimpse
+seen_of given is_over = record { first = front_of given; is_over = is_over }
+
+-- what is known of this log by a fault, whose source gave these bytes and was over or not: the cause
+abbrev pub knows_refused : Which → Settings → List ℕ → Bool → Fault → Option Known
+knows_refused which settings given is_over fault = knows_cause which (cause_of fault settings.max_bytes (seen_of given is_over))
 
 -- What is known of a log by the fault of a run over it, whose source gave these bytes and was over or not: what it
 -- looks like where it is no log, the limit where that is passed, and that the log can't be read, which a folder can't;
 -- and else nothing.
 abbrev pub IsKnownByFault : Which → Settings → List ℕ → Bool → Fault → Option Known → Type 0
-IsKnownByFault which settings given is_over (BadLine line column) known = known ≡ knows_refused which given is_over line column
+IsKnownByFault which settings given is_over (BadLine line column) known = known ≡ knows_refused which settings given is_over (BadLine line column)
 IsKnownByFault which settings given is_over (Oversize line announced) known = known ≡ None
-IsKnownByFault which settings given is_over LogLimit known = known ≡ knows_limit which settings.max_bytes
-IsKnownByFault which settings given is_over OutputLimit known = known ≡ knows_limit which settings.max_bytes
+IsKnownByFault which settings given is_over LogLimit known = known ≡ knows_refused which settings given is_over LogLimit
+IsKnownByFault which settings given is_over OutputLimit known = known ≡ knows_refused which settings given is_over OutputLimit
 IsKnownByFault which settings given is_over Read known = (known ≡ knows which matter.Unread) ⊎ (known ≡ knows which matter.Folder)
 IsKnownByFault which settings given is_over Write known = known ≡ None
 IsKnownByFault which settings given is_over Memory known = known ≡ None
@@ -67,11 +62,13 @@ knows_no_pair summary taken =
 abbrev pub knows_dropped : ℕ → Option Known
 knows_dropped count = if nat_lt 0 count then knows First (matter.Dropped count) else None
 
--- What is known of this log by its counts: that it has no line, or no frame with one of the identifiers.
+-- What is known of this log by its counts: that it has no line, or no frame with one of the identifiers, or that these
+-- look exchanged.
 abbrev pub known_by_counts : Which → Settings → Summary → Option Known
 known_by_counts which settings summary =
     if summary.lines == 0 then knows which matter.Empty
     else if summary.frames == 0 then knows which (matter.Foreign settings.tester settings.unit)
+    else if summary.looks_exchanged then knows which (matter.Exchanged settings.tester settings.unit)
     else None
 
 -- the one that is known, or else the other

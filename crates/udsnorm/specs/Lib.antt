@@ -8,7 +8,6 @@ pub mod FaultLines
 pub mod Telling
 pub mod Ending
 pub mod Run
-pub mod Looks
 pub mod Opening
 pub mod Known
 pub mod Asked

@@ -9,6 +9,7 @@ use Rattle.trace_log.specs.declared.fault.Fault.{Fault}
 use Rattle.trace_log.specs.declared.fault.Fault.TheVariants.{Memory, Read, Write}
 use Rattle.trace_log.specs.declared.summary.Summary.{Summary}
 use Rattle.trace_io.specs.Stream.{Took}
+use Rattle.trace_run.specs.Told.{glimpse_of}
 use Rattle.trace_io.specs.declared.device.Source.{Ghosts as SourceGhosts}
 use Rattle.trace_io.specs.declared.device.Target.{Ghosts as TargetGhosts}
 use Rattle.udsnorm.specs.Commands.{EngineAnswers, EngineNeeds, EngineReads, EngineTellsEagerly, PairEngineAnswers, PairEngineNeeds, PairEngineReads, has_text}
@@ -26,15 +27,15 @@ pub record RanOne {R W E : Type 0} (source : SourceGhosts R) (output : TargetGho
   -- what the engine answered, and what the output took, for each log with which the bytes that were read agree
   pub answer : Result Summary Fault
   pub engine : (log : List ℕ) → AgreesWith source before after log
-      → EngineAnswers job name limit settings log (bytes_given source before after) answer (output.taken old) (output.taken new)
+      → EngineAnswers job name (glimpse_of source after) limit settings log (bytes_given source before after) answer (output.taken old) (output.taken new)
   -- before each read all was written that the lines so far decide
   pub eager : (log : List ℕ) → AgreesWith source before after log
-      → EngineTellsEagerly job name limit settings log (bytes_given source before after) (output.taken old) (output.taken new)
+      → EngineTellsEagerly job name (glimpse_of source after) limit settings log (bytes_given source before after) (output.taken old) (output.taken new)
   -- memory was refused, with status 5, only for a log that needs it
-  pub memory : (log : List ℕ) → AgreesWith source before after log → status ≡ 5 → EngineNeeds job name limit settings log
+  pub memory : (log : List ℕ) → AgreesWith source before after log → status ≡ 5 → EngineNeeds job name (glimpse_of source after) limit settings log
   -- reading stopped within one piece of what refuses the log
   pub near : (log : List ℕ) → AgreesWith source before after log
-      → EngineReads job name limit settings log (bytes_given source before after) (source.failures before) (source.failures after)
+      → EngineReads job name (glimpse_of source after) limit settings log (bytes_given source before after) (source.failures before) (source.failures after)
   pub read : ReadFrom source Read settings.max_bytes answer before after
   -- the outcome: the answer, or a failed write where a flush was due and failed
   pub comes : ComesTo (flushes answer (output.taken new)) answer outcome
@@ -59,19 +60,19 @@ pub record RanTwo {A B W E : Type 0} (left : SourceGhosts A) (right : SourceGhos
   pub answer : Result PairAnswer CompareFault
   pub text : List ℕ
   pub engine : (a b : List ℕ) → AgreesWith left one one_now a → AgreesWith right other other_now b
-      → PairEngineAnswers job left_name right_name strict limit settings a b answer text
+      → PairEngineAnswers job left_name right_name (glimpse_of left one_now) (glimpse_of right other_now) strict limit settings a b answer text
   -- after a fault of the left log nothing of the right one was read
   pub unread : (fault : Fault) → answer ≡ Err (Left fault) → other_now ≡ other
   -- memory was refused only for a log that needs it
   pub left_memory : (a : List ℕ) → AgreesWith left one one_now a → answer ≡ Err (Left Memory)
-      → PairEngineNeeds job left_name right_name limit settings a
+      → PairEngineNeeds job left_name right_name (glimpse_of left one_now) (glimpse_of right other_now) limit settings a
   pub right_memory : (b : List ℕ) → AgreesWith right other other_now b → answer ≡ Err (Right Memory)
-      → PairEngineNeeds job left_name right_name limit settings b
+      → PairEngineNeeds job left_name right_name (glimpse_of left one_now) (glimpse_of right other_now) limit settings b
   -- reading stopped within one piece of what refuses a log
   pub left_near : (a : List ℕ) → AgreesWith left one one_now a
-      → PairEngineReads job left_name right_name limit settings a (bytes_given left one one_now) (left.failures one) (left.failures one_now)
+      → PairEngineReads job left_name right_name (glimpse_of left one_now) (glimpse_of right other_now) limit settings a (bytes_given left one one_now) (left.failures one) (left.failures one_now)
   pub right_near : (b : List ℕ) → AgreesWith right other other_now b
-      → PairEngineReads job left_name right_name limit settings b (bytes_given right other other_now) (right.failures other) (right.failures other_now)
+      → PairEngineReads job left_name right_name (glimpse_of left one_now) (glimpse_of right other_now) limit settings b (bytes_given right other other_now) (right.failures other) (right.failures other_now)
   pub left_read : ReadFrom left (Left Read) settings.max_bytes answer one one_now
   pub right_read : ReadFrom right (Right Read) settings.max_bytes answer other other_now
   -- whether the text was written, and flushed where there is one: then the output took all of it, and else a front

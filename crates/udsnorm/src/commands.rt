@@ -5,6 +5,7 @@ ghost use Rattle.std.specs.Prelude.{◌≡◌, codes};
 ghost use Rattle.isotp_receive.specs.declared.TheConstants.{MESSAGE_LIMIT};
 ghost use Rattle.trace_io.specs.Counted.{IsLowCount};
 ghost use Rattle.clap.specs.Words.{first_of, found_of, rows_of};
+ghost use Rattle.trace_run.specs.Told.{glimpse_of};
 ghost use Rattle.udsnorm.specs.Commands.{RanAny, RanBy, engine_of, report_task, task_named};
 ghost use Rattle.trace_log.specs.Devices.{HasLowCounts};
 
@@ -321,7 +322,7 @@ pub(crate) fn do_job<R: Source, W: Target>(
 ) -> Result<Summary, Fault>
     requires input { HasLowCounts R.Source input.old }
     requires out { IsLowCount (W.failures out.old) }
-    ensures ran { RanAny R.Source W.Target (engine_of job name.now) MESSAGE_LIMIT config.now input.old out.old result input.new out.new }
+    ensures ran { RanAny R.Source W.Target (engine_of job name.now (glimpse_of R.Source input.new)) MESSAGE_LIMIT config.now input.old out.old result input.new out.new }
 {
     call_engine(alloc, job, name, config, input, out)
 }
@@ -337,7 +338,7 @@ fn call_engine<R: Source, W: Target>(
 ) -> Result<Summary, Fault>
     requires input { HasLowCounts R.Source input.old }
     requires out { IsLowCount (W.failures out.old) }
-    ensures ran { RanBy R.Source W.Target (engine_of job name.now) MESSAGE_LIMIT config.now input.old out.old result input.new out.new }
+    ensures ran { RanBy R.Source W.Target (engine_of job name.now (glimpse_of R.Source input.new)) MESSAGE_LIMIT config.now input.old out.old result input.new out.new }
 {
     match job {
         Job::Normalise => normalise(alloc, config, input, out),

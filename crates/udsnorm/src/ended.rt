@@ -2,19 +2,21 @@
 
 ghost use Rattle.std.specs.Prelude.{◌≡◌, ◌⊎◌, option_map};
 ghost use Rattle.udsnorm.specs.Hints.{name_in};
-ghost use Rattle.udsnorm.specs.Known.{IsKnownBy, IsKnownByFault, IsKnownByTwo, known_by_counts, known_of_done, known_of_pair, knows, knows_dropped, knows_dropped_for, knows_limit, knows_no_pair, knows_refused, knows_unopened};
+ghost use Rattle.udsnorm.specs.Known.{IsKnownBy, IsKnownByFault, IsKnownByTwo, known_by_counts, known_of_done, known_of_pair, knows, knows_dropped, knows_dropped_for, knows_no_pair, knows_refused, knows_unopened};
 ghost use Rattle.udsnorm.specs.declared.ended.Matter.TheVariants as matter;
 
 use crate::commands::Job;
 use crate::job::{Plan, WordsFault};
-use crate::looks::{Look, lacks_stamp, look_of};
 use crate::noticing::Noticing;
 use crate::opening::OpenFault;
 use crate::pair_jobs::PairAnswer;
 use can_log::Id;
 use std::fs::OpenFile;
-use trace_io::Target;
-use trace_log::{CompareFault, Config, Fault, LARGEST_LIMIT, Summary};
+use std::io::Read;
+use trace_io::{Source, Target};
+use trace_log::{CompareFault, Config, Fault, Summary};
+use trace_report::{Cause, cause_of};
+use trace_run::Glimpse;
 
 /// What the words asked for, and how that ended.
 #[derive(Drop)]
@@ -79,20 +81,16 @@ pub enum Matter {
     Unopened,
     /// Reading it failed.
     Unread,
-    /// It, or its canonical log, is longer than this limit, and a larger one can be given.
-    Limit(u64),
+    /// It is refused, and this is why.
+    Refused(Cause),
     /// No identifier in it answers another one.
     NoPair,
     /// It has no bytes.
     Empty,
     /// It has lines, and no frame with one of these identifiers.
     Foreign { tester: Id, unit: Id },
-    /// It is no log, and looks like something else.
-    Looks(Look),
-    /// It is a log up to its end, where the last line breaks off.
-    Cut,
-    /// This line begins with no stamp, as a notice of dropped frames does.
-    NoStamp(u64),
+    /// Tester and unit look exchanged in it, where these are their identifiers.
+    Exchanged { tester: Id, unit: Id },
     /// So many of its frames were dropped.
     Dropped(u64),
 }
@@ -110,7 +108,7 @@ pub(crate) fn unopened(which: Which, fault: OpenFault) -> Option<Known>
 }
 
 /// What is known of standard input, by what a job over it came to.
-pub(crate) fn known_of_input<I, W: Target>(
+pub(crate) fn known_of_input<I: Read, W: Target>(
     job: Job,
     config: &Config,
     outcome: Result<Summary, Fault>,
@@ -126,7 +124,7 @@ pub(crate) fn known_of_input<I, W: Target>(
 }
 
 /// What is known of the log of a file, by what a job over it came to.
-pub(crate) fn known_of_file<F: OpenFile + Drop, W: Target>(
+pub(crate) fn known_of_file<F: OpenFile + Read + Drop, W: Target>(
     job: Job,
     config: &Config,
     outcome: Result<Summary, Fault>,
@@ -154,7 +152,7 @@ fn known_of_done<W: Target>(job: Job, config: &Config, summary: &Summary, out: &
     }
 }
 
-/// What is known of a log by its counts: that it is empty, or has no frame of either side.
+/// What is known of a log by its counts: that it is empty, or has no frame of either side, or that these look exchanged.
 fn known_by_counts(which: Which, config: &Config, summary: &Summary) -> Option<Known>
     ensures { result ≡ known_by_counts which config.now summary.now }
 {
@@ -164,6 +162,8 @@ fn known_by_counts(which: Which, config: &Config, summary: &Summary) -> Option<K
         knows(which, Matter::Empty)
     } else if summary.frames == 0 {
         knows(which, Matter::Foreign { tester, unit })
+    } else if summary.looks_exchanged {
+        knows(which, Matter::Exchanged { tester, unit })
     } else {
         None
     }
@@ -215,7 +215,7 @@ fn known_of_pairs<W: Target>(summary: &Summary, out: &W) -> Option<Known>
 }
 
 /// What is known of one of two logs of files, by what a job over them came to.
-pub(crate) fn known_of_files<F: OpenFile + Drop>(
+pub(crate) fn known_of_files<F: OpenFile + Read + Drop>(
     config: &Config,
     answer: Option<Result<PairAnswer, CompareFault>>,
     left: Noticing<F>,
@@ -244,7 +244,7 @@ fn known_of_pair(config: &Config, pair: &PairAnswer) -> Option<Known>
 }
 
 /// What is known of the log of a file, by the fault of a run over it.
-fn known_of_fault<F: OpenFile + Drop>(
+fn known_of_fault<F: OpenFile + Read + Drop>(
     which: Which,
     config: &Config,
     fault: Fault,
@@ -272,12 +272,18 @@ fn why_unread<F: OpenFile>(log: &F) -> Matter
 }
 
 /// What is known of a log, by the fault of a run over it.
-fn known_of<R>(which: Which, config: &Config, fault: Fault, log: &Noticing<R>) -> Option<Known>
+fn known_of<R: Read>(
+    which: Which,
+    config: &Config,
+    fault: Fault,
+    log: &Noticing<R>,
+) -> Option<Known>
     ensures { IsKnownByFault which config.now log.now.given log.now.is_over fault result }
 {
     match fault {
-        Fault::BadLine { line, column } => known_of_place(which, line, column, log),
-        Fault::LogLimit | Fault::OutputLimit => known_of_limit(which, config.max_bytes()),
+        Fault::BadLine { .. } | Fault::LogLimit | Fault::OutputLimit => {
+            known_of_refused(which, config, fault, log)
+        }
         Fault::Read => Some(Known {
             which,
             matter: Matter::Unread,
@@ -286,43 +292,25 @@ fn known_of<R>(which: Which, config: &Config, fault: Fault, log: &Noticing<R>) -
     }
 }
 
-/// What is known of a log that is refused at this place. Nothing is read behind a refused byte: so where all of the log
-/// was, the place is behind its last one.
-fn known_of_place<R>(which: Which, line: u64, column: u32, log: &Noticing<R>) -> Option<Known>
-    ensures { result ≡ knows_refused which log.now.given log.now.is_over line column }
+/// What is known of a log that is refused: the cause.
+fn known_of_refused<R: Read>(
+    which: Which,
+    config: &Config,
+    fault: Fault,
+    log: &Noticing<R>,
+) -> Option<Known>
+    ensures { result ≡ knows_refused which config.now log.now.given log.now.is_over fault }
 {
-    if log.has_ended() {
-        return Some(Known {
+    let seen = Glimpse {
+        first: log.first(),
+        is_over: log.has_ended(),
+    };
+    match cause_of(fault, config.max_bytes(), seen) {
+        Some(cause) => Some(Known {
             which,
-            matter: Matter::Cut,
-        });
-    }
-    if lacks_stamp(log.first(), line, column) {
-        return Some(Known {
-            which,
-            matter: Matter::NoStamp(line),
-        });
-    }
-    match look_of(log.first(), line, column) {
-        Some(look) => Some(Known {
-            which,
-            matter: Matter::Looks(look),
+            matter: Matter::Refused(cause),
         }),
         None => None,
-    }
-}
-
-/// What is known of a log that passes this limit: that, where a larger one can be given.
-fn known_of_limit(which: Which, most: u64) -> Option<Known>
-    ensures { result ≡ knows_limit which most }
-{
-    if most < LARGEST_LIMIT {
-        Some(Known {
-            which,
-            matter: Matter::Limit(most),
-        })
-    } else {
-        None
     }
 }
 

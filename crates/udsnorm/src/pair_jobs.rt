@@ -10,7 +10,9 @@ ghost use Rattle.trace_report.specs.PairPage.{pair_page, pair_title};
 ghost use Rattle.udsnorm.specs.Commands.{PairEngineAnswers, PairEngineNeeds, PairEngineReads, has_text, left_file, pair_of, right_file};
 ghost use Rattle.udsnorm.specs.Ending.{has_unclean};
 ghost use Rattle.udsnorm.specs.Telling.{WroteText};
-ghost use Rattle.udsnorm.specs.proving.Pairs.{answer_held, answer_of, text_of_answer};
+ghost use Rattle.udsnorm.specs.proving.Pairs.{answer_held, answer_of, cause_in, text_of_answer};
+ghost use Rattle.trace_report.specs.Causes as Causes;
+ghost use Rattle.trace_run.specs.Told.{glimpse_of};
 
 use crate::commands::{LEFT, LOG, OTHER, RIGHT};
 use crate::tell::is_refusal;
@@ -18,7 +20,8 @@ use std::alloc::Global;
 use trace_canon::{Compared, Comparison, ComparisonStyle, compare, write_comparison};
 use trace_io::{Source, Target};
 use trace_log::{CompareFault, Config, Fault, Summary};
-use trace_report::{Held, PairTitle, hold_two, report_style, write_pair_page};
+use trace_report::{Cause, PairTitle, Two, cause_of, keep_two, report_style, write_pair_page};
+use trace_run::Glimpse;
 
 /// What the program does with two logs.
 #[derive(Clone, Copy, PartialEq, Eq)]
@@ -121,7 +124,7 @@ pub(crate) fn do_pair_job<A: Source, B: Source, W: Target>(
     // What is answered, and the text of that, for all logs with which the bytes that were read agree.
     ensures engine { (text : List ℕ)
         × ((one other : List ℕ) → AgreesWith A.Source left.old left.new one → AgreesWith B.Source right.old right.new other
-        → PairEngineAnswers job left_name.now right_name.now strict MESSAGE_LIMIT config.now one other result.answer text)
+        → PairEngineAnswers job left_name.now right_name.now (glimpse_of A.Source left.new) (glimpse_of B.Source right.new) strict MESSAGE_LIMIT config.now one other result.answer text)
         × WroteText W.Target text result.wrote out.old out.new }
     ensures left_alone { has_text job strict result.answer ≡ false → (result.wrote ≡ true) × (out.new ≡ out.old) }
     ensures flushes { W.flushes out.new ≡ W.flushes out.old }
@@ -131,15 +134,15 @@ pub(crate) fn do_pair_job<A: Source, B: Source, W: Target>(
 
     // Memory is refused only for a log that needs it.
     ensures left_memory { (one : List ℕ) → AgreesWith A.Source left.old left.new one
-        → result.answer ≡ Err (CompareFault.Left Fault.Memory) → PairEngineNeeds job left_name.now right_name.now MESSAGE_LIMIT config.now one }
+        → result.answer ≡ Err (CompareFault.Left Fault.Memory) → PairEngineNeeds job left_name.now right_name.now (glimpse_of A.Source left.new) (glimpse_of B.Source right.new) MESSAGE_LIMIT config.now one }
     ensures right_memory { (other : List ℕ) → AgreesWith B.Source right.old right.new other
-        → result.answer ≡ Err (CompareFault.Right Fault.Memory) → PairEngineNeeds job left_name.now right_name.now MESSAGE_LIMIT config.now other }
+        → result.answer ≡ Err (CompareFault.Right Fault.Memory) → PairEngineNeeds job left_name.now right_name.now (glimpse_of A.Source left.new) (glimpse_of B.Source right.new) MESSAGE_LIMIT config.now other }
 
     // How near to what refuses a log it stops reading, and what it did with both.
     ensures left_near { (one : List ℕ) → AgreesWith A.Source left.old left.new one
-        → PairEngineReads job left_name.now right_name.now MESSAGE_LIMIT config.now one (bytes_given A.Source left.old left.new) (A.failures left.old) (A.failures left.new) }
+        → PairEngineReads job left_name.now right_name.now (glimpse_of A.Source left.new) (glimpse_of B.Source right.new) MESSAGE_LIMIT config.now one (bytes_given A.Source left.old left.new) (A.failures left.old) (A.failures left.new) }
     ensures right_near { (other : List ℕ) → AgreesWith B.Source right.old right.new other
-        → PairEngineReads job left_name.now right_name.now MESSAGE_LIMIT config.now other (bytes_given B.Source right.old right.new) (B.failures right.old) (B.failures right.new) }
+        → PairEngineReads job left_name.now right_name.now (glimpse_of A.Source left.new) (glimpse_of B.Source right.new) MESSAGE_LIMIT config.now other (bytes_given B.Source right.old right.new) (B.failures right.old) (B.failures right.new) }
     ensures left_read { ReadFrom A.Source (CompareFault.Left Fault.Read) config.now.max_bytes result.answer left.old left.new }
     ensures right_read { ReadFrom B.Source (CompareFault.Right Fault.Read) config.now.max_bytes result.answer right.old right.new }
     ensures never_write { IfErr result.answer (λ fault. fault_in fault ≢ Fault.Write) }
@@ -153,10 +156,11 @@ pub(crate) fn do_pair_job<A: Source, B: Source, W: Target>(
             }
         }
         PairJob::Report => {
-            let answer = hold_two(alloc, config, left, right);
+            let answer = keep_two(alloc, config, left, right);
+            let cause = cause_in(&answer, config.max_bytes(), left, right);
             PairDone {
                 answer: answer_held(&answer),
-                wrote: write_page(left_name, right_name, config, &answer, out),
+                wrote: write_page(left_name, right_name, config, &answer, cause, out),
             }
         }
     }
@@ -204,17 +208,44 @@ fn write_answer<W: Target>(
 }
 
 /// An answer about two logs that are held, without what they say.
-fn answer_held(answer: &Result<Held, CompareFault>) -> Result<PairAnswer, CompareFault>
+fn answer_held(answer: &Result<Two, CompareFault>) -> Result<PairAnswer, CompareFault>
     ensures { result ≡ answer_held answer.now }
 {
     match answer {
-        Ok(held) => Ok(PairAnswer {
-            comparison: held.comparison(),
-            left: held.left.summary(),
-            right: held.right.summary(),
+        Ok(two) => Ok(PairAnswer {
+            comparison: two.comparison(),
+            left: two.left().summary(),
+            right: two.right().summary(),
         }),
         Err(fault) => Err(*fault),
     }
+}
+
+/// The cause of a refusal of one of two logs with this limit, by what is seen of both sources.
+fn cause_in<A: Source, B: Source>(
+    answer: &Result<Two, CompareFault>,
+    most: u64,
+    left: &A,
+    right: &B,
+) -> Option<Cause>
+    ensures { result ≡ cause_in answer.now most (glimpse_of A.Source left.now) (glimpse_of B.Source right.now) }
+{
+    match answer {
+        Ok(_) => None,
+        Err(CompareFault::Left(why)) => cause_by(*why, most, left),
+        Err(CompareFault::Right(why)) => cause_by(*why, most, right),
+    }
+}
+
+/// The cause of a fault over a log with this limit, by what is seen of its source.
+fn cause_by<R: Source>(why: Fault, most: u64, source: &R) -> Option<Cause>
+    ensures { result ≡ Causes.cause_of why most (glimpse_of R.Source source.now) }
+{
+    let seen = Glimpse {
+        first: source.first(),
+        is_over: source.has_ended(),
+    };
+    cause_of(why, most, seen)
 }
 
 /// Writes the page of two logs, which have these names there, where there is one. Answers whether that did not fail.
@@ -222,11 +253,12 @@ fn write_page<W: Target>(
     left_name: &str,
     right_name: &str,
     config: &Config,
-    answer: &Result<Held, CompareFault>,
+    answer: &Result<Two, CompareFault>,
+    cause: Option<Cause>,
     out: &mut W,
 ) -> bool
     requires { IsLowCount (W.failures out.old) }
-    ensures text { (style : List ℕ) × WroteText W.Target (pair_page (pair_title style left_name.now right_name.now config.now) answer.now) result out.old out.new }
+    ensures text { (style : List ℕ) × WroteText W.Target (pair_page (pair_title style left_name.now right_name.now config.now) answer.now cause) result out.old out.new }
     ensures left_alone { has_text PairJob.Report false (answer_held answer.now) ≡ false → (result ≡ true) × (out.new ≡ out.old) }
     ensures flushes { W.flushes out.new ≡ W.flushes out.old }
 {
@@ -239,6 +271,6 @@ fn write_page<W: Target>(
     };
     match answer {
         Err(fault) if !is_refusal(fault_in(*fault)) => true,
-        _ => write_pair_page(&title, answer, out).is_ok(),
+        _ => write_pair_page(&title, answer, cause, out).is_ok(),
     }
 }

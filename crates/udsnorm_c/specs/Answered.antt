@@ -1,5 +1,5 @@
 -- What an exported call answers, in numbers, and what is then in the buffer of its caller.
-use Rattle.std.specs.Prelude.{◌≡◌, ℕ, ◌+◌, ◌&&◌, Bool, true, false, List, length, nat_le, nat_lt, Option, Some, None, Result, Ok, Err, MatchResult, if◌then◌else◌}
+use Rattle.std.specs.Prelude.{◌≡◌, ℕ, ◌+◌, ◌&&◌, ◌||◌, Bool, true, false, List, length, nat_le, nat_lt, Option, Some, None, Result, Ok, Err, MatchResult, if◌then◌else◌}
 use Rattle.trace_canon.specs.declared.comparing.Comparison.{Comparison}
 use Rattle.trace_canon.specs.declared.comparing.Comparison.TheVariants.{Same, Different}
 use Rattle.trace_canon.specs.declared.counted.CountedComparison.{CountedComparison}
@@ -33,6 +33,7 @@ status_alone status = record {
   length = 0;
   item = 0;
   side = 0;
+  exchanged = 0;
   clean = 0;
   lines = 0;
   frames = 0;
@@ -77,6 +78,7 @@ text_answer count summary room = record {
   length = count;
   item = 0;
   side = 0;
+  exchanged = flag summary.looks_exchanged;
   clean = flag (is_clean summary);
   lines = summary.lines;
   frames = summary.frames;
@@ -96,9 +98,14 @@ abbrev pub first_item : Comparison → ℕ
 first_item Same = 0
 first_item (Different place) = number_of place
 
--- the answer of two logs that are compared: that item, and whether both are clean
+-- the answer of two logs that are compared: that item, whether tester and unit look exchanged in one, and whether both are
+-- clean
 abbrev pub counted_answer : CountedComparison → UdsnormAnswer
-counted_answer counted = record (status_alone 0) { item = first_item counted.comparison; clean = flag (is_clean counted.left && is_clean counted.right) }
+counted_answer counted = record (status_alone 0) {
+  item = first_item counted.comparison;
+  exchanged = flag (counted.left.looks_exchanged || counted.right.looks_exchanged);
+  clean = flag (is_clean counted.left && is_clean counted.right);
+}
 
 -- whose log can't be compared, and why
 abbrev pub side_answer : CompareFault → UdsnormAnswer

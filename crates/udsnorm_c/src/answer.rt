@@ -24,7 +24,9 @@ pub struct UdsnormAnswer {
     /// The number of the first item that differs, from 1.
     pub item: u64,
     /// Whose log has no meaning: 1 the first, 2 the second.
-    pub side: u32,
+    pub side: u16,
+    /// 1 where tester and unit look exchanged, in one log at least.
+    pub exchanged: u16,
     /// 1 where each log is clean, so that no frame of it was lost that can be seen.
     pub clean: u32,
     pub lines: u64,
@@ -76,6 +78,7 @@ const NOTHING: UdsnormAnswer = UdsnormAnswer {
     length: 0,
     item: 0,
     side: 0,
+    exchanged: 0,
     clean: 0,
     lines: 0,
     frames: 0,
@@ -158,6 +161,7 @@ pub(crate) fn text_answer(length: usize, summary: Summary, room: usize) -> Udsno
 {
     UdsnormAnswer {
         length: length as u64,
+        exchanged: u16::from(summary.looks_exchanged),
         clean: flag(summary.is_clean()),
         lines: summary.lines,
         frames: summary.frames,
@@ -194,13 +198,14 @@ pub(crate) fn comparison_answer(compared: Result<CountedComparison, CompareFault
     }
 }
 
-/// How two logs compare, and whether both are clean.
+/// How two logs compare, whether both are clean, and whether the sides of one look exchanged.
 fn counted_answer(counted: CountedComparison) -> UdsnormAnswer
     ensures { result ≡ Spec.counted_answer counted }
 {
     let are_clean = counted.left.is_clean() && counted.right.is_clean();
     UdsnormAnswer {
         item: first_item(counted.comparison),
+        exchanged: u16::from(counted.left.looks_exchanged || counted.right.looks_exchanged),
         clean: flag(are_clean),
         ..status_alone(DONE)
     }

@@ -1,4 +1,4 @@
--- Devices of proof: what the machine keeps of a log that is held, and what it answers at its end.
+-- Devices of proof: what the machine keeps of a log that is kept, and what it answers at its end.
 use Rattle.std.specs.Prelude.{◌≡◌, ◌≤◌, ◌^◌, false, List, [], length, Ok, Err}
 use Rattle.isotp_receive.specs.declared.TheConstants.{MESSAGE_LIMIT}
 use Rattle.isotp_receive.specs.Trace.{Entry}
@@ -6,25 +6,24 @@ use Rattle.trace_run.specs.Told.{Script, Answering}
 use Rattle.trace_run.specs.declared.machine.Stop.TheVariants.{OutputLimit}
 use Rattle.trace_log.specs.declared.summary.Summary.{Summary}
 use Rattle.trace_report.specs.Events.{end_rows, rows_of}
-use Rattle.trace_report.specs.declared.holder.Heard.{Heard}
-use Rattle.trace_report.specs.declared.holder.Holder.{Holder}
+use Rattle.trace_report.specs.declared.keeper.Heard.{Heard}
+use Rattle.trace_report.specs.declared.keeper.Keeper.{Keeper}
 use Rattle.trace_report.specs.proving.Following.{Follows, rows_in, times_of}
-use Rattle.trace_report.specs.proving.Holding.{held_rows}
 
 -- nothing is said
 abbrev pub quiet_script : Script
 quiet_script = record { strict = false; word = λ T e. []; last = λ T summary. []; refused = λ T summary why. [] }
 
 -- the rows of the frames T are kept
-pub record Holds (T : List Entry) (holder : Holder) : Type 0 where
+pub record Keeps (T : List Entry) (keeper : Keeper) : Type 0 where
   pub few : length T ≤ 2 ^ 62
-  pub span : holder.span ≡ times_of T
-  pub follows : Follows T holder.follower
-  pub rows : held_rows holder.rows.items ≡ rows_of MESSAGE_LIMIT T
+  pub span : keeper.span ≡ times_of T
+  pub follows : Follows T keeper.follower
+  pub rows : keeper.rows ≡ rows_of MESSAGE_LIMIT T
 
 -- this was heard of a trace with these counts
 pub record IsHeardOf (T : List Entry) (summary : Summary) (heard : Heard) : Type 0 where
-  pub rows : held_rows heard.rows.items ≡ rows_of MESSAGE_LIMIT T
+  pub rows : heard.rows ≡ rows_of MESSAGE_LIMIT T
   pub last : rows_in heard.last ≡ end_rows MESSAGE_LIMIT T
   pub counted : heard.summary ≡ summary
   pub span : heard.span ≡ times_of T

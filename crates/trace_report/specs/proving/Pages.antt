@@ -7,7 +7,7 @@ use Rattle.trace_report.specs.declared.row.Row.TheVariants as row
 
 -- what a page is made for
 abbrev pub title_of : Title → PageTitle
-title_of title = record { style = title.style.now; name = title.name.now; tester = title.tester; unit = title.unit }
+title_of title = record { style = title.style.now; name = title.name.now; tester = title.tester; unit = title.unit; most = title.most }
 
 -- a row
 abbrev pub row_of : Row → RowValue

@@ -17,7 +17,7 @@ use Rattle.trace_run.specs.declared.receiver.Receiver.{Receiver}
 use Rattle.trace_run.specs.declared.machine.Stop.{Stop}
 use Rattle.trace_run.specs.declared.machine.Stop.TheVariants as stop
 use Rattle.trace_log.specs.Trace.{trace}
-use Rattle.uds_exchange.specs.Judging.{HasJudged}
+use Rattle.uds_exchange.specs.Judging.{IsJudgeOf}
 use Rattle.uds_exchange.specs.declared.judge.Judge.{Judge}
 use Rattle.trace_log.specs.proving.Announcing.{AnnouncesWithin}
 use Rattle.trace_log.specs.proving.Receiving.{Receives}
@@ -94,7 +94,7 @@ CarriesPage target start said page now = Carries target start said page.failed p
 -- A machine stands at its start, no message was judged, and nothing is on the page.
 pub record IsTellingStart (Stands : Type 0) (judge : Judge) (failed : Bool) (held : List ℕ) : Type 0 where
   pub stands : Stands
-  pub judged : HasJudged [] judge
+  pub judged : IsJudgeOf [] judge
   pub well : failed ≡ false
   pub blank : held ≡ []
 
@@ -106,7 +106,7 @@ stops_for false did = None
 -- The frames of the trace were told; of a strict script none announces a message above the limit.
 pub record Tells {M W : Type 0} (stands : List Entry → M → Type 0) (target : Ghosts W) (script : Script) (start : W) (T : List Entry)
     (machine : M) (judge : Judge) (failed : Bool) (held : List ℕ) (now : W) : Type 0 where
-  pub judged : HasJudged (messages MESSAGE_LIMIT T) judge
+  pub judged : IsJudgeOf (messages MESSAGE_LIMIT T) judge
   pub machine_stands : stands T machine
   pub within : script.strict ≡ true → AllByRecursion AnnouncesWithin T
   pub carried : Carries target start (told script.word T) failed held now
@@ -150,7 +150,7 @@ SettlesWith {W = W} text name target failed held old result new =
 abbrev pub RefusesTelling : {M W : Type 0} → (M → List Entry → M → Type 0) → (M → Script) → Ghosts W → Fault → Receiver M W → W → Fault → W → Type 0
 RefusesTelling {M = M} stands scripts target why receiver old result new =
     (first : M) (settings : Settings) (meanings : List (Option Stamped)) → Receives settings meanings receiver.pair receiver.lines receiver.counts
-    → HasJudged (messages MESSAGE_LIMIT (trace settings meanings)) receiver.telling.judge → stands first (trace settings meanings) receiver.telling.machine
+    → IsJudgeOf (messages MESSAGE_LIMIT (trace settings meanings)) receiver.telling.judge → stands first (trace settings meanings) receiver.telling.machine
     → SettlesWith (refusal_of_lines (scripts first) MESSAGE_LIMIT settings why meanings) why target receiver.telling.page.failed receiver.telling.page.block old result new
 
 -- how a run ends on a fault, with what it has taken: that of a device stands as it is, and before others all that is

@@ -3,7 +3,7 @@ use Rattle.std.specs.Prelude.{◌≡◌, ℕ, List, [], ◌∷◌, length, map, 
 use Rattle.direction.specs.Dir.{Message}
 use Rattle.uds_exchange.specs.declared.held.HeldMessage.{HeldMessage}
 use Rattle.uds_exchange.specs.declared.messages.Span.{Span}
-use Rattle.uds_exchange.specs.proving.Blocks.{bytes_at, IsInside}
+use Rattle.uds_exchange.specs.Blocks.{bytes_at, IsInside}
 
 -- where its bytes lie
 abbrev pub span_of : HeldMessage → Span

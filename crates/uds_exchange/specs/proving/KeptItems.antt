@@ -4,7 +4,7 @@ use Rattle.uds_exchange.specs.declared.meaning.KeptItem.{KeptItem}
 use Rattle.uds_exchange.specs.declared.meaning.KeptItem.TheVariants as kept
 use Rattle.uds_exchange.specs.declared.messages.Span.{Span}
 use Rattle.uds_exchange.specs.Meaning.{ItemValue, exchange, stray}
-use Rattle.uds_exchange.specs.proving.Blocks.{bytes_at, IsInside}
+use Rattle.uds_exchange.specs.Blocks.{bytes_at, IsInside}
 
 -- an item by where its messages lie
 abbrev pub item_at : List (List ℕ) → KeptItem → ItemValue

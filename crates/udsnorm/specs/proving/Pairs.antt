@@ -1,9 +1,12 @@
 -- Devices of proof: an answer of `compare`, what is told of it, and its text.
-use Rattle.std.specs.Prelude.{ℕ, Bool, List, [], Result, Ok, Err}
+use Rattle.std.specs.Prelude.{ℕ, Bool, List, [], Option, None, Result, Ok, Err}
 use Rattle.trace_canon.specs.declared.comparing.Compared.{Compared}
 use Rattle.trace_canon.specs.declared.comparison_lines.ComparisonStyle.{ComparisonStyle}
 use Rattle.trace_log.specs.declared.fault.CompareFault.{CompareFault}
-use Rattle.trace_report.specs.declared.held_session.Held.{Held}
+use Rattle.trace_report.specs.Held.{TwoValue}
+use Rattle.trace_report.specs.PairPage.{cause_of_pair}
+use Rattle.trace_report.specs.declared.cause.Cause.{Cause}
+use Rattle.trace_run.specs.Told.{Glimpse}
 use Rattle.udsnorm.specs.Commands.{pair_held, pair_of, text_of_compared}
 use Rattle.udsnorm.specs.declared.pair_jobs.PairAnswer.{PairAnswer}
 
@@ -18,6 +21,11 @@ text_of_answer strict style (Ok compared) = text_of_compared strict style compar
 text_of_answer strict style (Err fault) = []
 
 -- an answer about logs that are held, without what they say
-abbrev pub answer_held : Result Held CompareFault → Result PairAnswer CompareFault
+abbrev pub answer_held : Result TwoValue CompareFault → Result PairAnswer CompareFault
 answer_held (Ok held) = Ok (pair_held held)
 answer_held (Err fault) = Err fault
+
+-- the cause of a refusal of one of two logs with this limit, by what is seen of both sources
+abbrev pub cause_in : Result TwoValue CompareFault → ℕ → Glimpse → Glimpse → Option Cause
+cause_in (Ok held) most left_seen right_seen = None
+cause_in (Err fault) most left_seen right_seen = cause_of_pair fault most left_seen right_seen

@@ -10,5 +10,5 @@ returns g c =
     let place = c.args.place in
     let left = shown_value (place + 1) (slice_get c.args.compared.now.left.meaning place) in
     let right = shown_value (place + 1) (slice_get c.args.compared.now.right.meaning place) in
-    subst (λ text. g.S.TextSink.says c.args.out.now text c.say_parts-3.new.out) (shown_object_is place left right)
-    (onward _ _ _ _ _ (onward _ _ _ _ _ (onward _ _ _ _ _ (onward _ _ _ _ _ c.say_parts.ensures c.say_item_at.ensures) c.say_parts-2.ensures) c.say_item_at-2.ensures) c.say_parts-3.ensures)
+    subst (λ text. g.S.TextSink.says c.args.out.now text c.say_text-2.new.out) (shown_object_is place left right)
+    (onward _ _ _ _ _ (onward _ _ _ _ _ (onward _ _ _ _ _ (onward _ _ _ _ _ c.say.ensures c.say_item_at.ensures) c.say_text.ensures) c.say_item_at-2.ensures) c.say_text-2.ensures)

@@ -4,5 +4,5 @@ use Rattle.trace_canon.proofs.pair_lines.say_pair.Goals as goal
 
 pub returns-in-Json : goal.returns-in-Json
 returns-in-Json g c =
-    subst (λ text. g.S.TextSink.says c.args.out.now text c.say_parts-in-Json.new.out)
-    (object_is c.args.pair.now c.args.notation _ _ c.in-Json.is c.as_slice-in-Json.ensures.value c.as_slice-in-Json-2.ensures.value) c.say_parts-in-Json.ensures
+    subst (λ text. g.S.TextSink.says c.args.out.now text c.say-in-Json.new.out)
+    (object_is c.args.pair.now c.args.notation _ _ c.in-Json.is c.as_slice-in-Json.ensures.value c.as_slice-in-Json-2.ensures.value) c.say-in-Json.ensures

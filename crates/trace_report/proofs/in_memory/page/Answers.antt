@@ -1,4 +1,4 @@
-use Rattle.std.proofs.Common.{ap, sym, ◌∙◌}
+use Rattle.std.proofs.Common.{[], ap, sym, ◌∙◌}
 use Rattle.isotp_receive.specs.declared.TheConstants.{MESSAGE_LIMIT}
 use Rattle.trace_canon.proofs.Promises.{agrees_in_memory, gathered, taken_is_held, told_in_memory}
 use Rattle.trace_report.specs.Front.{page_title}
@@ -8,7 +8,7 @@ use Rattle.trace_report.proofs.in_memory.page.Goals as goal
 
 pub returns : goal.returns
 returns c =
-    let script = report_script (page_title c.args.style.now c.args.name.now c.args.config.now) MESSAGE_LIMIT in
+    let script = report_script (page_title c.args.style.now c.args.name.now c.args.config.now) MESSAGE_LIMIT (record { first = []; is_over = c.report-answer.new.reader.is_over }) in
     let ran = c.report-answer.ensures.ran.run in
     let agrees = agrees_in_memory c.args.log.now c.new-2.result c.report-answer.new.reader c.new-2.ensures ran.read.gave ran.read.ended in
     let empty = ap (λ w. w.taken) c.new-writer.ensures in

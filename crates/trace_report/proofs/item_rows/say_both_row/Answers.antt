@@ -1,7 +1,7 @@
 use Rattle.std.proofs.Common.{Option, sym, subst, ◌∙◌}
 use Rattle.trace_report.specs.ItemRows.{both_row}
 use Rattle.trace_report.specs.declared.contrast.Contrast.{Contrast}
-use Rattle.trace_report.specs.proving.Holding.{item_of}
+use Rattle.trace_report.specs.proving.Lending.{item_of}
 use Rattle.trace_report.proofs.item_rows.say_both_row.Goals as goal
 
 pub returns-in-Some : goal.returns-in-Some

@@ -1,17 +1,14 @@
-use Rattle.std.proofs.Common.{◌+◌, ◌<◌, ◌^◌, length, take}
+use Rattle.std.proofs.Common.{◌+◌, ◌-◌, take, drop}
+use Rattle.trace_report.specs.Held.{pairs_in}
 use Rattle.trace_report.specs.ItemRows.{pair_rows}
-use Rattle.trace_report.specs.Items.{items_in, pairs_of}
-use Rattle.trace_report.specs.proving.Holding.{held_rows}
 use Rattle.trace_report.proofs.SaidParts.{SaidUpTo}
 use Rattle.trace_report.proofs.item_rows.say_pair_rows.Given as goal
 
 abbrev pub invariant-pairs : goal.invariant-pairs
 invariant-pairs g l =
-    l.number + (length l.left + length l.right) < 2 ^ 64
-    → (l.current + (length l.left_rest + length l.right_rest) < 2 ^ 64)
-    × SaidUpTo (λ text. g.S.TextSink.says l.initial.out text l.out)
-    (pair_rows l.opened l.left_origin l.right_origin 0 l.number (take l.most (pairs_of (items_in (held_rows l.left)) (items_in (held_rows l.right)))))
-    (pair_rows l.opened l.left_origin l.right_origin l.placed l.current (take l.more (pairs_of (items_in (held_rows l.left_rest)) (items_in (held_rows l.right_rest)))))
+    SaidUpTo (λ text. g.S.TextSink.says l.initial.out text l.out)
+    (pair_rows l.opened l.left l.right 0 (l.from + 1) (take (l.to - l.from) (drop l.from (pairs_in l.two))))
+    (pair_rows l.opened l.left l.right l.placed (l.at + 1) (take (l.to - l.at) (drop l.at (pairs_in l.two))))
 
 abbrev pub decreases-pairs : goal.decreases-pairs
-decreases-pairs g l = length l.left_rest + length l.right_rest
+decreases-pairs g l = l.to - l.at

@@ -1,11 +1,9 @@
-use Rattle.std.proofs.Common.{◌+◌, ap, sym, subst, ◌∙◌}
-use Rattle.trace_report.specs.PairPage.{items_after, later_items}
-use Rattle.trace_report.specs.proving.Holding.{pairs_with}
+use Rattle.std.proofs.Common.{◌+◌, arith, subst}
+use Rattle.trace_report.specs.Held.{pairs_in}
+use Rattle.trace_report.proofs.PairTexts.{some-after}
 use Rattle.trace_report.proofs.pair_items.say_items_after.Goals as goal
 
-pub returns-in-Some : goal.returns-in-Some
-returns-in-Some g c = λ few.
-    let number = c.args.found.now.before + 2 in
-    let pairs = c.next_pair.ensures.pairs ∙ ap pairs_with c.in-Some.is in
+pub returns-then-from-numbers : goal.returns-then-from-numbers
+returns-then-from-numbers g c =
     subst (λ text. g.S.TextSink.says c.args.out.now text c.say_later_items.new.out)
-    (ap (later_items c.args.held.now number) pairs ∙ sym (ap (items_after c.args.held.now number) pairs)) (c.say_later_items.ensures few)
+    (some-after c.args.two.now (c.args.from + 1) (pairs_in c.args.two.now) c.args.from (omega (arith, c.if-from-numbers.true, c.numbers.ensures.value))) c.say_later_items.ensures

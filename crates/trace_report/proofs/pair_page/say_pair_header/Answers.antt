@@ -6,5 +6,5 @@ returns g c =
     c.say_text-2.ensures)
     c.say_lettered_name-2.ensures)
     c.say_text-3.ensures)
-    c.say_identifiers.ensures)
-    c.say_notice_with.ensures
+    c.say.ensures)
+    c.say-2.ensures

@@ -11,7 +11,7 @@ pub returns-then-not-settle-clause-ends : goal.returns-then-not-settle-clause-en
 returns-then-not-settle-clause-ends g c = λ start first settings log meanings received feed tells.
     let W = g.W.Target in
     let script = g.M.Machine.script first in
-    let counted = c.sum_up-summary.ensures settings log meanings received feed tells.judged.removed in
+    let counted = c.sum_up-summary.ensures settings log meanings received feed tells.judged in
     subst (λ b. Carries W start (whole_of_lines script MESSAGE_LIMIT settings log meanings) (not b) [] c.settle.new.target) c.if-not-settle.true
     (carried_at_the_end (g.M.Machine.stands first) W script start settings log meanings _ _ _ _ _ _ _ _ _ c.settle.result c.sum_up-summary.result tells counted
     (c.tell_end-answer.ensures.says first (trace settings meanings) tells.machine_stands received.pair_is received.keeps) c.settle.ensures.settled)
@@ -21,7 +21,7 @@ returns-in-Ok-clause-ends g c = λ start first settings log meanings received fe
     let W = g.W.Target in
     let M = g.M.Machine in
     let script = M.script first in
-    let counted = c.sum_up-summary.ensures settings log meanings received feed tells.judged.removed in (
+    let counted = c.sum_up-summary.ensures settings log meanings received feed tells.judged in (
       subst (λ s. M.answers first (trace settings meanings) s (Ok c.in-Ok.value)) counted
           (subst (λ r. M.answers first (trace settings meanings) c.sum_up-summary.result r) c.in-Ok.is (c.tell_end-answer.ensures.answered first (trace settings meanings) tells.machine_stands received.pair_is)),
       subst (λ b. Carries W start (whole_of_lines script MESSAGE_LIMIT settings log meanings) (not b) [] c.settle.new.target) c.if-not-settle.false
@@ -34,7 +34,7 @@ returns-clause-ends g c = λ start first settings log meanings received feed tel
     let W = g.W.Target in
     let M = g.M.Machine in
     let script = M.script first in
-    let counted = c.sum_up-summary.ensures settings log meanings received feed tells.judged.removed in (
+    let counted = c.sum_up-summary.ensures settings log meanings received feed tells.judged in (
       subst (λ s. M.answers first (trace settings meanings) s (Err OutputLimit)) counted
           (subst (λ r. M.answers first (trace settings meanings) c.sum_up-summary.result r) (c.in-Err-OutputLimit.is ∙ ap Err (only_stop c.in-Err-OutputLimit.field-0)) (c.tell_end-answer.ensures.answered first (trace settings meanings) tells.machine_stands received.pair_is)),
       subst (λ b. Carries W start (whole_of_lines script MESSAGE_LIMIT settings log meanings) (not b) [] c.settle.new.target) c.if-not-settle.false

@@ -1,13 +1,16 @@
 use Rattle.std.proofs.Common.{◌++◌, [], refl, subst}
 use Rattle.trace_run.specs.proving.Carrying.{EndsAs}
 use Rattle.trace_log.specs.Trace.{trace}
+use Rattle.trace_log.specs.declared.fault.Fault.{Fault}
+use Rattle.trace_log.specs.declared.summary.Summary.{Summary}
+use Rattle.trace_run.specs.Seen.{glimpse_value}
 use Rattle.trace_run.proofs.driver.refuse.Goals as goal
 
 pub returns : goal.returns
 returns g c = λ first settings meanings received judged stands start said carried.
     let why = c.args.why in
     let T = trace settings meanings in
-    let refused = (g.M.Machine.script first).refused T in
-    let counted = c.sum_up-summary.ensures settings [] meanings received refl judged.removed in
+    let refused = λ (summary : Summary) (why : Fault). g.M.Machine.refusal first T summary why (glimpse_value c.args.source) in
+    let counted = c.sum_up-summary.ensures settings [] meanings received refl judged in
     subst (λ s. EndsAs why g.W.Target start (said ++ refused s why) c.settle_before.result c.settle_before.new.target) counted
     (c.settle_before.ensures start (said ++ refused c.sum_up-summary.result why) (c.tell_refusal.ensures.says first T stands start said carried))

@@ -1,5 +1,5 @@
 use Rattle.std.proofs.Common.{take}
-use Rattle.trace_text.specs.Parts.{counts_between}
+use Rattle.trace_text.specs.Counts.{counts_between}
 use Rattle.trace_text.proofs.say.say_counts.Given as goal
 
 abbrev pub invariant-counts : goal.invariant-counts

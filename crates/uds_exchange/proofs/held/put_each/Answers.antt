@@ -1,7 +1,7 @@
 use Rattle.std.proofs.Common.{sym, subst, ◌∙◌, ap, arith}
 use Rattle.direction.specs.declared.Dir.TheVariants.{Tester}
 use Rattle.uds_exchange.specs.declared.held.HeldMessage.{HeldMessage}
-use Rattle.uds_exchange.specs.proving.Blocks.{bytes_at, IsInside}
+use Rattle.uds_exchange.specs.Blocks.{bytes_at, IsInside}
 use Rattle.uds_exchange.proofs.Putting.{onto-next, onto-fault, onto-along}
 use Rattle.uds_exchange.proofs.HeldMessages.{held-at, next-held}
 use Rattle.uds_exchange.proofs.Variants.{handed_on}

@@ -1,9 +1,11 @@
-use Rattle.std.proofs.Common.{Result, subst, sym, ◌∙◌}
+use Rattle.std.proofs.Common.{◌≡◌, Option, Result, subst, sym, ◌∙◌}
 use Rattle.isotp_receive.specs.declared.TheConstants.{MESSAGE_LIMIT}
 use Rattle.trace_log.specs.declared.fault.CompareFault.{CompareFault}
 use Rattle.trace_report.specs.PairPage.{pair_page, pair_title}
 use Rattle.udsnorm.specs.Commands.{ComparesPair, PagesPair}
-use Rattle.udsnorm.specs.proving.Pairs.{text_of_answer}
+use Rattle.udsnorm.specs.proving.Pairs.{answer_held, cause_in, text_of_answer}
+use Rattle.trace_report.specs.declared.cause.Cause.{Cause}
+use Rattle.trace_run.specs.Told.{glimpse_of}
 use Rattle.udsnorm.specs.declared.pair_jobs.PairAnswer.{PairAnswer}
 use Rattle.udsnorm.proofs.Pairs.{compared_pair, fault_compared, fault_held, pages_pair}
 use Rattle.udsnorm.proofs.pair_jobs.do_pair_job.Goals as goal
@@ -40,24 +42,30 @@ returns-in-Report-clause-engine g c =
     let right = c.args.right_name.now in
     let settings = c.args.config.now in
     let page = c.write_page.ensures.text in
-    let text = pair_page (pair_title page.0 left right settings) c.hold_two-answer.result in
+    let page_with = pair_page (pair_title page.0 left right settings) c.keep_two-answer.result in
+    let text = page_with c.cause_in-cause.result in
+    let left_seen = glimpse_of g.A.Source c.keep_two-answer.new.left in
+    let right_seen = glimpse_of g.B.Source c.keep_two-answer.new.right in
+    let cause_is : c.cause_in-cause.result ≡ cause_in c.keep_two-answer.result settings.max_bytes left_seen right_seen =
+    c.cause_in-cause.ensures ∙ (λ i. cause_in c.keep_two-answer.result (c.max_bytes.ensures.value i) left_seen right_seen) in
     rw c.in-Report.is (
       text,
-      λ one other agrees_one agrees_other. subst (λ (told : Result PairAnswer CompareFault). PagesPair left right c.args.strict MESSAGE_LIMIT settings one other told text) (sym c.answer_held.ensures)
-          (pages_pair page.0 left right c.args.strict MESSAGE_LIMIT settings one other c.hold_two-answer.result (c.hold_two-answer.ensures.answer one other agrees_one agrees_other)),
+      λ one other agrees_one agrees_other. subst (λ (told : Result PairAnswer CompareFault). PagesPair left right left_seen right_seen c.args.strict MESSAGE_LIMIT settings one other told text) (sym c.answer_held.ensures)
+          (subst (λ (cause : Option Cause). PagesPair left right left_seen right_seen c.args.strict MESSAGE_LIMIT settings one other (answer_held c.keep_two-answer.result) (page_with cause)) (sym cause_is)
+          (pages_pair page.0 left right left_seen right_seen c.args.strict MESSAGE_LIMIT settings one other c.keep_two-answer.result (c.keep_two-answer.ensures.answer one other agrees_one agrees_other))),
       page.1,
     )
 
 pub returns-in-Report-clause-left_memory : goal.returns-in-Report-clause-left_memory
 returns-in-Report-clause-left_memory g c = λ log agrees is.
-    rw c.in-Report.is (c.hold_two-answer.ensures.left_memory log agrees (fault_held c.hold_two-answer.result _ (sym c.answer_held.ensures ∙ is)))
+    rw c.in-Report.is (c.keep_two-answer.ensures.left_memory log agrees (fault_held c.keep_two-answer.result _ (sym c.answer_held.ensures ∙ is)))
 
 pub returns-in-Report-clause-right_memory : goal.returns-in-Report-clause-right_memory
 returns-in-Report-clause-right_memory g c = λ log agrees is.
-    rw c.in-Report.is (c.hold_two-answer.ensures.right_memory log agrees (fault_held c.hold_two-answer.result _ (sym c.answer_held.ensures ∙ is)))
+    rw c.in-Report.is (c.keep_two-answer.ensures.right_memory log agrees (fault_held c.keep_two-answer.result _ (sym c.answer_held.ensures ∙ is)))
 
 pub returns-in-Report-clause-left_near : goal.returns-in-Report-clause-left_near
-returns-in-Report-clause-left_near g c = λ log agrees. rw c.in-Report.is (c.hold_two-answer.ensures.left_near log agrees)
+returns-in-Report-clause-left_near g c = λ log agrees. rw c.in-Report.is (c.keep_two-answer.ensures.left_near log agrees)
 
 pub returns-in-Report-clause-right_near : goal.returns-in-Report-clause-right_near
-returns-in-Report-clause-right_near g c = λ log agrees. rw c.in-Report.is (c.hold_two-answer.ensures.right_near log agrees)
+returns-in-Report-clause-right_near g c = λ log agrees. rw c.in-Report.is (c.keep_two-answer.ensures.right_near log agrees)

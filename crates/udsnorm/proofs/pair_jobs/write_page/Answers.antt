@@ -11,6 +11,6 @@ returns-in_default-clause-text g c =
     ≡ pair_title style c.args.left_name.now c.args.right_name.now c.args.config.now =
     (λ i. record { style = style; left = c.as_bytes.ensures.value i; right = c.as_bytes-2.ensures.value i; tester = c.tester.ensures i; unit = c.unit.ensures i }) in (
       style,
-      subst (λ (t : PairTitleValue). WroteText g.W.Target (pair_page t c.args.answer.now) c.is_ok.result c.args.out.now c.write_pair_page.new.target) title
+      subst (λ (t : PairTitleValue). WroteText g.W.Target (pair_page t c.args.answer.now c.args.cause) c.is_ok.result c.args.out.now c.write_pair_page.new.target) title
           (wrote_by_print g.W.Target _ c.args.out.now c.write_pair_page.new.target c.write_pair_page.result c.is_ok.result c.write_pair_page.ensures.printed c.is_ok.ensures.value),
     )

@@ -2,6 +2,7 @@ use Rattle.std.proofs.Common.{◌≤◌, ◌+◌, ap, ◌∙◌, sym, subst}
 use Rattle.udsnorm.specs.Ending.{EndsAs, flushes}
 use Rattle.udsnorm.proofs.Certificates.{answer_certifies}
 use Rattle.udsnorm.proofs.Statuses.{comes_to, done_once, failed_once, flushed_at_most_once, flushed_once_then, is_flushed_then, memory_of_five, not_flushed_then, recorded_then, took_still}
+use Rattle.trace_run.specs.Told.{glimpse_of}
 use Rattle.udsnorm.proofs.run.run_one.Goals as goal
 
 pub returns-clause-ran : goal.returns-clause-ran
@@ -47,7 +48,7 @@ returns-clause-recording g c = λ strict zero log agrees.
     let due = flushes answer (W.taken out) in
     recorded_then c.args.strict due answer outcome c.tell_outcome.result _ _ log
     (comes_to due answer outcome (W.failures out) (W.failures now) (W.flushes out) (W.flushes now) (W.is_flushed now) c.flushed_one-outcome.ensures.ends)
-    c.tell_outcome.ensures.status zero strict (answer_certifies c.args.job c.args.name.now _ log _ answer _ _ (c.do_job-answer.ensures.ran.answer log agrees))
+    c.tell_outcome.ensures.status zero strict (answer_certifies c.args.job c.args.name.now (glimpse_of g.R.Source c.do_job-answer.new.input) _ log _ answer _ _ (c.do_job-answer.ensures.ran.answer log agrees))
 
 pub returns-clause-once : goal.returns-clause-once
 returns-clause-once g c = λ zero.

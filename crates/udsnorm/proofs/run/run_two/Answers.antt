@@ -1,6 +1,7 @@
 use Rattle.std.proofs.Common.{ap, ◌∙◌, ◌+◌, ◌≤◌, subst}
 use Rattle.udsnorm.proofs.Certificates.{both_certified}
 use Rattle.udsnorm.proofs.Pairs.{accepted_pair, at_most_once, device_of_pair, flushed_then, has_text_then, left_alone_then, not_flushed_then, wrote_and_flushed}
+use Rattle.trace_run.specs.Told.{glimpse_of}
 use Rattle.udsnorm.proofs.run.run_two.Goals as goal
 
 pub returns-clause-ran : goal.returns-clause-ran
@@ -55,7 +56,7 @@ returns-clause-flushes g c =
 
 pub returns-clause-recording : goal.returns-clause-recording
 returns-clause-recording g c = λ so low one other agrees_one agrees_other.
-    both_certified c.args.job c.args.left_name.now c.args.right_name.now c.args.strict c.flush_written-wrote.result _ one other c.do_pair_job-done.result.answer c.do_pair_job-done.ensures.engine.0 c.tell_pair.result
+    both_certified c.args.job c.args.left_name.now c.args.right_name.now (glimpse_of g.A.Source c.do_pair_job-done.new.left) (glimpse_of g.B.Source c.do_pair_job-done.new.right) c.args.strict c.flush_written-wrote.result _ one other c.do_pair_job-done.result.answer c.do_pair_job-done.ensures.engine.0 c.tell_pair.result
     (c.do_pair_job-done.ensures.engine.1 one other agrees_one agrees_other) c.tell_pair.ensures.status so low
 
 pub returns-clause-device : goal.returns-clause-device

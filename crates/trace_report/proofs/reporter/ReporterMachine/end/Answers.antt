@@ -22,5 +22,5 @@ returns-clause-says g c = λ start T known stand within.
     g.met.S.TextSink.onward _ _ _ _ _ (g.met.S.TextSink.onward _ _ _ _ _ front
     (subst (λ text. g.S.TextSink.says c.say_front_before-origin.new.out text c.say_rows.new.out)
     (λ i. rows_text (origin i) (blocks_of (rows_of MESSAGE_LIMIT T)) (rows i)) (c.say_rows.ensures.says (rows_of MESSAGE_LIMIT T) low known.chart)))
-    (subst (λ text. g.S.TextSink.says c.say_rows.new.out text c.say_page_end.new.out)
-    (λ i. page_end (chart.blocks i) (chart.tally i) c.args.summary.now (origin i) (last i)) c.say_page_end.ensures)
+    (subst (λ text. g.S.TextSink.says c.say_rows.new.out text c.say.new.out)
+    (λ i. page_end (chart.blocks i) (chart.tally i) c.args.summary.now (origin i) (last i)) c.say.ensures)

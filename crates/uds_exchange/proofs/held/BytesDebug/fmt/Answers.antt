@@ -1,7 +1,7 @@
 use Rattle.std.proofs.Common.{sym, subst, arith}
 use Rattle.direction.specs.declared.Dir.TheVariants.{Tester}
 use Rattle.uds_exchange.specs.declared.held.HeldMessage.{HeldMessage}
-use Rattle.uds_exchange.specs.proving.Blocks.{IsInside}
+use Rattle.uds_exchange.specs.Blocks.{IsInside}
 use Rattle.uds_exchange.specs.proving.HeldMessages.{AreHeldIn}
 use Rattle.uds_exchange.proofs.HeldMessages.{held-at}
 use Rattle.uds_exchange.proofs.held.BytesDebug.fmt.Goals as goal

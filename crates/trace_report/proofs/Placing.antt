@@ -1,0 +1,343 @@
+-- Where items stand among the rows of a session, with one row more.
+use Rattle.std.proofs.Common.{◌≡◌, ℕ, ◌<◌, suc, zero, Bool, true, false, List, [], ◌∷◌, ◌++◌, length, map, get_or, Option, Some, None, IfSome, option_map, refl, ap, sym, subst, ◌∙◌, arith, append-nil}
+use Rattle.std.specs.Prelude.{slice_get, slice_set}
+use Rattle.std.proofs.lemmas.List.{map-append}
+use Rattle.std.proofs.lemmas.Option.{none-some, same_Some}
+use Rattle.trace_report.specs.Items.{RowMessage, PlacedItem, answer_in, items_in, message_in}
+use Rattle.trace_report.specs.Rows.{RowValue, message, no_answer, dropped, ended, unfinished}
+use Rattle.trace_report.specs.declared.kept_rows.KeptItem.{KeptItem}
+use Rattle.trace_report.specs.declared.row.MessageRole.TheVariants as role
+use Rattle.trace_report.specs.proving.Keeping.{RowPart, asks, answers, begins, nothing, part_of, awaits, place_later, place_by, waiting_of, waiting_in, message_at, item_by, item_with, item_if, placed_at, ArePlaced, answered_at, place_answered, places_answered, item_answered, items_answered, places_begun, places_next, waiting_next}
+
+-- Items by what rows are to them.
+
+abbrev answer_of : List RowPart → Option RowMessage
+answer_of [] = None
+answer_of (asks sent ∷ rest) = None
+answer_of (answers sent ∷ rest) = Some sent
+answer_of (begins sent ∷ rest) = answer_of rest
+answer_of (nothing ∷ rest) = answer_of rest
+
+abbrev items_of : List RowPart → List PlacedItem
+items_of [] = []
+items_of (asks sent ∷ rest) = item_by sent (answer_of rest) ∷ items_of rest
+items_of (answers sent ∷ rest) = items_of rest
+items_of (begins sent ∷ rest) = item_by sent None ∷ items_of rest
+items_of (nothing ∷ rest) = items_of rest
+
+answer-by-parts : (rows : List RowValue) → answer_in rows ≡ answer_of (map part_of rows)
+answer-by-parts [] = refl
+answer-by-parts (message role.Request d place bytes ∷ rest) = refl
+answer-by-parts (message (role.Positive asked) d place bytes ∷ rest) = refl
+answer-by-parts (message (role.Negative asked) d place bytes ∷ rest) = refl
+answer-by-parts (message (role.Pending asked) d place bytes ∷ rest) = answer-by-parts rest
+answer-by-parts (message role.KeepAlive d place bytes ∷ rest) = answer-by-parts rest
+answer-by-parts (message role.Stray d place bytes ∷ rest) = answer-by-parts rest
+answer-by-parts (no_answer number silent ∷ rest) = answer-by-parts rest
+answer-by-parts (dropped place d named why ∷ rest) = answer-by-parts rest
+answer-by-parts (ended place end ∷ rest) = answer-by-parts rest
+answer-by-parts (unfinished d line len ∷ rest) = answer-by-parts rest
+
+items-by-parts : (rows : List RowValue) → items_in rows ≡ items_of (map part_of rows)
+items-by-parts [] = refl
+items-by-parts (message role.Request d place bytes ∷ rest) =
+    (λ i. item_by (record { role = role.Request; dir = d; place = place; bytes = bytes }) (answer-by-parts rest i) ∷ items-by-parts rest i)
+items-by-parts (message (role.Positive asked) d place bytes ∷ rest) = items-by-parts rest
+items-by-parts (message (role.Negative asked) d place bytes ∷ rest) = items-by-parts rest
+items-by-parts (message (role.Pending asked) d place bytes ∷ rest) = items-by-parts rest
+items-by-parts (message role.KeepAlive d place bytes ∷ rest) =
+    ap (λ l. item_by (record { role = role.KeepAlive; dir = d; place = place; bytes = bytes }) None ∷ l) (items-by-parts rest)
+items-by-parts (message role.Stray d place bytes ∷ rest) =
+    ap (λ l. item_by (record { role = role.Stray; dir = d; place = place; bytes = bytes }) None ∷ l) (items-by-parts rest)
+items-by-parts (no_answer number silent ∷ rest) = items-by-parts rest
+items-by-parts (dropped place d named why ∷ rest) = items-by-parts rest
+items-by-parts (ended place end ∷ rest) = items-by-parts rest
+items-by-parts (unfinished d line len ∷ rest) = items-by-parts rest
+
+-- One more row that asks, or that answers nothing.
+
+no-answer-behind : (parts tail : List RowPart) → answer_of tail ≡ None → answer_of (parts ++ tail) ≡ answer_of parts
+no-answer-behind [] tail none = none
+no-answer-behind (asks sent ∷ rest) tail none = refl
+no-answer-behind (answers sent ∷ rest) tail none = refl
+no-answer-behind (begins sent ∷ rest) tail none = no-answer-behind rest tail none
+no-answer-behind (nothing ∷ rest) tail none = no-answer-behind rest tail none
+
+items-behind : (parts tail : List RowPart) → answer_of tail ≡ None → items_of (parts ++ tail) ≡ items_of parts ++ items_of tail
+items-behind [] tail none = refl
+items-behind (asks sent ∷ rest) tail none = (λ i. item_by sent (no-answer-behind rest tail none i) ∷ items-behind rest tail none i)
+items-behind (answers sent ∷ rest) tail none = items-behind rest tail none
+items-behind (begins sent ∷ rest) tail none = ap (λ l. item_by sent None ∷ l) (items-behind rest tail none)
+items-behind (nothing ∷ rest) tail none = items-behind rest tail none
+
+awaits-still : (parts tail : List RowPart) → awaits tail ≡ true → awaits (parts ++ tail) ≡ awaits parts
+awaits-still [] tail is = is
+awaits-still (asks sent ∷ rest) tail is = refl
+awaits-still (answers sent ∷ rest) tail is = refl
+awaits-still (begins sent ∷ rest) tail is = awaits-still rest tail is
+awaits-still (nothing ∷ rest) tail is = awaits-still rest tail is
+
+awaits-no-more : (parts tail : List RowPart) → awaits tail ≡ false → awaits (parts ++ tail) ≡ false
+awaits-no-more [] tail is = is
+awaits-no-more (asks sent ∷ rest) tail is = refl
+awaits-no-more (answers sent ∷ rest) tail is = refl
+awaits-no-more (begins sent ∷ rest) tail is = awaits-no-more rest tail is
+awaits-no-more (nothing ∷ rest) tail is = awaits-no-more rest tail is
+
+waiting-still : (parts tail : List RowPart) → awaits tail ≡ true → waiting_of tail ≡ None → waiting_of (parts ++ tail) ≡ waiting_of parts
+waiting-still [] tail is none = none
+waiting-still (asks sent ∷ rest) tail is none = (λ i. place_by (awaits-still rest tail is i) (waiting-still rest tail is none i))
+waiting-still (answers sent ∷ rest) tail is none = waiting-still rest tail is none
+waiting-still (begins sent ∷ rest) tail is none = ap place_later (waiting-still rest tail is none)
+waiting-still (nothing ∷ rest) tail is none = waiting-still rest tail is none
+
+waiting-asked : (parts : List RowPart) (sent : RowMessage) → waiting_of (parts ++ asks sent ∷ []) ≡ Some (length (items_of parts))
+waiting-asked [] sent = refl
+waiting-asked (asks first ∷ rest) sent = (λ i. place_by (awaits-no-more rest (asks sent ∷ []) refl i) (waiting-asked rest sent i))
+waiting-asked (answers first ∷ rest) sent = waiting-asked rest sent
+waiting-asked (begins first ∷ rest) sent = ap place_later (waiting-asked rest sent)
+waiting-asked (nothing ∷ rest) sent = waiting-asked rest sent
+
+-- One more row that answers.
+
+waiting-answered : (parts : List RowPart) (sent : RowMessage) → waiting_of (parts ++ answers sent ∷ []) ≡ None
+waiting-answered [] sent = refl
+waiting-answered (asks first ∷ rest) sent = (λ i. place_by (awaits-no-more rest (answers sent ∷ []) refl i) (waiting-answered rest sent i))
+waiting-answered (answers first ∷ rest) sent = waiting-answered rest sent
+waiting-answered (begins first ∷ rest) sent = ap place_later (waiting-answered rest sent)
+waiting-answered (nothing ∷ rest) sent = waiting-answered rest sent
+
+none-waits : (parts : List RowPart) → awaits parts ≡ true → waiting_of parts ≡ None
+none-waits [] is = refl
+none-waits (asks sent ∷ rest) is = absurd (cc is)
+none-waits (answers sent ∷ rest) is = absurd (cc is)
+none-waits (begins sent ∷ rest) is = ap place_later (none-waits rest is)
+none-waits (nothing ∷ rest) is = none-waits rest is
+
+answer-found : (parts : List RowPart) (reply : RowMessage) → awaits parts ≡ true → answer_of (parts ++ answers reply ∷ []) ≡ Some reply
+answer-found [] reply is = refl
+answer-found (asks sent ∷ rest) reply is = absurd (cc is)
+answer-found (answers sent ∷ rest) reply is = absurd (cc is)
+answer-found (begins sent ∷ rest) reply is = answer-found rest reply is
+answer-found (nothing ∷ rest) reply is = answer-found rest reply is
+
+answer-stands : (parts : List RowPart) (reply : RowMessage) → awaits parts ≡ false → answer_of (parts ++ answers reply ∷ []) ≡ answer_of parts
+answer-stands [] reply is = absurd (cc is)
+answer-stands (asks sent ∷ rest) reply is = refl
+answer-stands (answers sent ∷ rest) reply is = refl
+answer-stands (begins sent ∷ rest) reply is = answer-stands rest reply is
+answer-stands (nothing ∷ rest) reply is = answer-stands rest reply is
+
+answered-later : (item : PlacedItem) (items : List PlacedItem) (waiting : Option ℕ) (reply : RowMessage)
+    → items_answered (item ∷ items) (place_later waiting) reply ≡ item ∷ items_answered items waiting reply
+answered-later item items None reply = refl
+answered-later item items (Some number) reply = refl
+
+asked-by : (waits : Bool) (sent : RowMessage) (rest : List RowPart) (reply : RowMessage) → awaits rest ≡ waits
+    → items_of (rest ++ answers reply ∷ []) ≡ items_answered (items_of rest) (waiting_of rest) reply
+    → item_by sent (answer_of (rest ++ answers reply ∷ [])) ∷ items_of (rest ++ answers reply ∷ [])
+    ≡ items_answered (item_by sent (answer_of rest) ∷ items_of rest) (place_by waits (waiting_of rest)) reply
+asked-by true sent rest reply is later =
+    let none : items_answered (items_of rest) (waiting_of rest) reply ≡ items_of rest = ap (λ w. items_answered (items_of rest) w reply) (none-waits rest is) in
+    (λ i. item_by sent (answer-found rest reply is i) ∷ (later ∙ none) i)
+asked-by false sent rest reply is later =
+    (λ i. item_by sent (answer-stands rest reply is i) ∷ later i) ∙ sym (answered-later (item_by sent (answer_of rest)) (items_of rest) (waiting_of rest) reply)
+
+items-answered : (parts : List RowPart) (reply : RowMessage) → items_of (parts ++ answers reply ∷ []) ≡ items_answered (items_of parts) (waiting_of parts) reply
+items-answered [] reply = refl
+items-answered (asks sent ∷ rest) reply = asked-by (awaits rest) sent rest reply refl (items-answered rest reply)
+items-answered (answers sent ∷ rest) reply = items-answered rest reply
+items-answered (begins sent ∷ rest) reply =
+    ap (λ l. item_by sent None ∷ l) (items-answered rest reply) ∙ sym (answered-later (item_by sent None) (items_of rest) (waiting_of rest) reply)
+items-answered (nothing ∷ rest) reply = items-answered rest reply
+
+-- The request that waits is one of the items.
+
+below-later : (waiting : Option ℕ) (count : ℕ) → IfSome waiting (λ number. number < count) → IfSome (place_later waiting) (λ number. number < suc count)
+below-later None count below = tt
+below-later (Some number) count below = omega (arith, below)
+
+below-by : (waits : Bool) (waiting : Option ℕ) (count : ℕ) → IfSome waiting (λ number. number < count) → IfSome (place_by waits waiting) (λ number. number < suc count)
+below-by true waiting count below = omega arith
+below-by false waiting count below = below-later waiting count below
+
+waiting-below : (parts : List RowPart) → IfSome (waiting_of parts) (λ number. number < length (items_of parts))
+waiting-below [] = tt
+waiting-below (asks sent ∷ rest) = below-by (awaits rest) (waiting_of rest) (length (items_of rest)) (waiting-below rest)
+waiting-below (answers sent ∷ rest) = waiting-below rest
+waiting-below (begins sent ∷ rest) = below-later (waiting_of rest) (length (items_of rest)) (waiting-below rest)
+waiting-below (nothing ∷ rest) = waiting-below rest
+
+-- Places.
+
+pub same-count : (rows : List RowValue) (places : List KeptItem) (items : List PlacedItem) → ArePlaced rows places items → length places ≡ length items
+same-count rows [] [] placed = refl
+same-count rows [] (item ∷ items) placed = absurd placed
+same-count rows (place ∷ places) [] placed = absurd placed
+same-count rows (place ∷ places) (item ∷ items) placed = ap suc (same-count rows places items placed.1)
+
+-- the item that waits has a place
+pub waiting-placed : (rows : List RowValue) (places : List KeptItem) (waiting : Option ℕ) → ArePlaced rows places (items_in rows) → waiting ≡ waiting_in rows
+    → IfSome waiting (λ number. number < length places)
+waiting-placed rows places waiting placed is =
+    subst (λ w. IfSome w (λ number. number < length places)) (sym is)
+    (subst (λ count. IfSome (waiting_in rows) (λ number. number < count)) (sym (same-count rows places (items_in rows) placed ∙ ap length (items-by-parts rows)))
+    (waiting-below (map part_of rows)))
+
+-- the item at a place
+abbrev pub item_of_place : List RowValue → Option KeptItem → Option PlacedItem
+item_of_place rows None = None
+item_of_place rows (Some place) = placed_at rows place
+
+pub item-placed : (rows : List RowValue) (places : List KeptItem) (items : List PlacedItem) (at : ℕ) → ArePlaced rows places items
+    → item_of_place rows (slice_get places at) ≡ slice_get items at
+item-placed rows [] [] at placed = refl
+item-placed rows [] (item ∷ items) at placed = absurd placed
+item-placed rows (place ∷ places) [] at placed = absurd placed
+item-placed rows (place ∷ places) (item ∷ items) zero placed = placed.0
+item-placed rows (place ∷ places) (item ∷ items) (suc at) placed = item-placed rows places items at placed.1
+
+module _ (rows more : List RowValue) where
+  message-stays : (front : List RowValue) (at : ℕ) (sent : RowMessage) → message_at front at ≡ Some sent → message_at (front ++ more) at ≡ Some sent
+  message-stays [] at sent is = absurd (none-some sent is)
+  message-stays (row ∷ rest) zero sent is = is
+  message-stays (row ∷ rest) (suc at) sent is = message-stays rest at sent is
+
+  reply-stays : (begin : RowMessage) (reply then : Option RowMessage) (item : PlacedItem) → ((sent : RowMessage) → reply ≡ Some sent → then ≡ Some sent)
+      → option_map (λ (sent : RowMessage). item_by begin (Some sent)) reply ≡ Some item → option_map (λ (sent : RowMessage). item_by begin (Some sent)) then ≡ Some item
+  reply-stays begin None then item goes is = absurd (none-some item is)
+  reply-stays begin (Some sent) then item goes is = ap (option_map (λ (sent : RowMessage). item_by begin (Some sent))) (goes sent refl) ∙ is
+
+  answer-stays : (begin : RowMessage) (answer : Option ℕ) (item : PlacedItem) → item_with rows begin answer ≡ Some item → item_with (rows ++ more) begin answer ≡ Some item
+  answer-stays begin None item is = is
+  answer-stays begin (Some at) item is = reply-stays begin (message_at rows at) (message_at (rows ++ more) at) item (λ sent. message-stays rows at sent) is
+
+  begin-stays : (begin then : Option RowMessage) (answer : Option ℕ) (item : PlacedItem) → ((sent : RowMessage) → begin ≡ Some sent → then ≡ Some sent)
+      → item_if rows begin answer ≡ Some item → item_if (rows ++ more) then answer ≡ Some item
+  begin-stays None then answer item goes is = absurd (none-some item is)
+  begin-stays (Some sent) then answer item goes is = ap (λ b. item_if (rows ++ more) b answer) (goes sent refl) ∙ answer-stays sent answer item is
+
+  stays-placed : (places : List KeptItem) (items : List PlacedItem) → ArePlaced rows places items → ArePlaced (rows ++ more) places items
+  stays-placed [] [] placed = tt
+  stays-placed [] (item ∷ items) placed = absurd placed
+  stays-placed (place ∷ places) [] placed = absurd placed
+  stays-placed (place ∷ places) (item ∷ items) placed = (
+    begin-stays (message_at rows place.begin) (message_at (rows ++ more) place.begin) place.answer item (λ sent. message-stays rows place.begin sent) placed.0,
+    stays-placed places items placed.1,
+  )
+
+one-placed : (rows : List RowValue) (places : List KeptItem) (items : List PlacedItem) (place : KeptItem) (item : PlacedItem) → ArePlaced rows places items
+    → placed_at rows place ≡ Some item → ArePlaced rows (places ++ place ∷ []) (items ++ item ∷ [])
+one-placed rows [] [] place item placed is = (is, tt)
+one-placed rows [] (first ∷ items) place item placed is = absurd placed
+one-placed rows (first ∷ places) [] place item placed is = absurd placed
+one-placed rows (first ∷ places) (one ∷ items) place item placed is = (placed.0, one-placed rows places items place item placed.1 is)
+
+begin-is : (rows : List RowValue) (begin : Option RowMessage) (answer : Option ℕ) (item : PlacedItem) → item_if rows begin answer ≡ Some item → begin ≡ Some item.begin
+begin-is rows None answer item is = absurd (none-some item is)
+begin-is rows (Some begin) None item is = ap (λ (x : PlacedItem). Some x.begin) (same_Some (item_by begin None) item is)
+begin-is rows (Some begin) (Some at) item is = by (message_at rows at) is
+  where
+    by : (reply : Option RowMessage) → option_map (λ (sent : RowMessage). item_by begin (Some sent)) reply ≡ Some item → Some begin ≡ Some item.begin
+    by None is = absurd (none-some item is)
+    by (Some sent) is = ap (λ (x : PlacedItem). Some x.begin) (same_Some (item_by begin (Some sent)) item is)
+
+module _ (rows : List RowValue) (at : ℕ) (reply : RowMessage) (there : message_at rows at ≡ Some reply) where
+  answered-here : (place : KeptItem) (item : PlacedItem) → placed_at rows place ≡ Some item → placed_at rows (answered_at place at) ≡ Some (item_by item.begin (Some reply))
+  answered-here place item is =
+      ap (λ begin. item_if rows begin (Some at)) (begin-is rows (message_at rows place.begin) place.answer item is)
+      ∙ ap (option_map (λ (sent : RowMessage). item_by item.begin (Some sent))) there
+
+  one-answered : (places : List KeptItem) (items : List PlacedItem) (number : ℕ) → ArePlaced rows places items
+      → ArePlaced rows (place_answered places number at) (item_answered items number reply)
+  one-answered [] [] number placed = tt
+  one-answered [] (item ∷ items) number placed = absurd placed
+  one-answered (place ∷ places) [] number placed = absurd placed
+  one-answered (place ∷ places) (item ∷ items) zero placed = (answered-here place item placed.0, placed.1)
+  one-answered (place ∷ places) (item ∷ items) (suc number) placed = (placed.0, one-answered places items number placed.1)
+
+  if-answered : (places : List KeptItem) (items : List PlacedItem) (waiting : Option ℕ) → ArePlaced rows places items
+      → ArePlaced rows (places_answered places waiting at) (items_answered items waiting reply)
+  if-answered places items None placed = placed
+  if-answered places items (Some number) placed = one-answered places items number placed
+
+-- the row at the end
+at-end : (rows : List RowValue) (row : RowValue) → message_at (rows ++ row ∷ []) (length rows) ≡ message_in row
+at-end [] row = refl
+at-end (first ∷ rows) row = at-end rows row
+
+-- One more row.
+
+module _ (rows : List RowValue) (places : List KeptItem) (waiting : Option ℕ) (placed : ArePlaced rows places (items_in rows)) (waits : waiting ≡ waiting_in rows) where
+  abbrev parts : List RowPart
+  parts = map part_of rows
+
+  -- what stands there then
+  abbrev pub Next : RowValue → List KeptItem → Option ℕ → Type 0
+  Next row places-then waiting-then = ArePlaced (rows ++ row ∷ []) places-then (items_in (rows ++ row ∷ [])) × (waiting-then ≡ waiting_in (rows ++ row ∷ []))
+
+  with-part : (row : RowValue) → map part_of (rows ++ row ∷ []) ≡ parts ++ part_of row ∷ []
+  with-part row = map-append part_of rows (row ∷ [])
+
+  placed-so : (row : RowValue) (places-then : List KeptItem) (items : List PlacedItem) → items_of (parts ++ part_of row ∷ []) ≡ items
+      → ArePlaced (rows ++ row ∷ []) places-then items → ArePlaced (rows ++ row ∷ []) places-then (items_in (rows ++ row ∷ []))
+  placed-so row places-then items is so =
+      subst (ArePlaced (rows ++ row ∷ []) places-then) (sym (items-by-parts (rows ++ row ∷ []) ∙ ap items_of (with-part row) ∙ is)) so
+
+  still-placed : (row : RowValue) → ArePlaced (rows ++ row ∷ []) places (items_of parts)
+  still-placed row = subst (ArePlaced (rows ++ row ∷ []) places) (items-by-parts rows) (stays-placed rows (row ∷ []) places (items_in rows) placed)
+
+  nothing-more : (row : RowValue) → part_of row ≡ nothing → Next row places waiting
+  nothing-more row is = (
+    placed-so row places (items_of parts) (ap (λ part. items_of (parts ++ part ∷ [])) is ∙ items-behind parts (nothing ∷ []) refl ∙ append-nil (items_of parts)) (still-placed row),
+    waits ∙ sym (waiting-still parts (nothing ∷ []) refl refl) ∙ ap (λ part. waiting_of (parts ++ part ∷ [])) (sym is) ∙ ap waiting_of (sym (with-part row)),
+  )
+
+  begun : (row : RowValue) (sent : RowMessage) → message_in row ≡ Some sent → ArePlaced (rows ++ row ∷ []) (places_begun places (length rows)) (items_of parts ++ item_by sent None ∷ [])
+  begun row sent is =
+      one-placed (rows ++ row ∷ []) places (items_of parts) (record { begin = length rows; answer = None }) (item_by sent None) (still-placed row)
+      (ap (λ begin. item_if (rows ++ row ∷ []) begin None) (at-end rows row ∙ is))
+
+  asked-more : (row : RowValue) (sent : RowMessage) → part_of row ≡ asks sent → message_in row ≡ Some sent → Next row (places_begun places (length rows)) (Some (length places))
+  asked-more row sent part is = (
+    placed-so row (places_begun places (length rows)) (items_of parts ++ item_by sent None ∷ [])
+        (ap (λ p. items_of (parts ++ p ∷ [])) part ∙ items-behind parts (asks sent ∷ []) refl) (begun row sent is),
+    ap Some (same-count rows places (items_in rows) placed ∙ ap length (items-by-parts rows))
+        ∙ sym (ap waiting_of (with-part row) ∙ ap (λ p. waiting_of (parts ++ p ∷ [])) part ∙ waiting-asked parts sent),
+  )
+
+  begun-more : (row : RowValue) (sent : RowMessage) → part_of row ≡ begins sent → message_in row ≡ Some sent → Next row (places_begun places (length rows)) waiting
+  begun-more row sent part is = (
+    placed-so row (places_begun places (length rows)) (items_of parts ++ item_by sent None ∷ [])
+        (ap (λ p. items_of (parts ++ p ∷ [])) part ∙ items-behind parts (begins sent ∷ []) refl) (begun row sent is),
+    waits ∙ sym (ap waiting_of (with-part row) ∙ ap (λ p. waiting_of (parts ++ p ∷ [])) part ∙ waiting-still parts (begins sent ∷ []) refl refl),
+  )
+
+  answered-more : (row : RowValue) (sent : RowMessage) → part_of row ≡ answers sent → message_in row ≡ Some sent → Next row (places_answered places waiting (length rows)) None
+  answered-more row sent part is = (
+    placed-so row (places_answered places waiting (length rows)) (items_answered (items_of parts) waiting sent)
+        (ap (λ p. items_of (parts ++ p ∷ [])) part ∙ items-answered parts sent ∙ ap (λ w. items_answered (items_of parts) w sent) (sym waits))
+        (if-answered (rows ++ row ∷ []) (length rows) sent (at-end rows row ∙ is) places (items_of parts) waiting (still-placed row)),
+    sym (ap waiting_of (with-part row) ∙ ap (λ p. waiting_of (parts ++ p ∷ [])) part ∙ waiting-answered parts sent),
+  )
+
+  pub row-more : (row : RowValue) → Next row (places_next row places waiting (length rows)) (waiting_next row places waiting)
+  row-more (message role.Request d place bytes) = asked-more (message role.Request d place bytes) (record { role = role.Request; dir = d; place = place; bytes = bytes }) refl refl
+  row-more (message (role.Positive asked) d place bytes) =
+      answered-more (message (role.Positive asked) d place bytes) (record { role = role.Positive asked; dir = d; place = place; bytes = bytes }) refl refl
+  row-more (message (role.Negative asked) d place bytes) =
+      answered-more (message (role.Negative asked) d place bytes) (record { role = role.Negative asked; dir = d; place = place; bytes = bytes }) refl refl
+  row-more (message (role.Pending asked) d place bytes) = nothing-more (message (role.Pending asked) d place bytes) refl
+  row-more (message role.KeepAlive d place bytes) = begun-more (message role.KeepAlive d place bytes) (record { role = role.KeepAlive; dir = d; place = place; bytes = bytes }) refl refl
+  row-more (message role.Stray d place bytes) = begun-more (message role.Stray d place bytes) (record { role = role.Stray; dir = d; place = place; bytes = bytes }) refl refl
+  row-more (no_answer number silent) = nothing-more (no_answer number silent) refl
+  row-more (dropped place d named why) = nothing-more (dropped place d named why) refl
+  row-more (ended place end) = nothing-more (ended place end) refl
+  row-more (unfinished d line len) = nothing-more (unfinished d line len) refl
+
+-- The code writes the place of an answer into the list of places.
+pub set-answered : (places : List KeptItem) (number : ℕ) (place then : KeptItem) (at : ℕ) → place ≡ get_or places number place → number < length places → then ≡ answered_at place at
+    → slice_set places number then ≡ place_answered places number at
+set-answered [] number place then at there below is = refl
+set-answered (first ∷ places) zero place then at there below is = ap (λ x. x ∷ places) (is ∙ ap (λ p. answered_at p at) there)
+set-answered (first ∷ places) (suc number) place then at there below is = ap (λ l. first ∷ l) (set-answered places number place then at there (omega (arith, below)) is)

@@ -1,0 +1,4 @@
+use Rattle.trace_report.proofs.blocks.OpeningPart.say.Goals as goal
+
+pub returns : goal.returns
+returns g c = rw (c.begins_body.ensures, c.begins_block-block.ensures, c.begins_exchange-exchange.ensures) at c.say.ensures

@@ -1,9 +1,0 @@
-use Rattle.trace_report.proofs.blocks.say_message_title.Goals as goal
-
-pub returns : goal.returns
-returns g c =
-    g.met.S.TextSink.onward _ _ _ _ _ (g.met.S.TextSink.onward _ _ _ _ _ (g.met.S.TextSink.onward _ _ _ _ _ (g.met.S.TextSink.onward _ _ _ _ _ (g.met.S.TextSink.onward _ _ _ _ _ c.say_item_title.ensures c.say_text.ensures)
-    c.say_number.ensures)
-    c.say_text-2.ensures)
-    c.say_seconds_between.ensures)
-    c.say_text-3.ensures

@@ -1,8 +1,0 @@
-use Rattle.trace_report.proofs.help.say_help.Goals as goal
-
-pub returns : goal.returns
-returns g c =
-    g.met.S.TextSink.onward _ _ _ _ _ (g.met.S.TextSink.onward _ _ _ _ _ (g.met.S.TextSink.onward _ _ _ _ _ (g.met.S.TextSink.onward _ _ _ _ _ c.say_help_start.ensures c.say_legend.ensures)
-    c.say_limits.ensures)
-    c.say_blocks_words.ensures)
-    c.say_tail.ensures

@@ -1,0 +1,6 @@
+use Rattle.std.proofs.Common.{take}
+use Rattle.trace_report.specs.Front.{name_text}
+use Rattle.trace_report.proofs.log_names.NamePart.say.Given as goal
+
+abbrev pub invariant-bytes : goal.invariant-bytes
+invariant-bytes g l = g.S.TextSink.says l.initial.out (name_text (take l.byte-index l.self.0.now)) l.out

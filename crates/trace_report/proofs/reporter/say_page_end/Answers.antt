@@ -1,7 +1,0 @@
-use Rattle.trace_report.proofs.reporter.say_page_end.Goals as goal
-
-pub returns : goal.returns
-returns g c =
-    g.met.S.TextSink.onward _ _ _ _ _ (g.met.S.TextSink.onward _ _ _ _ _ (g.met.S.TextSink.onward _ _ _ _ _ c.say_block_end.ensures c.say_text.ensures)
-    c.say_verdict.ensures)
-    c.say_help.ensures

@@ -1,5 +1,0 @@
-use Rattle.trace_report.proofs.verdict.say_unclean_verdict.Goals as goal
-
-pub returns : goal.returns
-returns g c =
-    g.met.S.TextSink.onward _ _ _ _ _ c.say_start_by.ensures c.say_unclean_reasons.ensures

@@ -1,6 +1,0 @@
-use Rattle.trace_report.proofs.words.say_grey_letters.Goals as goal
-
-pub returns : goal.returns
-returns g c =
-    g.met.S.TextSink.onward _ _ _ _ _ (g.met.S.TextSink.onward _ _ _ _ _ c.say_text.ensures c.say_letters.ensures)
-    c.say_text-2.ensures

@@ -1,7 +1,0 @@
-use Rattle.trace_report.proofs.words.say_milliseconds.Goals as goal
-
-pub returns : goal.returns
-returns g c =
-    g.met.S.TextSink.onward _ _ _ _ _ (g.met.S.TextSink.onward _ _ _ _ _ (g.met.S.TextSink.onward _ _ _ _ _ c.say_number.ensures c.say_text.ensures)
-    c.say_three_decimals.ensures)
-    c.say_text-2.ensures

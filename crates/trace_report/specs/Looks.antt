@@ -1,0 +1,118 @@
+-- What a file looks like that is no log, by its first bytes.
+use Prim.Native.Char.{code}
+use Rattle.std.specs.Prelude.{ℕ, ◌-◌, ◌==◌, ◌&&◌, ◌||◌, not, nat_le, nat_lt, Bool, List, [], ◌∷◌, ◌++◌, codes, length, slice_index, Option, Some, None, map, if◌then◌else◌}
+use Rattle.std.specs.List.{find, flat_map, list_any, starts_with}
+use Rattle.trace_report.specs.declared.looks.Look.{Look}
+use Rattle.trace_report.specs.declared.looks.Look.TheVariants as look
+use Rattle.trace_report.specs.declared.looks.TheConstants.{TOLD}
+
+-- the bytes begin with these
+abbrev pub begins : List ℕ → List ℕ → Bool
+begins bytes front = starts_with (λ one other. one == other) bytes front
+
+-- this byte stands at this place, from 0 on
+abbrev pub has_at : List ℕ → ℕ → ℕ → Bool
+has_at bytes place byte = nat_lt place (length bytes) && (slice_index bytes place == byte)
+
+-- What is known of the files that look so: the first bytes that tell one, each of these alone, what is said of it behind its name,
+-- and what unpacks or reads it, or what else makes a log of it.
+pub record TableRow : Type 0 where
+  pub first : List (List ℕ)
+  pub words : List ℕ
+  pub command : List ℕ
+
+-- a row of these
+abbrev pub row : List (List ℕ) → List ℕ → List ℕ → TableRow
+row first words command = record { first = first; words = words; command = command }
+
+-- what reads the files of other tools
+abbrev pub reads : List ℕ
+reads = codes "python3 -m udsnorm reads it"
+
+-- The table of looks. Compressed files are told by RFC 1952, RFC 8878, the page of the format xz, bzip2's manual and the note on
+-- zip; texts by a byte order mark, in UTF-8 or in UTF-16 of either order; candump's form for the screen by two spaces before the
+-- interface, or one before a stamp; Vector ASC by its date or by what its numbers are; ASAM MDF 4, ended or not; PCAN TRC by a
+-- remark; captures of libpcap in micro- or nanoseconds, of either order, and those of the form pcapng, which begins with a line
+-- feed. The last three looks it takes more to tell.
+abbrev pub row_of : Look → TableRow
+row_of look.Gzip = row ((31 ∷ 139 ∷ []) ∷ []) (codes "looks compressed with gzip") (codes "zcat unpacks it")
+row_of look.Zstandard = row ((40 ∷ 181 ∷ 47 ∷ 253 ∷ []) ∷ []) (codes "looks compressed with zstd") (codes "zstdcat unpacks it")
+row_of look.Xz = row ((253 ∷ 55 ∷ 122 ∷ 88 ∷ 90 ∷ 0 ∷ []) ∷ []) (codes "looks compressed with xz") (codes "xzcat unpacks it")
+row_of look.Bzip2 = row (codes "BZh" ∷ []) (codes "looks compressed with bzip2") (codes "bzcat unpacks it")
+row_of look.Zip = row ((80 ∷ 75 ∷ 3 ∷ 4 ∷ []) ∷ []) (codes "looks like a zip archive") (codes "unzip -p unpacks it")
+row_of look.ByteOrderMark =
+    row ((239 ∷ 187 ∷ 191 ∷ []) ∷ []) (codes "begins with a byte order mark, which an editor has put in front") (codes "save it without")
+row_of look.Utf16 =
+    row ((255 ∷ 254 ∷ []) ∷ (254 ∷ 255 ∷ []) ∷ []) (codes "looks like a text in UTF-16") (codes "iconv -f UTF-16 -t ASCII makes a log of one")
+row_of look.Screen =
+    row (codes "  " ∷ codes " (" ∷ []) (codes "looks like candump's form for the screen")
+    (codes "python3 -m udsnorm reads it, and candump -l records a log")
+row_of look.Asc = row (codes "date " ∷ codes "base " ∷ []) (codes "looks like a Vector ASC file") reads
+row_of look.Blf = row (codes "LOGG" ∷ []) (codes "looks like a Vector BLF file") reads
+row_of look.Mf4 = row (codes "MDF     4" ∷ codes "UnFinMF 4" ∷ []) (codes "looks like an MF4 file") reads
+row_of look.Trc = row (codes ";" ∷ []) (codes "looks like a PCAN TRC file") reads
+row_of look.Pcap =
+    row ((161 ∷ 178 ∷ 195 ∷ 212 ∷ []) ∷ (212 ∷ 195 ∷ 178 ∷ 161 ∷ []) ∷ (161 ∷ 178 ∷ 60 ∷ 77 ∷ []) ∷ (77 ∷ 60 ∷ 178 ∷ 161 ∷ []) ∷ [])
+    (codes "looks like a pcap capture") reads
+row_of look.Pcapng = row ((10 ∷ 13 ∷ 13 ∷ 10 ∷ []) ∷ []) (codes "looks like a pcapng capture") reads
+row_of look.Date = row [] (codes "looks like a log whose stamps have a date") reads
+row_of look.Csv = row [] (codes "looks like a CSV file") (codes "python3 -m udsnorm reads those of SavvyCAN and python-can")
+row_of look.Nanoseconds =
+    row [] (codes "looks like a log whose stamps have more than six decimals") (codes "python3 -m udsnorm rounds them")
+
+-- first bytes, and the look that they tell
+abbrev pub Sign : Type 0
+Sign = List ℕ × Look
+
+-- the first bytes of a look's row, with it
+abbrev pub signs_of : Look → List Sign
+signs_of look = map (λ first. (first, look)) (row_of look).first
+
+-- those of all rows
+abbrev pub signs : List Sign
+signs = flat_map signs_of TOLD
+
+-- first bytes tell this look
+abbrev pub is_told : List ℕ → Look → Bool
+is_told bytes look = list_any (begins bytes) (row_of look).first
+
+-- the one look, or else the other
+abbrev pub or_else : Option Look → Option Look → Option Look
+or_else (Some look) other = Some look
+or_else None other = other
+
+-- what first bytes tell
+abbrev pub look_told : List ℕ → Option Look
+look_told first = find (is_told first) TOLD
+
+-- a stamp with a date: a year of four digits, and a hyphen
+abbrev pub is_dated : List ℕ → Bool
+is_dated first = has_at first 0 (code "(") && has_at first 5 (code "-")
+
+-- values with commas or semicolons between them, and no stamp in front
+abbrev pub is_table : List ℕ → Bool
+is_table first = not (has_at first 0 (code "(")) && (list_any (λ b. b == code ",") first || list_any (λ b. b == code ";") first)
+
+-- what the first bytes of a text look like that is refused in this line: they tell of its first line alone
+abbrev pub text_look : List ℕ → ℕ → Option Look
+text_look first line =
+    if not (line == 1) then None
+    else if is_dated first then Some look.Date
+    else if is_table first then Some look.Csv
+    else None
+
+-- A stamp of more than six decimals, in the line that these bytes begin and that is refused in this column: its dot stands
+-- seven places before the refused byte, where its bracket was due. There is a digit of its seconds at least.
+abbrev pub has_more_decimals : List ℕ → ℕ → Bool
+has_more_decimals first column = nat_le 10 column && has_at first (column - 8) (code ".")
+
+-- A line that begins with no stamp where one is due: behind legal lines, or as the first where candump -d tells in it
+-- of lost frames.
+abbrev pub lacks_stamp : List ℕ → ℕ → ℕ → Bool
+lacks_stamp first line column = (column == 1) && (nat_lt 1 line || begins first (codes "DROPCOUNT"))
+
+-- What a log looks like that is refused at this place, by its first bytes.
+abbrev pub look_of : List ℕ → ℕ → ℕ → Option Look
+look_of first line column =
+    if (line == 1) && has_more_decimals first column then Some look.Nanoseconds
+    else or_else (look_told first) (text_look first line)

@@ -1,0 +1,201 @@
+-- Devices of proof: the rows of a session as they are kept, and where its items stand among them.
+use Rattle.std.specs.Prelude.{◌≡◌, ℕ, zero, suc, ⊤, Bool, true, false, List, [], ◌∷◌, ◌++◌, length, map, Option, Some, None, option_map, slice_get}
+use Rattle.uds_exchange.specs.Blocks.{IsInside, bytes_at}
+use Rattle.trace_report.specs.Items.{RowMessage, PlacedItem, items_in, message_in}
+use Rattle.trace_report.specs.Rows.{RowValue, message, no_answer, dropped, ended, unfinished}
+use Rattle.trace_report.specs.Sorts.{counts_in}
+use Rattle.trace_report.specs.declared.counts.SortCounts.{SortCounts}
+use Rattle.trace_report.specs.declared.kept_rows.KeptItem.{KeptItem}
+use Rattle.trace_report.specs.declared.kept_rows.KeptRow.{KeptRow}
+use Rattle.trace_report.specs.declared.kept_rows.KeptRow.TheVariants as kept
+use Rattle.trace_report.specs.declared.row.MessageRole.{MessageRole}
+use Rattle.trace_report.specs.declared.row.MessageRole.TheVariants as role
+
+-- Rows.
+
+-- a row that is kept, by the blocks in which bytes lie
+abbrev pub row_at : List (List ℕ) → KeptRow → RowValue
+row_at blocks (kept.Message sent) = message sent.role sent.dir sent.place (bytes_at blocks sent.bytes)
+row_at blocks (kept.NoAnswer number silent) = no_answer number silent
+row_at blocks (kept.Dropped place d named why) = dropped place d named why
+row_at blocks (kept.Ended place end) = ended place end
+row_at blocks (kept.Unfinished d line len) = unfinished d line len
+
+-- rows that are
+abbrev pub rows_at : List (List ℕ) → List KeptRow → List RowValue
+rows_at blocks rows = map (row_at blocks) rows
+
+-- the bytes of a row lie in a block, if it has bytes
+abbrev pub IsLaid : List (List ℕ) → KeptRow → Type 0
+IsLaid blocks (kept.Message sent) = IsInside blocks sent.bytes
+IsLaid blocks (kept.NoAnswer number silent) = ⊤
+IsLaid blocks (kept.Dropped place d named why) = ⊤
+IsLaid blocks (kept.Ended place end) = ⊤
+IsLaid blocks (kept.Unfinished d line len) = ⊤
+
+-- those of all do
+abbrev pub AreLaid : List (List ℕ) → List KeptRow → Type 0
+AreLaid blocks [] = ⊤
+AreLaid blocks (row ∷ rest) = IsLaid blocks row × AreLaid blocks rest
+
+-- What rows are to items.
+
+-- What a row is to items: it begins an exchange, answers one, begins another item, or is nothing to them.
+pub data RowPart : Type 0 where
+  asks : RowMessage → RowPart
+  answers : RowMessage → RowPart
+  begins : RowMessage → RowPart
+  nothing : RowPart
+
+-- a message by its role
+abbrev pub part_by : MessageRole → RowMessage → RowPart
+part_by role.Request sent = asks sent
+part_by (role.Positive asked) sent = answers sent
+part_by (role.Negative asked) sent = answers sent
+part_by (role.Pending asked) sent = nothing
+part_by role.KeepAlive sent = begins sent
+part_by role.Stray sent = begins sent
+
+-- a row
+abbrev pub part_of : RowValue → RowPart
+part_of (message is d place bytes) = part_by is (record { role = is; dir = d; place = place; bytes = bytes })
+part_of (no_answer number silent) = nothing
+part_of (dropped place d named why) = nothing
+part_of (ended place end) = nothing
+part_of (unfinished d line len) = nothing
+
+-- none of these asks or answers
+abbrev pub awaits : List RowPart → Bool
+awaits [] = true
+awaits (asks sent ∷ rest) = false
+awaits (answers sent ∷ rest) = false
+awaits (begins sent ∷ rest) = awaits rest
+awaits (nothing ∷ rest) = awaits rest
+
+-- the place of an item behind one more
+abbrev pub place_later : Option ℕ → Option ℕ
+place_later None = None
+place_later (Some number) = Some (suc number)
+
+-- of a request, or of one behind it
+abbrev pub place_by : Bool → Option ℕ → Option ℕ
+place_by true later = Some 0
+place_by false later = place_later later
+
+-- the place, among items, of the request that waits
+abbrev pub waiting_of : List RowPart → Option ℕ
+waiting_of [] = None
+waiting_of (asks sent ∷ rest) = place_by (awaits rest) (waiting_of rest)
+waiting_of (answers sent ∷ rest) = waiting_of rest
+waiting_of (begins sent ∷ rest) = place_later (waiting_of rest)
+waiting_of (nothing ∷ rest) = waiting_of rest
+
+-- by rows
+abbrev pub waiting_in : List RowValue → Option ℕ
+waiting_in rows = waiting_of (map part_of rows)
+
+-- Where items stand.
+
+-- the message of a row, if there is one
+abbrev pub message_if : Option RowValue → Option RowMessage
+message_if None = None
+message_if (Some row) = message_in row
+
+-- of the row at a place
+abbrev pub message_at : List RowValue → ℕ → Option RowMessage
+message_at rows at = message_if (slice_get rows at)
+
+-- the item that these messages are
+abbrev pub item_by : RowMessage → Option RowMessage → PlacedItem
+item_by begin answer = record { begin = begin; answer = answer }
+
+-- the item that begins with this message, and whose answer stands there, if it has one
+abbrev pub item_with : List RowValue → RowMessage → Option ℕ → Option PlacedItem
+item_with rows begin None = Some (item_by begin None)
+item_with rows begin (Some at) = option_map (λ (reply : RowMessage). item_by begin (Some reply)) (message_at rows at)
+
+abbrev pub item_if : List RowValue → Option RowMessage → Option ℕ → Option PlacedItem
+item_if rows None answer = None
+item_if rows (Some begin) answer = item_with rows begin answer
+
+-- the item that stands there
+abbrev pub placed_at : List RowValue → KeptItem → Option PlacedItem
+placed_at rows item = item_if rows (message_at rows item.begin) item.answer
+
+-- these items stand in these places
+abbrev pub ArePlaced : List RowValue → List KeptItem → List PlacedItem → Type 0
+ArePlaced rows [] [] = ⊤
+ArePlaced rows [] (item ∷ items) = ⊥
+ArePlaced rows (place ∷ places) [] = ⊥
+ArePlaced rows (place ∷ places) (item ∷ items) = (placed_at rows place ≡ Some item) × ArePlaced rows places items
+
+-- the rows are kept, what they tell of items, and how many there are of each sort
+pub record AreKept (blocks : List (List ℕ)) (rows : List KeptRow) (places : List KeptItem) (waiting : Option ℕ) (counts : SortCounts) : Type 0 where
+  pub laid : AreLaid blocks rows
+  pub placed : ArePlaced (rows_at blocks rows) places (items_in (rows_at blocks rows))
+  pub waits : waiting ≡ waiting_in (rows_at blocks rows)
+  pub counted : counts ≡ counts_in (rows_at blocks rows)
+
+-- One more row.
+
+-- the place of an item with its answer
+abbrev pub answered_at : KeptItem → ℕ → KeptItem
+answered_at item at = record { begin = item.begin; answer = Some at }
+
+-- the places of items, of which the one of this number has an answer
+abbrev pub place_answered : List KeptItem → ℕ → ℕ → List KeptItem
+place_answered [] number at = []
+place_answered (item ∷ rest) zero at = answered_at item at ∷ rest
+place_answered (item ∷ rest) (suc number) at = item ∷ place_answered rest number at
+
+-- where one waits
+abbrev pub places_answered : List KeptItem → Option ℕ → ℕ → List KeptItem
+places_answered places None at = places
+places_answered places (Some number) at = place_answered places number at
+
+-- the same of items
+abbrev pub item_answered : List PlacedItem → ℕ → RowMessage → List PlacedItem
+item_answered [] number reply = []
+item_answered (item ∷ rest) zero reply = item_by item.begin (Some reply) ∷ rest
+item_answered (item ∷ rest) (suc number) reply = item ∷ item_answered rest number reply
+
+abbrev pub items_answered : List PlacedItem → Option ℕ → RowMessage → List PlacedItem
+items_answered items None reply = items
+items_answered items (Some number) reply = item_answered items number reply
+
+-- one item more
+abbrev pub places_begun : List KeptItem → ℕ → List KeptItem
+places_begun places at = places ++ record { begin = at; answer = None } ∷ []
+
+-- the places of items with a message of this role in the row at this place
+abbrev pub places_by : MessageRole → List KeptItem → Option ℕ → ℕ → List KeptItem
+places_by role.Request places waiting at = places_begun places at
+places_by (role.Positive asked) places waiting at = places_answered places waiting at
+places_by (role.Negative asked) places waiting at = places_answered places waiting at
+places_by (role.Pending asked) places waiting at = places
+places_by role.KeepAlive places waiting at = places_begun places at
+places_by role.Stray places waiting at = places_begun places at
+
+-- and which of them waits then
+abbrev pub waiting_by : MessageRole → List KeptItem → Option ℕ → Option ℕ
+waiting_by role.Request places waiting = Some (length places)
+waiting_by (role.Positive asked) places waiting = None
+waiting_by (role.Negative asked) places waiting = None
+waiting_by (role.Pending asked) places waiting = waiting
+waiting_by role.KeepAlive places waiting = waiting
+waiting_by role.Stray places waiting = waiting
+
+-- with this row
+abbrev pub places_next : RowValue → List KeptItem → Option ℕ → ℕ → List KeptItem
+places_next (message is d place bytes) places waiting at = places_by is places waiting at
+places_next (no_answer number silent) places waiting at = places
+places_next (dropped place d named why) places waiting at = places
+places_next (ended place end) places waiting at = places
+places_next (unfinished d line len) places waiting at = places
+
+abbrev pub waiting_next : RowValue → List KeptItem → Option ℕ → Option ℕ
+waiting_next (message is d place bytes) places waiting = waiting_by is places waiting
+waiting_next (no_answer number silent) places waiting = waiting
+waiting_next (dropped place d named why) places waiting = waiting
+waiting_next (ended place end) places waiting = waiting
+waiting_next (unfinished d line len) places waiting = waiting

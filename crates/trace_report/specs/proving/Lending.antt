@@ -1,0 +1,55 @@
+-- Devices of proof: what the code lends of a session, without where its bytes lie in memory.
+use Rattle.std.specs.Prelude.{ℕ, Option, Some, None, option_map}
+use Rattle.trace_report.specs.Contrast.{FirstContrast, contrast_of}
+use Rattle.trace_report.specs.Items.{RowMessage, PlacedItem, ItemPair, both, only_left, only_right}
+use Rattle.trace_report.specs.declared.contrast.Contrast.{Contrast}
+use Rattle.trace_report.specs.declared.items.LentItem.{LentItem}
+use Rattle.trace_report.specs.declared.items.LentMessage.{LentMessage}
+use Rattle.trace_report.specs.declared.items.LentPair.{LentPair}
+use Rattle.trace_report.specs.declared.items.LentPair.TheVariants as lent
+use Rattle.trace_report.specs.declared.reporter.Span.{Span}
+use Rattle.trace_report.specs.declared.two.Difference.{Difference}
+
+-- a message that is lent
+abbrev pub message_of : LentMessage → RowMessage
+message_of lent = record { role = lent.sent.now.role; dir = lent.sent.now.dir; place = lent.sent.now.place; bytes = lent.bytes.now }
+
+-- an item that is
+abbrev pub item_of : LentItem → PlacedItem
+item_of item = record { begin = message_of item.begin; answer = option_map message_of item.answer }
+
+-- two items that are
+abbrev pub pair_of : LentPair → ItemPair
+pair_of (lent.Both a b) = both (item_of a) (item_of b)
+pair_of (lent.OnlyLeft a) = only_left (item_of a)
+pair_of (lent.OnlyRight b) = only_right (item_of b)
+
+-- what two sessions have of one number, by what each has
+abbrev pub pair_by : Option PlacedItem → Option PlacedItem → Option ItemPair
+pair_by None None = None
+pair_by (Some a) None = Some (only_left a)
+pair_by None (Some b) = Some (only_right b)
+pair_by (Some a) (Some b) = Some (both a b)
+
+-- a difference that is lent
+abbrev pub contrast_found : Difference → FirstContrast
+contrast_found found = record { before = found.before; pair = pair_of found.pair; how = found.how }
+
+-- a difference at a place, by how the items there differ
+abbrev pub contrast_with : ℕ → ItemPair → Option Contrast → Option FirstContrast
+contrast_with at pair None = None
+contrast_with at pair (Some how) = Some (record { before = at; pair = pair; how = how })
+
+-- by the items there
+abbrev pub contrast_at : ℕ → Option ItemPair → Option FirstContrast
+contrast_at at None = None
+contrast_at at (Some pair) = contrast_with at pair (contrast_of pair)
+
+-- the times of a first frame and of a last one; 0 where there is no frame
+abbrev pub first_of_span : Option Span → ℕ
+first_of_span None = 0
+first_of_span (Some span) = span.first
+
+abbrev pub last_of_span : Option Span → ℕ
+last_of_span None = 0
+last_of_span (Some span) = span.last

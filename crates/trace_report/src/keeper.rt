@@ -1,0 +1,224 @@
+//! Logs that are kept as a whole: a machine that says nothing, and keeps the rows of a session.
+ghost use Rattle.std.specs.Prelude.{◌≡◌, ◌≢◌, ◌-◌, ℕ, List, [], ◌∷◌, ◌++◌, IfOk, IfErr, Err, OnOk, Some};
+ghost use Rattle.isotp_receive.specs.declared.TheConstants.{MESSAGE_LIMIT};
+ghost use Rattle.isotp_receive.specs.Trace.{Entry};
+ghost use Rattle.trace_log.specs.Answers.{ReadsWhile};
+ghost use Rattle.trace_canon.specs.Compared.{fault_in};
+ghost use Rattle.trace_log.specs.declared.fault.Fault.{Fault as FaultValue};
+ghost use Rattle.trace_log.specs.Devices.{AgreesWith, bytes_given, ReadFrom, HasLowCounts};
+ghost use Rattle.trace_log.specs.Refusal.{HasNoBadPlaceWithin};
+ghost use Rattle.trace_report.specs.Held.{HoldsOne, HasOwnFrame, HoldsTwo};
+ghost use Rattle.trace_report.specs.proving.Following.{row_if, rows_in, times_of};
+ghost use Rattle.trace_report.specs.Session.{session_of};
+ghost use Rattle.trace_report.specs.proving.Heard.{IsHeardOf};
+ghost use Rattle.trace_log.specs.declared.summary.Summary.{Summary as SummaryValue};
+
+use crate::follower::{Follower, NewRows};
+use crate::kept_rows::KeptRows;
+use crate::reporter::Span;
+use crate::row::Row;
+use crate::session::Session;
+use crate::two::Two;
+use isotp_receive::Pair;
+use std::alloc::{AllocError, Global};
+use trace_io::{Source, TextSink};
+use trace_log::{CompareFault, Config, Fault, Summary};
+use trace_run::{Glimpse, Machine, Nowhere, Seen, Stop, run};
+
+/// Reads two logs, the first one whole before the second, and answers what both say. No announcement and no canonical
+/// log is too long for it.
+pub fn keep_two<A: Source, B: Source>(
+    alloc: Global,
+    config: &Config,
+    left: &mut A,
+    right: &mut B,
+) -> Result<Two, CompareFault>
+    requires left { HasLowCounts A.Source left.old }
+    requires right { HasLowCounts B.Source right.old }
+
+    // What is answered, for all logs with which the bytes that were read agree.
+    ensures answer { (one other : List ℕ)
+        → AgreesWith A.Source left.old left.new one → AgreesWith B.Source right.old right.new other
+        → HoldsTwo MESSAGE_LIMIT config.now one other result }
+
+    // After a fault of the first log nothing of the second was read.
+    ensures unread { (fault : FaultValue) → result ≡ Err (CompareFault.Left fault) → right.new ≡ right.old }
+
+    // Reading stops within one piece: there is no refused place among all bytes given of a log but the last 4,096, and
+    // none among all where a read of it failed.
+    ensures left_near { (one : List ℕ) → AgreesWith A.Source left.old left.new one
+        → ReadsWhile (HasNoBadPlaceWithin one) (bytes_given A.Source left.old left.new) (A.failures left.old) (A.failures left.new) }
+    ensures right_near { (other : List ℕ) → AgreesWith B.Source right.old right.new other
+        → ReadsWhile (HasNoBadPlaceWithin other) (bytes_given B.Source right.old right.new) (B.failures right.old) (B.failures right.new) }
+
+    // Memory is refused only for a log that has a frame of one of the two sides.
+    ensures left_memory { (one : List ℕ) → AgreesWith A.Source left.old left.new one
+        → result ≡ Err (CompareFault.Left Fault.Memory) → HasOwnFrame config.now one }
+    ensures right_memory { (other : List ℕ) → AgreesWith B.Source right.old right.new other
+        → result ≡ Err (CompareFault.Right Fault.Memory) → HasOwnFrame config.now other }
+
+    // What it did with the sources. Nothing is written.
+    ensures left_read { ReadFrom A.Source (CompareFault.Left Fault.Read) config.now.max_bytes result left.old left.new }
+    ensures right_read { ReadFrom B.Source (CompareFault.Right Fault.Read) config.now.max_bytes result right.old right.new }
+    ensures never_write { IfErr result (λ fault. fault_in fault ≢ Fault.Write) }
+{
+    let left = match keep(alloc, config, left) {
+        Ok(session) => session,
+        Err(fault) => return Err(CompareFault::Left(fault)),
+    };
+    let right = match keep(alloc, config, right) {
+        Ok(session) => session,
+        Err(fault) => return Err(CompareFault::Right(fault)),
+    };
+    Ok(Two::of(left, right))
+}
+
+/// Reads a log, and answers what it says.
+fn keep<R: Source>(alloc: Global, config: &Config, reader: &mut R) -> Result<Session, Fault>
+    requires reader { HasLowCounts R.Source reader.old }
+    ensures answer { (log : List ℕ) → AgreesWith R.Source reader.old reader.new log → HoldsOne MESSAGE_LIMIT config.now log result }
+    ensures near { (log : List ℕ) → AgreesWith R.Source reader.old reader.new log
+        → ReadsWhile (HasNoBadPlaceWithin log) (bytes_given R.Source reader.old reader.new) (R.failures reader.old) (R.failures reader.new) }
+    ensures memory { (log : List ℕ) → AgreesWith R.Source reader.old reader.new log → result ≡ Err Fault.Memory → HasOwnFrame config.now log }
+    ensures read { ReadFrom R.Source Fault.Read config.now.max_bytes result reader.old reader.new }
+    ensures never_write { IfErr result (λ fault. fault ≢ Fault.Write) }
+{
+    let machine = Keeper {
+        span: None,
+        follower: Follower::start(),
+        rows: KeptRows::new(alloc),
+    };
+    match run(alloc, config, machine, reader, &mut Nowhere::new()) {
+        Ok(heard) => match finished(heard) {
+            Ok(session) => Ok(session),
+            Err(_refused) => Err(Fault::Memory),
+        },
+        Err(fault) => Err(fault),
+    }
+}
+
+/// What was heard of a log that ended.
+#[derive(Drop)]
+pub(crate) struct Heard {
+    pub rows: KeptRows,
+    /// The rows of the end.
+    pub last: NewRows<'static>,
+    pub summary: Summary,
+    pub span: Option<Span>,
+}
+
+/// What a log says of which this was heard.
+fn finished(heard: Heard) -> Result<Session, AllocError>
+    ensures session { IfOk result (λ session. (T : List Entry) (summary : SummaryValue) → IsHeardOf T summary heard → session ≡ session_of MESSAGE_LIMIT T summary) }
+    ensures refused { IfErr result (λ refused. rows_in heard.last ≢ []) }
+{
+    let Heard {
+        mut rows,
+        last,
+        summary,
+        span,
+    } = heard;
+    keep_rows(&mut rows, last)?;
+    Ok(Session::of(rows, summary, span))
+}
+
+/// Keeps new rows behind those before.
+#[inline(always)]
+fn keep_rows(rows: &mut KeptRows, new: NewRows<'_>) -> Result<(), AllocError>
+    ensures kept { OnOk result (rows.new ≡ rows.old ++ rows_in new.entry) }
+    ensures refused { IfErr result (λ refused. rows_in new.entry ≢ []) }
+{
+    keep_row_if(rows, new.first)?;
+    keep_row_if(rows, new.second)?;
+    keep_row_if(rows, new.third)
+}
+
+/// Keeps a row, if there is one.
+#[inline(always)]
+fn keep_row_if(rows: &mut KeptRows, row: Option<Row<'_>>) -> Result<(), AllocError>
+    ensures kept { OnOk result (rows.new ≡ rows.old ++ row_if row.entry) }
+    ensures refused { IfErr result (λ refused. row_if row.entry ≢ []) }
+{
+    match row {
+        Some(row) => rows.keep(row),
+        None => Ok(()),
+    }
+}
+
+/// The times of the first frame and the last one, with one more frame.
+fn span_with(span: Option<Span>, micros: u64) -> Span
+    ensures { (T : List Entry) (e : Entry) → span ≡ times_of T → e.micros ≡ micros → Some result ≡ times_of (T ++ e ∷ []) }
+{
+    match span {
+        Some(span) => Span {
+            first: span.first,
+            last: micros,
+        },
+        None => Span {
+            first: micros,
+            last: micros,
+        },
+    }
+}
+
+/// Keeps the rows of a session.
+#[derive(Drop)]
+pub(crate) struct Keeper {
+    /// Of the frames so far, if there are any.
+    pub span: Option<Span>,
+    pub follower: Follower,
+    pub rows: KeptRows,
+}
+
+impl Machine for Keeper {
+    ghost use Rattle.std.specs.Prelude.{⊤};
+    ghost use Rattle.trace_report.specs.proving.Heard.{Keeps, answers_heard, quiet_script};
+    ghost use Rattle.trace_run.specs.Told.{tells_no_refusal};
+
+    type Answer = Heard;
+
+    ghost stands = { λ start T now. Keeps T now };
+
+    ghost script = { λ start. quiet_script };
+
+    ghost refusal = { λ start. tells_no_refusal };
+
+    ghost answers = { λ start. answers_heard };
+
+    ghost needs = { λ start T e. ⊤ };
+
+    #[inline(always)]
+    fn is_strict(&self) -> bool {
+        false
+    }
+
+    #[inline(always)]
+    fn event<S: TextSink>(&mut self, seen: Seen<'_>, _out: &mut S) -> Result<(), AllocError> {
+        self.span = Some(span_with(self.span, seen.micros));
+        let rows = self.follower.take(seen);
+        keep_rows(&mut self.rows, rows)?;
+        Ok(())
+    }
+
+    fn end<S: TextSink>(self, pair: &Pair, summary: &Summary, _out: &mut S) -> Result<Heard, Stop> {
+        let Keeper {
+            span,
+            follower,
+            rows,
+        } = self;
+        Ok(Heard {
+            rows,
+            last: follower.end(pair),
+            summary: *summary,
+            span,
+        })
+    }
+
+    fn refused<S: TextSink>(
+        self,
+        _summary: &Summary,
+        _why: Fault,
+        _source: Glimpse<'_>,
+        _out: &mut S,
+    ) {}
+}

@@ -1,0 +1,387 @@
+//! The rows of a session, kept as they come, and where its items stand among them.
+ghost use Rattle.std.specs.Prelude.{◌≡◌, ◌<◌, ◌^◌, ◌∷◌, ◌++◌, [], None, IfOk, IfSome, OnErr, OnOk, length, option_map, slice_get};
+ghost use Rattle.std.specs.Vec.{vec_capacity, vec_len};
+ghost use Rattle.uds_exchange.specs.Blocks.{GoesOn};
+ghost use Rattle.trace_report.specs.Items.{items_in, message_in};
+ghost use Rattle.trace_report.specs.Sorts.{counts_in};
+ghost use Rattle.trace_report.specs.proving.Keeping.{AreLaid, IsLaid, places_answered, places_by, places_next, rows_at, waiting_by, waiting_next};
+ghost use Rattle.trace_report.specs.proving.Keeping as Keeping;
+ghost use Rattle.trace_report.specs.proving.Lending.{item_of, message_of};
+ghost use Rattle.trace_report.specs.proving.Pages.{row_of};
+
+use crate::counts::SortCounts;
+use crate::items::{LentItem, LentMessage};
+use crate::row::{MessagePlace, MessageRole, Row};
+use crate::sorts::sort_of;
+use direction::Dir;
+use isotp_receive::{Ended, Reason};
+use std::alloc::{AllocError, Global};
+use std::fmt::{self, Debug, Formatter, Write};
+use std::marker::Model;
+use trace_canon::begun::FramePlace;
+use uds_exchange::Messages;
+
+/// A message that is kept: what a row tells of it, and where its bytes lie.
+#[derive(Clone, Copy)]
+pub(crate) struct KeptMessage {
+    pub role: MessageRole,
+    pub dir: Dir,
+    pub place: MessagePlace,
+    pub bytes: uds_exchange::Span,
+}
+
+/// A row that is kept. The variants are those of a row that is lent.
+#[derive(Clone, Copy)]
+pub(crate) enum KeptRow {
+    Message(KeptMessage),
+    NoAnswer {
+        number: u64,
+        silent: bool,
+    },
+    Dropped {
+        place: FramePlace,
+        dir: Dir,
+        named: bool,
+        reason: Reason,
+    },
+    Ended {
+        place: FramePlace,
+        ended: Ended,
+    },
+    Unfinished {
+        dir: Dir,
+        line: u64,
+        len: u32,
+    },
+}
+
+/// Where an item stands among the rows: the message that begins it, and its answer, if it has one.
+#[derive(Clone, Copy)]
+pub(crate) struct KeptItem {
+    pub begin: usize,
+    pub answer: Option<usize>,
+}
+
+/// The rows of a session, seen as their list. What they tell of items and of sorts is kept as they come, and not looked
+/// for.
+#[derive(Drop)]
+pub(crate) struct KeptRows {
+    messages: Messages,
+    rows: Vec<KeptRow>,
+    items: Vec<KeptItem>,
+    /// The item, counted from 0, whose request has no answer so far, if one waits.
+    waiting: Option<usize>,
+    counts: SortCounts,
+}
+
+impl Model for KeptRows {
+    ghost use Rattle.std.specs.Prelude.{List};
+    ghost use Rattle.trace_report.specs.Rows.{RowValue};
+    ghost use Rattle.trace_report.specs.proving.Keeping.{AreKept, rows_at};
+
+    ghost Value = { List RowValue };
+
+    ghost view = { λ kept. rows_at kept.messages kept.rows.items };
+
+    ghost invariant = { λ kept. AreKept kept.messages kept.rows.items kept.items.items kept.waiting kept.counts };
+}
+
+impl KeptRows {
+    /// No row. It takes no memory.
+    pub(crate) fn new(alloc: Global) -> KeptRows
+        ensures { result ≡ [] }
+    {
+        KeptRows {
+            messages: Messages::new(alloc),
+            rows: Vec::new(alloc),
+            items: Vec::new(alloc),
+            waiting: None,
+            counts: SortCounts::start(),
+        }
+    }
+
+    /// Keeps one row more. After an `Err` they are as before.
+    #[inline(always)]
+    pub(crate) fn keep(&mut self, row: Row<'_>) -> Result<(), AllocError>
+        ensures kept { OnOk result (self.new ≡ self.old ++ row_of row.entry ∷ []) }
+        ensures refused { OnErr result (self.new ≡ self.old) }
+    {
+        self.rows.reserve(1)?;
+        self.items.reserve(1)?;
+        let kept = laid(&mut self.messages, row)?;
+        note_row(&mut self.items, &mut self.waiting, self.rows.len(), row);
+        self.rows.push_reserved(kept);
+        self.counts.take(sort_of(row));
+        Ok(())
+    }
+
+    /// How many rows there are.
+    pub(crate) fn len(&self) -> usize
+        ensures value { result ≡ length self.now }
+        ensures small { result < 2 ^ 63 }
+    {
+        self.rows.len()
+    }
+
+    /// The row at a place, counted from 0, if there is one.
+    #[inline(always)]
+    pub(crate) fn row(&self, at: usize) -> Option<Row<'_>>
+        ensures { option_map row_of result ≡ slice_get self.now at }
+    {
+        match self.rows.get(at) {
+            Some(row) => Some(row_at(&self.messages, *row)),
+            None => None,
+        }
+    }
+
+    /// How many items they tell.
+    pub(crate) fn items(&self) -> usize
+        ensures value { result ≡ length (items_in self.now) }
+        ensures small { result < 2 ^ 63 }
+    {
+        self.items.len()
+    }
+
+    /// The item at a place, counted from 0, if there is one.
+    #[inline(always)]
+    pub(crate) fn item(&self, at: usize) -> Option<LentItem<'_>>
+        ensures { option_map item_of result ≡ slice_get (items_in self.now) at }
+    {
+        match self.items.get(at) {
+            Some(item) => item_at(&self.messages, self.rows.as_slice(), *item),
+            None => None,
+        }
+    }
+
+    /// How many there are of each sort.
+    pub(crate) fn counts(&self) -> SortCounts
+        ensures { result ≡ counts_in self.now }
+    {
+        self.counts
+    }
+}
+
+/// Lays the bytes of a row behind those that are kept, if it has bytes, and answers the row to keep. After an `Err` the
+/// bytes are as before.
+#[inline(always)]
+fn laid(messages: &mut Messages, row: Row<'_>) -> Result<KeptRow, AllocError>
+    ensures on { OnOk result (GoesOn messages.old messages.new) }
+    ensures laid { IfOk result (λ kept. IsLaid messages.new kept) }
+    ensures row { IfOk result (λ kept. Keeping.row_at messages.new kept ≡ row_of row.entry) }
+    ensures err { OnErr result (messages.new ≡ messages.old) }
+{
+    match row {
+        Row::Message {
+            role,
+            dir,
+            place,
+            message,
+        } => {
+            let bytes = messages.append(message)?;
+            Ok(KeptRow::Message(KeptMessage {
+                role,
+                dir,
+                place,
+                bytes,
+            }))
+        }
+        Row::NoAnswer { number, silent } => Ok(KeptRow::NoAnswer { number, silent }),
+        Row::Dropped {
+            place,
+            dir,
+            named,
+            reason,
+        } => Ok(KeptRow::Dropped {
+            place,
+            dir,
+            named,
+            reason,
+        }),
+        Row::Ended { place, ended } => Ok(KeptRow::Ended { place, ended }),
+        Row::Unfinished { dir, line, len } => Ok(KeptRow::Unfinished { dir, line, len }),
+    }
+}
+
+/// Notes what the row at this place is to items.
+#[inline(always)]
+fn note_row(items: &mut Vec<KeptItem>, waiting: &mut Option<usize>, at: usize, row: Row<'_>)
+    requires room { vec_len items.old < vec_capacity items.old }
+    requires there { IfSome waiting.old (λ number. number < length items.old.items) }
+    ensures items { items.new.items ≡ places_next (row_of row.entry) items.old.items waiting.old at }
+    ensures waiting { waiting.new ≡ waiting_next (row_of row.entry) items.old.items waiting.old }
+{
+    match row {
+        Row::Message { role, .. } => note_message(items, waiting, at, role),
+        Row::NoAnswer { .. } | Row::Dropped { .. } | Row::Ended { .. } | Row::Unfinished { .. } =>
+            {}
+    }
+}
+
+/// Notes what a message of this role is to items, which the row at this place tells.
+#[inline(always)]
+fn note_message(
+    items: &mut Vec<KeptItem>,
+    waiting: &mut Option<usize>,
+    at: usize,
+    role: MessageRole,
+)
+    requires room { vec_len items.old < vec_capacity items.old }
+    requires there { IfSome waiting.old (λ number. number < length items.old.items) }
+    ensures items { items.new.items ≡ places_by role items.old.items waiting.old at }
+    ensures waiting { waiting.new ≡ waiting_by role items.old.items waiting.old }
+{
+    match role {
+        MessageRole::Request => {
+            *waiting = Some(items.len());
+            begin_item(items, at);
+        }
+        MessageRole::KeepAlive | MessageRole::Stray => begin_item(items, at),
+        MessageRole::Positive { .. } | MessageRole::Negative { .. } => {
+            answer_waiting(items, *waiting, at);
+            *waiting = None;
+        }
+        MessageRole::Pending { .. } => {}
+    }
+}
+
+/// Notes that an item begins in the row at this place.
+#[inline(always)]
+fn begin_item(items: &mut Vec<KeptItem>, at: usize)
+    requires { vec_len items.old < vec_capacity items.old }
+    ensures { items.new.items ≡ items.old.items ++ record { begin = at; answer = None } ∷ [] }
+{
+    items.push_reserved(KeptItem {
+        begin: at,
+        answer: None,
+    });
+}
+
+/// Notes that the row at this place answers the request that waits, if one does.
+#[inline(always)]
+fn answer_waiting(items: &mut Vec<KeptItem>, waiting: Option<usize>, at: usize)
+    requires { IfSome waiting (λ number. number < length items.old.items) }
+    ensures { items.new.items ≡ places_answered items.old.items waiting at }
+{
+    if let Some(number) = waiting {
+        answer_with(&mut items[number], at);
+    }
+}
+
+/// Notes where the answer of an item stands.
+#[inline(always)]
+fn answer_with(item: &mut KeptItem, at: usize)
+    ensures { item.new ≡ Keeping.answered_at item.old at }
+{
+    item.answer = Some(at);
+}
+
+/// A row that is kept, lent.
+#[inline(always)]
+fn row_at<'a>(messages: &'a Messages, row: KeptRow) -> Row<'a>
+    requires { IsLaid messages.now row }
+    ensures { row_of result ≡ Keeping.row_at messages.now row }
+{
+    match row {
+        KeptRow::Message(sent) => Row::Message {
+            role: sent.role,
+            dir: sent.dir,
+            place: sent.place,
+            message: messages.message(sent.bytes),
+        },
+        KeptRow::NoAnswer { number, silent } => Row::NoAnswer { number, silent },
+        KeptRow::Dropped {
+            place,
+            dir,
+            named,
+            reason,
+        } => Row::Dropped {
+            place,
+            dir,
+            named,
+            reason,
+        },
+        KeptRow::Ended { place, ended } => Row::Ended { place, ended },
+        KeptRow::Unfinished { dir, line, len } => Row::Unfinished { dir, line, len },
+    }
+}
+
+/// The item that stands there among the rows, lent.
+#[inline(always)]
+fn item_at<'a>(messages: &'a Messages, rows: &'a [KeptRow], item: KeptItem) -> Option<LentItem<'a>>
+    requires { AreLaid messages.now rows.now }
+    ensures { option_map item_of result ≡ Keeping.placed_at (rows_at messages.now rows.now) item }
+{
+    match message_at(messages, rows, item.begin) {
+        Some(begin) => item_with(messages, rows, begin, item.answer),
+        None => None,
+    }
+}
+
+/// The item that begins with this message, and whose answer stands there, if it has one.
+#[inline(always)]
+fn item_with<'a>(
+    messages: &'a Messages,
+    rows: &'a [KeptRow],
+    begin: LentMessage<'a>,
+    answer: Option<usize>,
+) -> Option<LentItem<'a>>
+    requires { AreLaid messages.now rows.now }
+    ensures { option_map item_of result ≡ Keeping.item_with (rows_at messages.now rows.now) (message_of begin.entry) answer }
+{
+    match answer {
+        None => Some(LentItem {
+            begin,
+            answer: None,
+        }),
+        Some(at) => match message_at(messages, rows, at) {
+            Some(reply) => Some(LentItem {
+                begin,
+                answer: Some(reply),
+            }),
+            None => None,
+        },
+    }
+}
+
+/// The message of the row at a place, lent, if there is one.
+#[inline(always)]
+fn message_at<'a>(messages: &'a Messages, rows: &'a [KeptRow], at: usize) -> Option<LentMessage<'a>>
+    requires { AreLaid messages.now rows.now }
+    ensures { option_map message_of result ≡ Keeping.message_at (rows_at messages.now rows.now) at }
+{
+    match rows.get(at) {
+        Some(row) => message_of_row(messages, row),
+        None => None,
+    }
+}
+
+/// The message of a row, lent, if it has one.
+#[inline(always)]
+fn message_of_row<'a>(messages: &'a Messages, row: &'a KeptRow) -> Option<LentMessage<'a>>
+    requires { IsLaid messages.now row.now }
+    ensures { option_map message_of result ≡ message_in (Keeping.row_at messages.now row.now) }
+{
+    match row {
+        KeptRow::Message(sent) => Some(LentMessage {
+            sent,
+            bytes: messages.message(sent.bytes),
+        }),
+        KeptRow::NoAnswer { .. }
+        | KeptRow::Dropped { .. }
+        | KeptRow::Ended { .. }
+        | KeptRow::Unfinished { .. } => None,
+    }
+}
+
+/// As the list of the rows that it lends.
+impl Debug for KeptRows {
+    fn fmt<W: Write>(&self, f: &mut Formatter<W>) -> fmt::Result {
+        let mut list = f.debug_list();
+        for at in 0..self.len() {
+            if let Some(row) = self.row(at) {
+                list.entry(&row);
+            }
+        }
+        list.finish()
+    }
+}

@@ -1,0 +1,80 @@
+//! The names of logs, as a page may hold them.
+use text_parts::{Part, say};
+use trace_io::TextSink;
+use trace_text::say::say_byte;
+
+/// The name of a log.
+#[derive(Clone, Copy)]
+pub(crate) struct Name<'a>(pub &'a [u8]);
+
+impl<'a> Part for Name<'a> {
+    ghost use Rattle.trace_report.specs.Front.{name_text};
+
+    ghost text = { λ name. name_text name.0.now };
+
+    fn say<S: TextSink>(self, out: &mut S) {
+        'bytes: for byte in self.0 {
+            say(out, NameByte(*byte));
+        }
+    }
+}
+
+/// A byte of a name: a sign that means something in HTML by its name there.
+#[derive(Clone, Copy)]
+struct NameByte(u8);
+
+impl Part for NameByte {
+    ghost use Rattle.trace_report.specs.Front.{name_byte};
+
+    ghost text = { λ byte. name_byte byte.0 };
+
+    fn say<S: TextSink>(self, out: &mut S) {
+        let byte = self.0;
+        if byte == b'&' {
+            say(out, "&amp;");
+        } else if byte == b'<' {
+            say(out, "&lt;");
+        } else if byte == b'>' {
+            say(out, "&gt;");
+        } else if byte == b'"' {
+            say(out, "&quot;");
+        } else if byte == b'\'' {
+            say(out, "&#39;");
+        } else {
+            say(out, PlainByte(byte));
+        }
+    }
+}
+
+/// A byte that has no name in HTML: printable ASCII as it is, and every other one by its number.
+#[derive(Clone, Copy)]
+struct PlainByte(u8);
+
+impl Part for PlainByte {
+    ghost use Rattle.trace_report.specs.Front.{plain_byte};
+
+    ghost text = { λ byte. plain_byte byte.0 };
+
+    fn say<S: TextSink>(self, out: &mut S) {
+        let byte = self.0;
+        if b' ' <= byte && byte <= b'~' {
+            out.put(&[byte]);
+        } else {
+            say(out, ("%", TwoDigits(byte)));
+        }
+    }
+}
+
+/// A byte as two hexadecimal digits.
+#[derive(Clone, Copy)]
+struct TwoDigits(u8);
+
+impl Part for TwoDigits {
+    ghost use Rattle.can_log.specs.Digits.{hexadecimal};
+
+    ghost text = { λ byte. hexadecimal 2 byte.0 };
+
+    fn say<S: TextSink>(self, out: &mut S) {
+        say_byte(out, self.0);
+    }
+}

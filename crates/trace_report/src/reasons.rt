@@ -1,0 +1,121 @@
+//! Why a recording is not called clean.
+ghost use Rattle.std.specs.Prelude.{◌≡◌};
+ghost use Rattle.trace_report.specs.Verdict as Spec;
+
+use text_parts::{Either, Part, When, say};
+use trace_io::TextSink;
+use trace_log::Summary;
+use trace_text::Number;
+
+/// Each reason why a recording is not called clean: of one that is not clean what `--strict` tells of it; and what that means for
+/// the messages.
+#[derive(Clone, Copy)]
+pub(crate) struct UncleanReasons<'a>(pub &'a Summary);
+
+impl<'a> Part for UncleanReasons<'a> {
+    ghost use Rattle.trace_report.specs.Verdict.{unclean_reasons};
+
+    ghost text = { λ reasons. unclean_reasons reasons.0.now };
+
+    fn say<S: TextSink>(self, out: &mut S) {
+        let summary = self.0;
+        say(
+            out,
+            (
+                When(!summary.is_clean(), StrictWords(summary)),
+                MeaningWords(summary),
+            ),
+        );
+    }
+}
+
+/// What was lost of the frames of a recording, and what it lacks, in the words that `--strict` tells it.
+#[derive(Clone, Copy)]
+struct StrictWords<'a>(&'a Summary);
+
+impl<'a> Part for StrictWords<'a> {
+    ghost use Rattle.trace_report.specs.Verdict.{strict_words};
+
+    ghost text = { λ words. strict_words words.0.now };
+
+    fn say<S: TextSink>(self, out: &mut S) {
+        let summary = self.0;
+        say(
+            out,
+            (
+                (
+                    "<em>frames ",
+                    Number(summary.frames),
+                    " dropped ",
+                    Number(summary.dropped),
+                    " ended ",
+                    Number(summary.ended),
+                    " unfinished ",
+                    Number(summary.unfinished),
+                ),
+                (
+                    When(summary.tester_frames == 0, ", no frame of the tester"),
+                    When(summary.unit_frames == 0, ", no frame of the unit"),
+                    When(lacks_line_feed(summary), ", no line feed at the end"),
+                    ".</em>",
+                ),
+            ),
+        );
+    }
+}
+
+/// What that means for the messages.
+#[derive(Clone, Copy)]
+struct MeaningWords<'a>(&'a Summary);
+
+impl<'a> Part for MeaningWords<'a> {
+    ghost use Rattle.trace_report.specs.Verdict.{meaning_words};
+
+    ghost text = { λ words. meaning_words words.0.now };
+
+    fn say<S: TextSink>(self, out: &mut S) {
+        let summary = self.0;
+        say(
+            out,
+            (
+                When(
+                    is_partial(summary),
+                    " Frames are missing, late, out of order or of no legal form. Messages that they belonged to are not below.",
+                ),
+                When(
+                    lacks_line_feed(summary),
+                    " The log ends inside its last line: it may be cut.",
+                ),
+                When(
+                    summary.frames == 0,
+                    Either(
+                        summary.lines == 0,
+                        " The log is empty: it has no line.",
+                        " Either no line has a frame, or other identifiers are meant: see <code>--tester</code> and <code>--unit</code>.",
+                    ),
+                ),
+                When(
+                    summary.looks_exchanged,
+                    (
+                        When(!summary.is_clean(), " "),
+                        "No message is a request: the tester sent responses, and the unit messages that are none. See <code>--tester</code> and <code>--unit</code>.",
+                    ),
+                ),
+            ),
+        );
+    }
+}
+
+/// Whether of what was recorded something is in part.
+fn is_partial(summary: &Summary) -> bool
+    ensures { result ≡ Spec.is_partial summary.now }
+{
+    summary.dropped != 0 || summary.ended != 0 || summary.unfinished != 0
+}
+
+/// Whether the log has bytes, the last of which is no line feed.
+fn lacks_line_feed(summary: &Summary) -> bool
+    ensures { result ≡ Spec.lacks_line_feed summary.now }
+{
+    summary.lines > 0 && !summary.ends_in_line_feed
+}

@@ -1,0 +1,75 @@
+//! A session that is kept as a whole.
+ghost use Rattle.std.specs.Prelude.{◌≡◌};
+ghost use Rattle.trace_report.specs.proving.Lending.{first_of_span, last_of_span};
+
+use crate::kept_rows::KeptRows;
+use crate::reporter::Span;
+use std::marker::Model;
+use trace_log::Summary;
+
+/// What a log says, kept. Contracts see its rows, its counts, and the times of its first frame and its last one.
+#[derive(Debug, Drop)]
+pub struct Session {
+    rows: KeptRows,
+    summary: Summary,
+    span: Option<Span>,
+}
+
+impl Model for Session {
+    ghost use Rattle.trace_report.specs.Session.{SessionValue};
+    ghost use Rattle.trace_report.specs.proving.Lending.{first_of_span, last_of_span};
+
+    ghost Value = { SessionValue };
+
+    ghost view = { λ s. record { rows = s.rows; summary = s.summary; first = first_of_span s.span; last = last_of_span s.span } };
+}
+
+impl Session {
+    /// What is kept of a log: its rows, its counts, and the times of its first frame and its last one, if it has frames.
+    pub(crate) fn of(rows: KeptRows, summary: Summary, span: Option<Span>) -> Session
+        ensures rows { result.rows ≡ rows }
+        ensures summary { result.summary ≡ summary }
+        ensures first { result.first ≡ first_of_span span }
+        ensures last { result.last ≡ last_of_span span }
+    {
+        Session {
+            rows,
+            summary,
+            span,
+        }
+    }
+
+    /// The rows of the session.
+    pub(crate) fn rows(&self) -> &KeptRows
+        ensures { result.now ≡ self.now.rows }
+    {
+        &self.rows
+    }
+
+    /// The counts of the session.
+    pub fn summary(&self) -> Summary
+        ensures { result ≡ self.now.summary }
+    {
+        self.summary
+    }
+
+    /// The time of its first frame; 0 where it has none.
+    pub(crate) fn first(&self) -> u64
+        ensures { result ≡ self.now.first }
+    {
+        match self.span {
+            Some(span) => span.first,
+            None => 0,
+        }
+    }
+
+    /// The time of its last frame; 0 where it has none.
+    pub(crate) fn last(&self) -> u64
+        ensures { result ≡ self.now.last }
+    {
+        match self.span {
+            Some(span) => span.last,
+            None => 0,
+        }
+    }
+}

@@ -1,5 +1,0 @@
-use Rattle.trace_text.proofs.Pairs.{pair_at}
-use Rattle.trace_text.proofs.parts.two_decimals.Goals as goal
-
-pub returns : goal.returns
-returns c = pair_at c.args.number c.requires

@@ -1,0 +1,108 @@
+//! Numbers as digits.
+ghost use Rattle.std.specs.Prelude.{◌≡◌, ◌<◌, [], ◌∷◌, ◌++◌, ◌%◌, codes};
+ghost use Rattle.can_log.specs.Digits.{decimal, digit, hexadecimal};
+
+/// The hexadecimal digits.
+const DIGITS: [u8; 16] = *b"0123456789ABCDEF";
+
+/// The decimal digits of the numbers below 100, two of each.
+const PAIRS: [u8; 200] =
+    *b"00010203040506070809101112131415161718192021222324252627282930313233343536373839404142434445464748495051525354555657585960616263646566676869707172737475767778798081828384858687888990919293949596979899";
+
+/// What is written for a service that has no name.
+#[tactic(auto, unfolding(can_log::specs::Digits::digits))]
+pub(crate) fn numbered_service(sid: u8) -> [u8; 10]
+    ensures { result ≡ codes "service_" ++ hexadecimal 2 sid }
+{
+    let [high, low] = hexadecimal_digits(sid);
+    [b's', b'e', b'r', b'v', b'i', b'c', b'e', b'_', high, low]
+}
+
+/// What is written for a response code that has no name.
+#[tactic(auto, unfolding(can_log::specs::Digits::digits))]
+pub(crate) fn numbered_code(code: u8) -> [u8; 7]
+    ensures { result ≡ codes "code_" ++ hexadecimal 2 code }
+{
+    let [high, low] = hexadecimal_digits(code);
+    [b'c', b'o', b'd', b'e', b'_', high, low]
+}
+
+/// The last hexadecimal digit of a number.
+#[tactic(auto, unfolding(can_log::specs::Digits::digits))]
+pub(crate) fn last_digit(number: u8) -> [u8; 1]
+    ensures { result ≡ hexadecimal 1 number }
+{
+    [hexadecimal_digit(number % 16)]
+}
+
+/// The last six decimal digits of a number, with two zeros behind them: eight bytes are one word, which is laid without
+/// being put together in memory.
+#[tactic(auto, unfolding(can_log::specs::Digits::digits))]
+pub(crate) fn six_decimals(number: u64) -> [u8; 8]
+    ensures { result ≡ decimal 6 number ++ 0 ∷ 0 ∷ [] }
+{
+    let last = (number % 1_000_000) as u32;
+    let rest = last % 10_000;
+    let [a, b] = two_decimals(last / 10_000);
+    let [c, d] = two_decimals(rest / 100);
+    let [e, f] = two_decimals(rest % 100);
+    u64::from_le_bytes([a, b, c, d, e, f, 0, 0]).to_le_bytes()
+}
+
+/// The four decimal digits of a number below 10,000, which are one word as well.
+#[tactic(auto, unfolding(can_log::specs::Digits::digits))]
+#[inline(always)]
+pub(crate) fn four_decimals(number: u32) -> [u8; 4]
+    requires { number < 10000 }
+    ensures { result ≡ decimal 4 number }
+{
+    let [a, b] = two_decimals(number / 100);
+    let [c, d] = two_decimals(number % 100);
+    u32::from_le_bytes([a, b, c, d]).to_le_bytes()
+}
+
+/// The two decimal digits of a number below 100.
+#[inline(always)]
+pub(crate) fn two_decimals(number: u32) -> [u8; 2]
+    requires { number < 100 }
+    ensures { result ≡ decimal 2 number }
+{
+    let at = 2 * number as usize;
+    [PAIRS[at], PAIRS[at + 1]]
+}
+
+/// The last three decimal digits of a number.
+#[tactic(auto, unfolding(can_log::specs::Digits::digits))]
+pub(crate) fn three_decimals(number: u64) -> [u8; 3]
+    ensures { result ≡ decimal 3 number }
+{
+    let last = (number % 1_000) as u32;
+    [
+        decimal_digit(last / 100),
+        decimal_digit(last / 10),
+        decimal_digit(last),
+    ]
+}
+
+/// The last decimal digit of a number.
+fn decimal_digit(number: u32) -> u8
+    ensures { result ≡ digit (number % 10) }
+{
+    DIGITS[(number % 10) as usize]
+}
+
+/// The two digits of a byte.
+#[tactic(auto, unfolding(can_log::specs::Digits::digits))]
+pub(crate) fn hexadecimal_digits(byte: u8) -> [u8; 2]
+    ensures { result ≡ hexadecimal 2 byte }
+{
+    [hexadecimal_digit(byte / 16), hexadecimal_digit(byte % 16)]
+}
+
+/// The digit of a number below 16, in upper case.
+fn hexadecimal_digit(number: u8) -> u8
+    requires { number < 16 }
+    ensures { result ≡ digit number }
+{
+    DIGITS[usize::from(number)]
+}

@@ -1,0 +1,65 @@
+//! What tells that tester and unit are exchanged.
+
+ghost use Rattle.std.specs.Prelude.{◌≡◌, [], List, ℕ, Option};
+ghost use Rattle.direction.specs.Dir.{Message};
+ghost use Rattle.uds_exchange.specs.Exchanged.{noted, noted_other, sides_of};
+ghost use Rattle.uds_exchange.specs.Exchanged as Spec;
+ghost use Rattle.uds_exchange.specs.OneMessage.{step_of};
+
+use crate::step::Step;
+use direction::Dir;
+use uds_message::{is_response_sid, sid};
+
+/// What tester and unit sent, as far as it tells whether they are exchanged.
+#[derive(Clone, Copy, Debug, PartialEq, Eq)]
+pub struct Sides {
+    /// The tester sent a request.
+    pub asked: bool,
+    /// The tester sent a message with the service identifier of a response.
+    pub tester_responds: bool,
+    /// The unit sent one without.
+    pub unit_asks: bool,
+}
+
+impl Sides {
+    /// Before the first message.
+    pub(crate) fn none() -> Sides
+        ensures { result ≡ sides_of [] }
+    {
+        Sides {
+            asked: false,
+            tester_responds: false,
+            unit_asks: false,
+        }
+    }
+
+    /// Notes one more message, of which this becomes.
+    #[inline(always)]
+    pub(crate) fn note(&mut self, step: Step, dir: Dir, message: &[u8])
+        ensures { (open_sid : Option ℕ) → step ≡ step_of open_sid (dir, message.now) → self.new ≡ noted (dir, message.now) self.old }
+    {
+        match step {
+            Step::Request(_) => self.asked = true,
+            Step::Answer | Step::Removed | Step::Hold | Step::Pass => self.note_other(dir, message),
+        }
+    }
+
+    /// Notes a message that is no request.
+    #[inline(always)]
+    fn note_other(&mut self, dir: Dir, message: &[u8])
+        ensures { self.new ≡ noted_other (dir, message.now) self.old }
+    {
+        let responds = is_response_sid(sid(message));
+        match dir {
+            Dir::Tester => self.tester_responds = self.tester_responds || responds,
+            Dir::Unit => self.unit_asks = self.unit_asks || !responds,
+        }
+    }
+
+    /// Whether tester and unit look exchanged.
+    pub fn look_exchanged(&self) -> bool
+        ensures { (M : List Message) → self.now ≡ sides_of M → result ≡ Spec.look_exchanged M }
+    {
+        !self.asked && self.tester_responds && self.unit_asks
+    }
+}
