@@ -11,24 +11,26 @@ is_change Changed = true
 is_change OnlyLeft = true
 is_change OnlyRight = true
 
--- how many items a row has of the left session, and how many of the right one
+-- how many items a row has of the left session
 abbrev pub left_in : Row → ℕ
 left_in Same = 1
 left_in Changed = 1
 left_in OnlyLeft = 1
 left_in OnlyRight = 0
 
+-- and how many of the right one
 abbrev pub right_in : Row → ℕ
 right_in Same = 1
 right_in Changed = 1
 right_in OnlyLeft = 0
 right_in OnlyRight = 1
 
--- the same of several rows
+-- how many items rows have of the left session
 abbrev pub left_count : List Row → ℕ
 left_count [] = 0
 left_count (row ∷ rows) = left_in row + left_count rows
 
+-- and how many of the right one
 abbrev pub right_count : List Row → ℕ
 right_count [] = 0
 right_count (row ∷ rows) = right_in row + right_count rows

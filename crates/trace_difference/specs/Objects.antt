@@ -21,13 +21,14 @@ abbrev pub listed_value : Option ItemValue → Value
 listed_value (Some item) = json.object (item_object Hidden 0 item)
 listed_value None = json.null
 
--- what a row has of the left list, and of the right one, where it stands at this place of the list
+-- what a row has of the left list, where it stands at this place of that
 abbrev pub left_value : List ItemValue → ℕ → Row → Value
 left_value xs i Same = listed_value (slice_get xs i)
 left_value xs i Changed = listed_value (slice_get xs i)
 left_value xs i OnlyLeft = listed_value (slice_get xs i)
 left_value xs i OnlyRight = json.null
 
+-- and of the right one
 abbrev pub right_value : List ItemValue → ℕ → Row → Value
 right_value ys j Same = listed_value (slice_get ys j)
 right_value ys j Changed = listed_value (slice_get ys j)

@@ -159,6 +159,19 @@ pub(crate) const COMMANDS: &[CommandRow] = &[
             HINTED,
         ],
     },
+    CommandRow {
+        name: "diff",
+        about: "Writes where two logs differ, as `diff -u` does",
+        after_help: OF_DIFF,
+        arguments: &[
+            SIDES,
+            USUAL_LIMIT_OF_BOTH,
+            TWO_LOGS,
+            AS_JSON,
+            STRICTLY,
+            HINTED,
+        ],
+    },
 ];
 
 /// The names of options and files in the parser's matches.
@@ -296,6 +309,7 @@ pub(crate) fn task_named(name: &str, found: &ArgMatches<'_>) -> Task
         "report" => report_task(found),
         "find" => Task::One(Job::Find(notation(found))),
         "compare" => Task::Two(PairJob::Compare(comparison_style(found))),
+        "diff" => Task::Two(PairJob::Diff(notation(found))),
         _ => Task::One(Job::Normalise),
     }
 }
@@ -455,3 +469,17 @@ Exit status: 0 the logs mean the same, 1 they differ, 2 wrong words, 3 a log is 
 6 with `--strict`: a log is not clean, and nothing is printed.
 
 Example: udsnorm compare --show yesterday.log today.log";
+
+const OF_DIFF: &str = "\
+Writes hunks of the lines of `list --no-numbers`, as `diff -u` does, with the numbers of `list`
+in front of each. An exchange that one log alone has moves no other. Where the logs mean the
+same, nothing is written.
+
+With `--json` each exchange or stray message that was removed, added or changed is an object,
+and the last object has the counts.
+
+Exit status: 0 the logs mean the same, 1 they differ, 2 wrong words, 3 a log is refused,
+4 a file can't be opened, or reading or writing failed, 5 out of memory,
+6 with `--strict`: a log is not clean, and nothing is written.
+
+Example: udsnorm diff yesterday.log today.log";

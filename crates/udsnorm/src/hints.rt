@@ -1,12 +1,12 @@
 //! Hints: a line behind the text of a run, for the person at the terminal.
 
 ghost use Rattle.std.specs.Prelude.{◌≡◌, ◌<◌, ◌++◌, IfOk, OnOk, IfErr, Some, true, false, map, option_map, string_bytes};
-ghost use Rattle.std.specs.List.{flat_map, list_all};
+ghost use Rattle.std.specs.List.{flat_map};
 ghost use Rattle.can_log.specs.Digits.{digit};
 ghost use Rattle.trace_io.specs.Counted.{IsLowCount};
 ghost use Rattle.udsnorm.specs.Hints.{GaveHint, IsHint, ToldAwaited, asks_for_hints, awaited_line, hint_line, hint_of_plan, missing_words};
 ghost use Rattle.trace_report.specs.Causes.{named_text, number_text, row_text, row_value};
-ghost use Rattle.udsnorm.specs.Names.{before_name, behind_command, is_plain, is_plain_name, is_printable, named, quoted, quoted_byte};
+ghost use Rattle.udsnorm.specs.Names.{before_name, behind_command, is_printable, named, quoted, quoted_byte};
 ghost use Rattle.udsnorm.specs.proving.Pieces.{piece_text, pieces_text};
 
 use crate::advice::advice_for;
@@ -18,6 +18,7 @@ use can_log::{Id, identifier_text};
 use itoa::Buffer;
 use std::alloc::{AllocError, Global};
 use std::rt::Files;
+use trace_difference::is_plain_name;
 use trace_io::Target;
 use trace_report::{Cause, CauseRow, row_of_cause};
 
@@ -357,37 +358,6 @@ fn digit(number: u8) -> u8
     } else {
         b'A' + (number - 10)
     }
-}
-
-/// Whether a name needs no quotes.
-fn is_plain_name(name: &[u8]) -> bool
-    ensures { result ≡ is_plain_name name.now }
-{
-    !name.is_empty() && are_plain(name)
-}
-
-/// Whether bytes stand as they are, each of them.
-fn are_plain(bytes: &[u8]) -> bool
-    ensures { result ≡ list_all is_plain bytes.now }
-{
-    bytes.iter().all(|byte| is_plain(*byte))
-}
-
-/// Whether a byte stands as it is in a name without quotes.
-fn is_plain(byte: u8) -> bool
-    ensures { result ≡ is_plain byte }
-{
-    byte.is_ascii_alphanumeric()
-        || byte == b'.'
-        || byte == b'/'
-        || byte == b'_'
-        || byte == b'-'
-        || byte == b'+'
-        || byte == b':'
-        || byte == b'@'
-        || byte == b'%'
-        || byte == b','
-        || byte == b'='
 }
 
 /// Whether a byte stands as it is between quotes.
