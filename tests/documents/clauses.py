@@ -132,16 +132,20 @@ def exported(root):
 
 
 def functions(crate):
-    """The functions of a crate, by its folder. A program hands out nothing: there what is `pub` in a module is public."""
-    library = crate / "src" / "lib.rt"
-    names, modules = exported(library.read_text()) if library.exists() else (None, set())
+    """The functions of a crate, by its folder. A program hands out nothing: there what is `pub` in a module is public, and what a
+    type has of a trait if the type is."""
+    library, files = crate / "src" / "lib.rt", sorted((crate / "src").glob("*.rt"))
+    if library.exists():
+        names, modules = exported(library.read_text())
+    else:
+        names, modules = set().union(*(exported(path.read_text())[0] for path in files)), set()
     found = []
-    for path in sorted((crate / "src").glob("*.rt")):
+    for path in files:
         for of, name, texts, is_public, words in functions_in(path.read_text()):
             run, fields = run_of(crate.parent, re.search(r"\w+", texts[RUN])[0]) if RUN in texts else ([], [])
             clauses = list(dict.fromkeys([*(clause for clause in texts if clause != REQUIRES), *(field for field, _ in fields)]))
             is_in_module = path.stem in modules and of is None
-            is_seen = is_public and (is_in_module or names is None or (of or name) in names)
+            is_seen = is_public and (is_in_module or (of or name) in names)
             is_law = is_in_module and path.stem == "laws"
             full = "::".join(part for part in (path.stem, of, name) if part)
             found.append(Function(full, clauses, is_seen, is_law and is_seen, run if fields else [], texts, words))

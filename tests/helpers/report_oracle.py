@@ -467,8 +467,8 @@ def heading(log, frames, counts):
     if not told and not is_exchanged:
         return "good", "&#10003;", "The recording is clean", "No frame of the two identifiers was dropped, and no message is in part."
     words = state_words(told, is_exchanged) if frames else "No frame of the tester or the unit"
-    counted = f"<em>{told}.</em>" if told else ""
-    return "warn", "!", words, " ".join([counted, *meant(log, frames, counts), *([EXCHANGED_MEANS] if is_exchanged else [])])
+    counted = [f"<em>{told}.</em>"] if told else []
+    return "warn", "!", words, " ".join([*counted, *meant(log, frames, counts), *([EXCHANGED_MEANS] if is_exchanged else [])])
 
 
 def state_words(is_unclean, is_exchanged):
@@ -479,8 +479,8 @@ def state_words(is_unclean, is_exchanged):
 
 
 EXCHANGED_MEANS = (
-    "No message is a request, but the tester sent responses, and the unit what is none: "
-    "see <code>--tester</code> and <code>--unit</code>."
+    "No message is a request: the tester sent responses, and the unit messages that are none. "
+    "See <code>--tester</code> and <code>--unit</code>."
 )
 
 

@@ -23,5 +23,7 @@ mod LineOrder
 mod RowTargets
 mod Identifiers
 pub mod Harmless
+pub mod ToldAnswers
+pub mod ToldTimes
 mod PagesInMemory
 pub mod Signs

@@ -1,28 +1,37 @@
 -- What holds of a page, whatever log it is of.
 use Prim.Native.Char.{code}
-use Rattle.std.specs.Prelude.{◌≡◌, ◌≢◌, ℕ, ◌==◌, ◌<◌, ◌^◌, ◌&&◌, not, ◌||◌, Bool, true, ⊤, List, [], ◌∷◌, codes, drop, false, length, map, nat_le, ◌++◌, Option, Ok}
+use Rattle.std.specs.Prelude.{◌≡◌, ◌≢◌, ◌↔◌, ℕ, ◌==◌, ◌<◌, ◌^◌, ◌&&◌, not, ◌||◌, Bool, true, ⊤, List, [], ◌∷◌, codes, drop, false, length, map, nat_le, ◌++◌, Option, Some, None, Ok}
 use Rattle.std.specs.List.{AllByRecursion, find, list_any, starts_with}
 use Rattle.can_log.specs.declared.frame.Stamped.{Stamped}
+use Rattle.direction.specs.declared.Dir.{Dir}
 use Rattle.isotp_receive.specs.declared.TheConstants.{MESSAGE_LIMIT}
 use Rattle.isotp_receive.specs.Trace.{Entry}
 use Rattle.isotp_receive.specs.Verdict.{messages}
 use Rattle.uds_exchange.specs.Difference.{IsFirstDifference}
 use Rattle.uds_exchange.specs.Meaning.{meaning}
+use Rattle.uds_exchange.specs.declared.step.Step.TheVariants as becomes
+use Rattle.uds_message.specs.Message.{is_negative_response}
 use Rattle.trace_canon.specs.Compared.{Compares, difference}
 use Rattle.trace_log.specs.Settings.{Settings}
 use Rattle.trace_log.specs.Trace.{trace}
 use Rattle.trace_canon.specs.declared.comparing.Compared.{Compared}
 use Rattle.trace_report.specs.Blocks.{begins_exchange}
-use Rattle.trace_report.specs.Contrast.{first_contrast}
+use Rattle.trace_report.specs.Contrast.{contrast_of_answers, first_contrast}
 use Rattle.trace_report.specs.Difference.{begins_number, rows_around}
-use Rattle.trace_report.specs.Events.{rows_of}
+use Rattle.trace_report.specs.Events.{asked_in, completes_request, role_of_step, rows_of}
 use Rattle.trace_report.specs.Front.{name_text}
 use Rattle.trace_report.specs.Held.{HoldsTwo, TwoValue, comparison_by, comparison_in}
-use Rattle.trace_report.specs.Items.{PlacedItem, item_value, items_in, pairs_of}
+use Rattle.trace_report.specs.Items.{RowMessage, PlacedItem, item_value, items_in, pairs_of}
 use Rattle.trace_report.specs.Linked.{HasEachTarget, identifiers_in}
 use Rattle.trace_report.specs.Page.{all_rows}
-use Rattle.trace_report.specs.Rows.{RowValue}
+use Rattle.trace_report.specs.Rows.{RowValue, asked_at, message_row, note_text}
 use Rattle.trace_report.specs.Words.{letters}
+use Rattle.trace_report.specs.declared.contrast.Contrast.TheVariants as contrast
+use Rattle.trace_report.specs.declared.contrast.LogName.{LogName}
+use Rattle.trace_report.specs.declared.contrast.LogName.TheVariants.{A, B}
+use Rattle.trace_report.specs.declared.row.MessagePlace.{MessagePlace}
+use Rattle.trace_report.specs.declared.row.MessageRole.{MessageRole}
+use Rattle.trace_report.specs.declared.row.MessageRole.TheVariants as is
 
 -- a byte that opens and closes nothing in HTML: printable ASCII, and none of < > " '
 abbrev pub is_harmless : ℕ → Bool
@@ -93,3 +102,39 @@ RowsAroundHaveTheItem = (number : ℕ) (rows : List RowValue)
     → (find (begins_number number) (rows_around number rows) ≡ find (begins_number number) rows)
     × ((front more : List RowValue) × (rows ≡ front ++ (rows_around number rows ++ more)))
     × (list_any begins_exchange (drop 1 (rows_around number rows)) ≡ false)
+
+-- an answer is told as negative exactly where it is a negative response
+abbrev pub NegativeIsNegative : Type 0
+NegativeIsNegative = (asked : ℕ) (d : Dir) (bytes : List ℕ) → (role_of_step asked becomes.Answer d bytes ≡ is.Negative asked) ↔ (is_negative_response bytes ≡ true)
+
+-- the answer to an exchange in this one of two logs
+abbrev pub answer_of : LogName → Option RowMessage → Option RowMessage → Option RowMessage
+answer_of A left right = left
+answer_of B left right = right
+
+-- the log that is said to have no answer to an exchange has none
+abbrev pub UnansweredHasNone : Type 0
+UnansweredHasNone = (left right : Option RowMessage) (log : LogName)
+    → contrast_of_answers left right ≡ Some (contrast.Unanswered log) → answer_of log left right ≡ None
+
+-- a message in its place, but that its first frame came at this time, or its last one
+abbrev pub begun_at : ℕ → MessagePlace → MessagePlace
+begun_at time place = record place { first = record place.first { micros = time } }
+
+abbrev pub ended_at : ℕ → MessagePlace → MessagePlace
+ended_at time place = record place { last = record place.last { micros = time } }
+
+-- the time of a message that is no reply is that of its last frame: when the first one came is not told
+abbrev pub TimeIsOfTheLastFrame : Type 0
+TimeIsOfTheLastFrame = (origin time : ℕ) (is : MessageRole) (d : Dir) (place : MessagePlace) (bytes : List ℕ) → asked_at is ≡ None
+    → message_row origin is d (begun_at time place) bytes ≡ message_row origin is d place bytes
+
+-- a reply came as long after its request as its first frame did, whenever its last one came
+abbrev pub AfterIsToTheFirstFrame : Type 0
+AfterIsToTheFirstFrame = (time count : ℕ) (is : MessageRole) (place : MessagePlace) → note_text is (ended_at time place) count ≡ note_text is place count
+
+-- and after the last request that was complete before, each of which is so with its last frame
+abbrev pub AfterIsFromTheLastFrame : Type 0
+AfterIsFromTheLastFrame = (limit : ℕ) (T : List Entry) (e : Entry)
+    → (completes_request limit T e ≡ true → asked_in limit (T ++ e ∷ []) ≡ e.micros)
+    × (completes_request limit T e ≡ false → asked_in limit (T ++ e ∷ []) ≡ asked_in limit T)

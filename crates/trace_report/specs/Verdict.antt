@@ -86,17 +86,18 @@ empty_words has_no_line =
     if has_no_line then codes " The log is empty: it has no line."
     else codes " Either no line has a frame, or other identifiers are meant: see <code>--tester</code> and <code>--unit</code>."
 
--- what it means that tester and unit look exchanged
-abbrev pub exchanged_words : List ℕ
-exchanged_words =
-    codes " No message is a request, but the tester sent responses, and the unit what is none: see <code>--tester</code> and <code>--unit</code>."
+-- what it means that tester and unit look exchanged, behind what else there is to say
+abbrev pub exchanged_words : Summary → List ℕ
+exchanged_words summary =
+    clause (not (is_clean summary)) (codes " ")
+    ++ codes "No message is a request: the tester sent responses, and the unit messages that are none. See <code>--tester</code> and <code>--unit</code>."
 
 -- what that means for the messages below
 abbrev pub meaning_words : Summary → List ℕ
 meaning_words summary =
     clause (is_partial summary) (codes " Frames are missing, late, out of order or of no legal form. Messages that they belonged to are not below.")
     ++ clause (lacks_line_feed summary) (codes " The log ends inside its last line: it may be cut.")
-    ++ clause (summary.frames == 0) (empty_words (summary.lines == 0)) ++ clause summary.looks_exchanged exchanged_words
+    ++ clause (summary.frames == 0) (empty_words (summary.lines == 0)) ++ clause summary.looks_exchanged (exchanged_words summary)
 
 -- each reason why a log is not called clean: a frame of each side is wanted, all of what they sent, the end of the last
 -- line, and that the sides don't look exchanged

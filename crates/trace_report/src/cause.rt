@@ -1,6 +1,6 @@
 //! Why a log is refused beyond the place, as a hint and a page say it.
-ghost use Rattle.std.specs.Prelude.{◌≡◌, Some};
-ghost use Rattle.trace_report.specs.Causes.{cause_line, row_value};
+ghost use Rattle.std.specs.Prelude.{◌≡◌};
+ghost use Rattle.trace_report.specs.Causes.{row_value};
 ghost use Rattle.trace_report.specs.Causes as Spec;
 ghost use Rattle.trace_run.specs.Seen.{glimpse_value};
 
@@ -139,45 +139,48 @@ impl Part for CauseLine {
 
     fn say<S: TextSink>(self, out: &mut S) {
         match self.0 {
-            Some(cause) => say_cause(cause, out),
+            Some(cause) => say(
+                out,
+                ("<p><b>Cause:</b> ", CauseOf(cause, "this log"), ".</p>\n"),
+            ),
             None => {}
         }
     }
 }
 
-/// Says the line of a cause.
-fn say_cause<S: TextSink>(cause: Cause, out: &mut S)
-    ensures { S.says out.old (cause_line (Some cause)) out.new }
-{
-    say(
-        out,
-        (
-            "<p><b>Cause:</b> ",
-            RowOfThisLog(row_of_cause(cause)),
-            ".</p>\n",
-        ),
-    );
-}
-
-/// What a row says of the log that a page is about.
+/// What is said of a cause, of a log with this name.
 #[derive(Clone, Copy)]
-struct RowOfThisLog(CauseRow);
+pub struct CauseOf<N>(pub Cause, pub N);
 
-impl Part for RowOfThisLog {
-    ghost use Rattle.std.specs.Prelude.{codes};
-    ghost use Rattle.trace_report.specs.Causes.{row_text, row_value};
+impl<N: Part> Part for CauseOf<N> {
+    ghost use Rattle.trace_report.specs.Causes.{cause_text};
 
-    ghost text = { λ row. row_text (row_value row.0) (codes "this log") };
+    ghost text = { λ cause. cause_text cause.0 (N.text cause.1) };
 
     fn say<S: TextSink>(self, out: &mut S) {
-        let row = self.0;
+        let CauseOf(cause, name) = self;
+        say(out, RowOf(row_of_cause(cause), name));
+    }
+}
+
+/// What a row says of a log with this name.
+#[derive(Clone, Copy)]
+struct RowOf<N>(CauseRow, N);
+
+impl<N: Part> Part for RowOf<N> {
+    ghost use Rattle.trace_report.specs.Causes.{row_text, row_value};
+
+    ghost text = { λ row. row_text (row_value row.0) (N.text row.1) };
+
+    fn say<S: TextSink>(self, out: &mut S) {
+        let RowOf(row, name) = self;
         say(
             out,
             (
                 row.before,
                 NumberOf(row.number),
                 row.between,
-                When(row.is_named, "this log "),
+                When(row.is_named, (name, " ")),
                 row.words,
                 "; ",
                 row.command,

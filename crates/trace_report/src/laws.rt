@@ -1,6 +1,6 @@
 //! What holds of a page, whatever log it is of. A law is its contract; a call does nothing.
 
-ghost use Rattle.trace_report.specs.Laws.{AgreesWithCompare, ComparisonIsOfItems, IdentifiersStandOnce, ItemsAreTheMeaning, LettersAreHarmless, LinksHaveTargets, NameIsHarmless, RowsAroundHaveTheItem};
+ghost use Rattle.trace_report.specs.Laws.{AfterIsFromTheLastFrame, AfterIsToTheFirstFrame, AgreesWithCompare, ComparisonIsOfItems, IdentifiersStandOnce, ItemsAreTheMeaning, LettersAreHarmless, LinksHaveTargets, NameIsHarmless, NegativeIsNegative, RowsAroundHaveTheItem, TimeIsOfTheLastFrame, UnansweredHasNone};
 
 /// The name of a log opens and closes nothing on its page.
 pub fn name_is_harmless()
@@ -40,4 +40,19 @@ pub fn agrees_with_compare()
 /// The chart of the first difference shows the item that differs.
 pub fn rows_around_have_the_item()
     ensures { RowsAroundHaveTheItem }
+{}
+
+/// What a page says of answers is so: one is negative exactly where it is a negative response (ISO 14229-1), and the log
+/// that is said to have none has none.
+pub fn answers_are_as_told()
+    ensures negative { NegativeIsNegative }
+    ensures unanswered { UnansweredHasNone }
+{}
+
+/// The time of a message is that of its last frame; how long after its request a reply came goes from the last frame of
+/// the request to the first one of the reply.
+pub fn times_are_as_told()
+    ensures time { TimeIsOfTheLastFrame }
+    ensures after { AfterIsToTheFirstFrame }
+    ensures asked { AfterIsFromTheLastFrame }
 {}

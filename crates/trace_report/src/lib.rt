@@ -9,7 +9,8 @@
 //!
 //! [`report`] is a machine over the driver of `trace_run` (`reporter`). A `follower` knows what the rows to come
 //! depend on: the number of the exchange that waits, how and when its request came, and the `places` where messages
-//! begin. It answers the rows of a frame (`row`). The `chart` says them, in `blocks` that fold, and keeps a `tally` for the verdict.
+//! begin. It answers the rows of a frame (`row`). The `chart` says them, in `blocks` that fold, and keeps a `tally` for
+//! the verdict.
 //!
 //! The text of a page is in pieces: its `front`; the rows of messages (`message_rows`, `brief_rows`) and of what is
 //! missing (`lost_rows`), by `cells` and `words`; the `verdict`, with `reasons`, `links` and `counts`; of a refused log
@@ -72,7 +73,7 @@ mod two;
 mod verdict;
 mod words;
 
-pub use cause::{Cause, CauseRow, cause_of, row_of_cause};
+pub use cause::{Cause, CauseOf, CauseRow, cause_of, row_of_cause};
 pub use keeper::keep_two;
 pub use looks::{Look, look_told};
 pub use pair_page::{PairTitle, write_pair_page};

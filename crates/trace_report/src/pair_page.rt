@@ -219,14 +219,15 @@ fn say_refused_pair<S: TextSink>(
     );
     say_log_letter(log, out);
     say_text(out, " is refused, so nothing is compared</h2>\n<p><em>");
-    say(
+    say(out, Refusal(why));
+    say_text(
         out,
-        (
-            Refusal(why),
-            ".</em> A report of this log alone shows the lines before that.</p>\n",
-            CauseLine(cause),
-            "</section>\n<main id=\"session\">\n<h2>Items</h2>\n<p>Nothing is compared.</p>\n</main>\n",
-            PairHelp,
-        ),
+        ".</em> A report of this log alone shows the lines before that.</p>\n",
     );
+    say(out, CauseLine(cause));
+    say_text(
+        out,
+        "</section>\n<main id=\"session\">\n<h2>Items</h2>\n<p>Nothing is compared.</p>\n</main>\n",
+    );
+    say(out, PairHelp);
 }

@@ -20,8 +20,8 @@ use trace_io::TextSink;
 use trace_log::Summary;
 use trace_text::say::{say_number, say_place, say_text};
 
-/// Says whether two sessions with items of so many numbers are the same, if they have items. In one of them tester and unit
-/// look exchanged, or in none.
+/// Says whether two sessions with items of so many numbers are the same, if they have items, by whether tester and unit
+/// look exchanged in one of them.
 pub(crate) fn say_pair_verdict<S: TextSink>(
     exchanged: bool,
     count: usize,
@@ -185,17 +185,6 @@ fn say_state_start<S: TextSink>(summary: &Summary, out: &mut S)
             "<b>The recording is not clean:</b> ",
         ),
     );
-}
-
-/// Says that the sides of a recording look exchanged, or that it is else not clean.
-fn say_state_start<S: TextSink>(exchanged: bool, out: &mut S)
-    ensures { S.says out.old (state_start exchanged) out.new }
-{
-    if exchanged {
-        say_text(out, "<b>Tester and unit look exchanged:</b> ");
-    } else {
-        say_text(out, "<b>The recording is not clean:</b> ");
-    }
 }
 
 /// Says the counts of a session.

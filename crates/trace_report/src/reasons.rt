@@ -96,7 +96,10 @@ impl<'a> Part for MeaningWords<'a> {
                 ),
                 When(
                     summary.looks_exchanged,
-                    " No message is a request, but the tester sent responses, and the unit what is none: see <code>--tester</code> and <code>--unit</code>.",
+                    (
+                        When(!summary.is_clean(), " "),
+                        "No message is a request: the tester sent responses, and the unit messages that are none. See <code>--tester</code> and <code>--unit</code>.",
+                    ),
                 ),
             ),
         );

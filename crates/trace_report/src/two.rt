@@ -43,7 +43,7 @@ pub(crate) struct Difference<'a> {
 
 impl Two {
     /// Both sessions, which are compared now.
-    pub fn of(left: Session, right: Session) -> Two
+    pub(crate) fn of(left: Session, right: Session) -> Two
         ensures left { result.left ≡ left }
         ensures right { result.right ≡ right }
     {
@@ -53,14 +53,6 @@ impl Two {
             right,
             comparison,
         }
-    }
-
-    /// Both sessions again.
-    pub fn into_sessions(self) -> (Session, Session)
-        ensures { result ≡ (self.left, self.right) }
-    {
-        let Two { left, right, .. } = self;
-        (left, right)
     }
 
     /// The first session.

@@ -80,7 +80,7 @@ impl<'a> Part for Findings<'a> {
         say(
             out,
             (
-                Look(tally),
+                Looks(tally),
                 Counts(&tally.counts, summary),
                 SpanOf(summary.frames, first, last),
                 "</section>\n",
@@ -91,9 +91,9 @@ impl<'a> Part for Findings<'a> {
 
 /// What needs a look, where something does, by its sort.
 #[derive(Clone, Copy)]
-struct Look<'a>(&'a Tally);
+struct Looks<'a>(&'a Tally);
 
-impl<'a> Part for Look<'a> {
+impl<'a> Part for Looks<'a> {
     ghost use Rattle.trace_report.specs.Links.{look_text};
 
     ghost text = { λ look. look_text look.0.now };

@@ -4,7 +4,6 @@ use Rattle.std.specs.Prelude.{if◌then◌else◌}
 use Rattle.std.specs.Fmt.{decimal}
 use Rattle.uds_exchange.specs.Meaning.{ItemValue, exchange, stray}
 use Rattle.uds_message.specs.Message.{sid, is_negative_response, response_code, is_suppressing}
-use Rattle.direction.specs.declared.Dir.{Dir}
 use Rattle.trace_text.specs.declared.item_style.Numbering.{Numbering}
 use Rattle.trace_text.specs.declared.item_style.Numbering.TheVariants.{Shown, Hidden}
 use Rattle.trace_text.specs.Json.{Members, nothing, member, object, object_line, value_text}
@@ -12,7 +11,7 @@ use Rattle.trace_text.specs.Json as json
 use Rattle.trace_text.specs.Words.{bytes_text, direction_text, service_text, code_text}
 use Rattle.trace_text.specs.ListText.{outcome_members, item_members, item_object}
 use Rattle.trace_text.specs.proving.Spelling.{later_then, members_then}
-use Rattle.trace_text.specs.proving.OpenItems.{front_of_item, open_answer, open_item, open_object, open_outcome}
+use Rattle.trace_text.specs.proving.OpenItems.{open_item, open_object, open_outcome}
 use Rattle.trace_text.proofs.JsonTexts.{members_are, line_is}
 use Rattle.trace_text.proofs.JoinedTexts.{four_parts, five_parts}
 

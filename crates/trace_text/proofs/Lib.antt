@@ -9,6 +9,7 @@ pub mod ItemObjects
 pub mod TextWords
 pub mod EqualLists
 pub mod Silence
+pub mod Roles
 pub mod RemarkLines
 pub mod RemarkObjects
 -- what the crates above may cite

@@ -1,16 +1,19 @@
 -- What holds of the texts of lists of items.
-use Rattle.std.specs.Prelude.{◌≡◌, ◌↔◌, ℕ, true, List, ◌++◌, codes, None}
+use Rattle.std.specs.Prelude.{◌≡◌, ◌↔◌, ℕ, Bool, true, false, List, ◌++◌, codes, None}
 use Rattle.std.specs.List.{AllByRecursion}
 use Rattle.can_log.specs.Frame.{AreBytes}
 use Rattle.direction.specs.Dir.{Message}
 use Rattle.uds_message.specs.Message.{is_suppressing}
 use Rattle.uds_exchange.specs.Meaning.{ItemValue, messages_of}
+use Rattle.uds_exchange.specs.declared.step.Step.{Step}
+use Rattle.uds_exchange.specs.declared.step.Step.TheVariants as becomes
 use Rattle.trace_text.specs.Json.{nothing, member}
 use Rattle.trace_text.specs.Json as json
 use Rattle.trace_text.specs.declared.item_style.ItemStyle.{ItemStyle}
 use Rattle.trace_text.specs.declared.item_style.Numbering.TheVariants.{Hidden}
 use Rattle.trace_text.specs.declared.notation.Notation.{Notation}
 use Rattle.trace_text.specs.ListText.{outcome_text, outcome_members, list_text}
+use Rattle.trace_text.specs.Words.{role_text}
 
 -- Without numbers, the list of some items and others is the list of the ones and then that of the others.
 abbrev pub UnnumberedListsJoin : Type 0
@@ -35,3 +38,36 @@ SilenceWasAskedFor = (request : List ℕ) → (outcome_text request None ≡ cod
 abbrev pub SilenceWasAskedForInJson : Type 0
 SilenceWasAskedForInJson = (request : List ℕ)
     → (outcome_members request None ≡ member (codes "outcome") (json.string (codes "silent")) nothing) ↔ (is_suppressing request ≡ true)
+
+-- a message asks
+abbrev pub is_request : Step → Bool
+is_request (becomes.Request service) = true
+is_request becomes.Answer = false
+is_request becomes.Removed = false
+is_request becomes.Hold = false
+is_request becomes.Pass = false
+
+-- it answers
+abbrev pub is_answer : Step → Bool
+is_answer (becomes.Request service) = false
+is_answer becomes.Answer = true
+is_answer becomes.Removed = false
+is_answer becomes.Hold = false
+is_answer becomes.Pass = false
+
+-- it announces an answer; what does none of the three belongs to no exchange
+abbrev pub is_pending : Step → Bool
+is_pending (becomes.Request service) = false
+is_pending becomes.Answer = false
+is_pending becomes.Removed = true
+is_pending becomes.Hold = false
+is_pending becomes.Pass = false
+
+-- no two roles of messages have one text
+abbrev pub RolesDiffer : Type 0
+RolesDiffer = (one other : Step) → role_text one ≡ role_text other
+    → (is_request one ≡ is_request other) × (is_answer one ≡ is_answer other) × (is_pending one ≡ is_pending other)
+
+-- that of an answer is its name
+abbrev pub AnswerIsNamed : Type 0
+AnswerIsNamed = role_text becomes.Answer ≡ codes "answer"

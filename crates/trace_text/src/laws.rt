@@ -1,5 +1,5 @@
 //! What holds of the texts of lists of items.
-ghost use Rattle.trace_text.specs.Laws.{UnnumberedListsJoin, EqualListsHaveEqualTexts, SilenceWasAskedFor, SilenceWasAskedForInJson};
+ghost use Rattle.trace_text.specs.Laws.{UnnumberedListsJoin, EqualListsHaveEqualTexts, SilenceWasAskedFor, SilenceWasAskedForInJson, RolesDiffer, AnswerIsNamed};
 
 /// The lists of items without numbers, one after another, are the list of all: so an item more is a line more, and
 /// changes no other.
@@ -17,4 +17,10 @@ pub fn equal_lists_have_equal_texts()
 pub fn silence_was_asked_for()
     ensures words { SilenceWasAskedFor }
     ensures json { SilenceWasAskedForInJson }
+{}
+
+/// No two roles of messages have one text, and an answer is called `answer`. Messages of no exchange have one role.
+pub fn roles_have_texts()
+    ensures distinct { RolesDiffer }
+    ensures answer { AnswerIsNamed }
 {}

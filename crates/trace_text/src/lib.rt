@@ -2,8 +2,9 @@
 //! JSON.
 //!
 //! All are said to a [`TextSink`](trace_io::TextSink), by parts (`text_parts`; those of numbers, bytes and names are in
-//! `values`) or one after another (`say`). Which text it is, `specs` says, for JSON by the object that is meant. [`say_items`] says the list of a meaning, [`say_remark`] a line that
-//! explains a log; [`laws`] says that equal lists have equal texts, and only they.
+//! `values`) or one after another (`say`). Which text it is, `specs` says, for JSON by the object that is meant.
+//! [`say_items`] says the list of a meaning, [`say_remark`] a line that explains a log; [`laws`] says that equal lists
+//! have equal texts, and only they.
 #![tactic(auto)]
 
 mod digits;

@@ -1,54 +1,59 @@
--- Lines of several parts, and how long they are.
-use Rattle.std.proofs.Common.{◌≡◌, ◌∙◌, ◌+◌, ◌≤◌, ℕ, Bool, true, false, List, [], ◌++◌, length, ap, sym, append_assoc, append-nil, length-append, arith}
+-- How long the lines of faults are, and the parts of one, one after another.
+use Rattle.std.proofs.Common.{◌≡◌, ◌∙◌, ◌+◌, ◌≤◌, ℕ, Bool, true, false, List, ◌++◌, length, ap, append_assoc, length-append, arith}
 use Rattle.std.specs.Prelude.{codes}
 use Rattle.udsnorm.specs.FaultLines.{clause}
 
-joined : (front part rest : List ℕ) → front ++ (part ++ rest) ≡ (front ++ part) ++ rest
-joined front part rest = sym (append_assoc front part rest)
+-- ---- a line with two numbers
 
--- the parts, one after another, are the text of the parts before and behind
-pub is_two_numbers : (front a n b m c : List ℕ) → front ++ (a ++ (n ++ (b ++ (m ++ c)))) ≡ front ++ (a ++ n ++ b ++ m ++ c)
-is_two_numbers front a n b m c =
-    ap (λ text. front ++ text)
-    (sym (append_assoc a n (b ++ (m ++ c))) ∙ sym (append_assoc (a ++ n) b (m ++ c)) ∙ sym (append_assoc (a ++ n ++ b) m c))
-
--- so are nine parts of a hint
-pub is_nine_parts : (a b c d e f g h i : List ℕ) → a ++ (b ++ (c ++ (d ++ (e ++ (f ++ (g ++ (h ++ (i ++ [])))))))) ≡ a ++ b ++ c ++ d ++ e ++ f ++ g ++ h ++ i
-is_nine_parts a b c d e f g h i =
-    joined a b (c ++ (d ++ (e ++ (f ++ (g ++ (h ++ (i ++ [])))))))
-    ∙ joined (a ++ b) c (d ++ (e ++ (f ++ (g ++ (h ++ (i ++ []))))))
-    ∙ joined (a ++ b ++ c) d (e ++ (f ++ (g ++ (h ++ (i ++ [])))))
-    ∙ joined (a ++ b ++ c ++ d) e (f ++ (g ++ (h ++ (i ++ []))))
-    ∙ joined (a ++ b ++ c ++ d ++ e) f (g ++ (h ++ (i ++ [])))
-    ∙ joined (a ++ b ++ c ++ d ++ e ++ f) g (h ++ (i ++ []))
-    ∙ joined (a ++ b ++ c ++ d ++ e ++ f ++ g) h (i ++ [])
-    ∙ joined (a ++ b ++ c ++ d ++ e ++ f ++ g ++ h) i []
-    ∙ append-nil (a ++ b ++ c ++ d ++ e ++ f ++ g ++ h ++ i)
-
--- and are together as long as each of them
-pub length_of_two_numbers : (front a n b m c : List ℕ)
-    → length (front ++ (a ++ (n ++ (b ++ (m ++ c))))) ≡ length front + (length a + (length n + (length b + (length m + length c))))
-length_of_two_numbers front a n b m c =
+pub two_numbers_fit : (log a n b m c : List ℕ) → length log ≤ 7 → length n ≤ 20 → length m ≤ 10 → length a + length b + length c ≤ 168 → length (log ++ (a ++ n ++ b ++ m ++ c)) ≤ 205
+two_numbers_fit log a n b m c l first second words =
     omega (
       arith,
-      length-append front (a ++ (n ++ (b ++ (m ++ c)))),
-      length-append a (n ++ (b ++ (m ++ c))),
-      length-append n (b ++ (m ++ c)),
-      length-append b (m ++ c),
-      length-append m c,
+      l,
+      first,
+      second,
+      words,
+      length-append log (a ++ n ++ b ++ m ++ c),
+      length-append (a ++ n ++ b ++ m) c,
+      length-append (a ++ n ++ b) m,
+      length-append (a ++ n) b,
+      length-append a n,
     )
 
 -- ---- the line of a log that is not clean
-
-pub clause_is_short : (holds : Bool) (text : List ℕ) → length (clause holds text) ≤ length text
-clause_is_short true text = omega arith
-clause_is_short false text = omega arith
 
 -- the line of these numbers and clauses
 abbrev pub unclean_text : (frames dropped ended unfinished tester unit feed : List ℕ) → List ℕ
 unclean_text frames dropped ended unfinished tester unit feed =
     codes "not clean: frames " ++ (frames ++ (codes " dropped " ++ (dropped ++ (codes " ended " ++ (ended ++ (codes " unfinished " ++ (unfinished
     ++ (tester ++ (unit ++ (feed ++ codes "\n"))))))))))
+
+-- eight parts and then others are these, each before all that follow
+eight_parts : (a b c d e f g h rest : List ℕ) → (a ++ b ++ c ++ d ++ e ++ f ++ g ++ h) ++ rest ≡ a ++ (b ++ (c ++ (d ++ (e ++ (f ++ (g ++ (h ++ rest)))))))
+eight_parts a b c d e f g h rest =
+    append_assoc (a ++ b ++ c ++ d ++ e ++ f ++ g) h rest
+    ∙ append_assoc (a ++ b ++ c ++ d ++ e ++ f) g (h ++ rest)
+    ∙ append_assoc (a ++ b ++ c ++ d ++ e) f (g ++ (h ++ rest))
+    ∙ append_assoc (a ++ b ++ c ++ d) e (f ++ (g ++ (h ++ rest)))
+    ∙ append_assoc (a ++ b ++ c) d (e ++ (f ++ (g ++ (h ++ rest))))
+    ∙ append_assoc (a ++ b) c (d ++ (e ++ (f ++ (g ++ (h ++ rest)))))
+    ∙ append_assoc a b (c ++ (d ++ (e ++ (f ++ (g ++ (h ++ rest))))))
+
+four_parts : (a b c d : List ℕ) → a ++ b ++ c ++ d ≡ a ++ (b ++ (c ++ d))
+four_parts a b c d = append_assoc (a ++ b) c d ∙ append_assoc a b (c ++ d)
+
+-- what was lost, and then what is lacking, is the line
+pub are_unclean_text : (frames dropped ended unfinished tester unit feed : List ℕ)
+    → (codes "not clean: frames " ++ frames ++ codes " dropped " ++ dropped ++ codes " ended " ++ ended ++ codes " unfinished " ++ unfinished) ++ (tester ++ unit ++ feed ++ codes "\n")
+    ≡ unclean_text frames dropped ended unfinished tester unit feed
+are_unclean_text frames dropped ended unfinished tester unit feed =
+    ap (λ (rest : List ℕ). (codes "not clean: frames " ++ frames ++ codes " dropped " ++ dropped ++ codes " ended " ++ ended ++ codes " unfinished " ++ unfinished) ++ rest)
+    (four_parts tester unit feed (codes "\n"))
+    ∙ eight_parts (codes "not clean: frames ") frames (codes " dropped ") dropped (codes " ended ") ended (codes " unfinished ") unfinished (tester ++ (unit ++ (feed ++ codes "\n")))
+
+pub clause_is_short : (holds : Bool) (text : List ℕ) → length (clause holds text) ≤ length text
+clause_is_short true text = omega arith
+clause_is_short false text = omega arith
 
 longer : (xs ys : List ℕ) (m n : ℕ) → length xs ≤ m → length ys ≤ n → length (xs ++ ys) ≤ m + n
 longer xs ys m n first second = omega (arith, length-append xs ys)

@@ -1,6 +1,5 @@
 -- Devices of proof, apart from the definitions that the promises are made of.
 pub mod Flushed
 pub mod Pairs
-pub mod Parts
-pub mod Pieces
 pub mod Rows
+pub mod Sinks

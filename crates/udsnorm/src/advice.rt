@@ -1,15 +1,16 @@
 //! What to write instead of words that ask for nothing.
 
-ghost use Rattle.std.specs.Prelude.{◌≡◌, ◌++◌, IfOk, OnOk, map, option_map, string_bytes};
+ghost use Rattle.std.specs.Prelude.{◌≡◌, IfOk, map, option_map, string_bytes};
 ghost use Rattle.clap.specs.Words.{found_of, rows_of, subcommand_rows_of};
-ghost use Rattle.udsnorm.specs.Advice.{IsAdviceFor, IsOfCommand, IsOfFiles, IsOfFirst, IsOfWords, behind_prefix, file_line, files_line, given_line, is_of_bus, is_spelled, line_of_word, value_line, values_line, what_to_write};
+ghost use Rattle.udsnorm.specs.Advice.{IsAdviceFor, IsOfCommand, IsOfFiles, IsOfFirst, IsOfWords, behind_prefix, file_line, files_line, given_line, is_of_bus, is_spelled, line_of_word, value_line, values_line};
 ghost use Rattle.udsnorm.specs.Commands.{command_in, words_or_normalise};
 ghost use Rattle.udsnorm.specs.Identifiers.{identifier_of};
 
 use crate::commands::{COMMANDS, TESTER, UNIT, USUAL_TESTER, USUAL_UNIT};
-use crate::hints::{Piece, line_of, push_piece};
 use crate::identifiers::{are_digits, identifier};
 use crate::job::WordsFault;
+use crate::names::Quoted;
+use crate::text::line_in;
 use crate::values::text_of;
 use crate::words::found;
 use can_log::Id;
@@ -17,6 +18,8 @@ use clap::ArgMatches;
 use std::alloc::{AllocError, Global};
 use std::fs;
 use std::rt::Files;
+use text_parts::{Part, say};
+use trace_io::TextSink;
 use trace_log::ConfigFault;
 
 /// What is said of a limit that there is not.
@@ -48,9 +51,7 @@ pub(crate) fn advice_for<R: AllocGlobal + Files>(
         WordsFault::Identifier | WordsFault::Config(ConfigFault::IdRange | ConfigFault::SameId) => {
             advice_for_values(alloc, words)
         }
-        WordsFault::Config(ConfigFault::LimitRange) => {
-            line_of(alloc, &[Piece::Words(OF_THE_LIMIT)])
-        }
+        WordsFault::Config(ConfigFault::LimitRange) => line_in(alloc, OF_THE_LIMIT),
         WordsFault::Help(_) | WordsFault::Memory => Ok(Vec::new(alloc)),
     }
 }
@@ -74,7 +75,7 @@ fn advice_for_first<R: AllocGlobal + Files>(
     ensures { IfOk result (λ line. IsOfFirst (line_of_word word.now) word.now (map string_bytes rest.now) line.items) }
 {
     match line_of_word(word) {
-        Some(line) => line_of(rt.alloc(), &[Piece::Words(line)]),
+        Some(line) => line_in(rt.alloc(), line),
         None => advice_for_files(rt, word, rest),
     }
 }
@@ -131,16 +132,10 @@ fn is_command(word: &str) -> bool {
 fn file_line(alloc: Global, name: &str) -> Result<Vec<u8>, AllocError>
     ensures { IfOk result (λ line. line.items ≡ file_line name.entry.now) }
 {
-    let name = Piece::Quoted(name.as_bytes());
-    line_of(
+    let name = Quoted(name.as_bytes());
+    line_in(
         alloc,
-        &[
-            Piece::Words("hint: "),
-            name,
-            Piece::Words(" is a file: udsnorm list "),
-            name,
-            Piece::Words("\n"),
-        ],
+        ("hint: ", name, " is a file: udsnorm list ", name, "\n"),
     )
 }
 
@@ -148,21 +143,21 @@ fn file_line(alloc: Global, name: &str) -> Result<Vec<u8>, AllocError>
 fn files_line<'a>(alloc: Global, one: &'a str, other: &'a str) -> Result<Vec<u8>, AllocError>
     ensures { IfOk result (λ line. line.items ≡ files_line one.entry.now other.entry.now) }
 {
-    let one = Piece::Quoted(one.as_bytes());
-    let other = Piece::Quoted(other.as_bytes());
-    line_of(
+    let one = Quoted(one.as_bytes());
+    let other = Quoted(other.as_bytes());
+    line_in(
         alloc,
-        &[
-            Piece::Words("hint: "),
+        (
+            "hint: ",
             one,
-            Piece::Words(" and "),
+            " and ",
             other,
-            Piece::Words(" are files: udsnorm compare "),
+            " are files: udsnorm compare ",
             one,
-            Piece::Words(" "),
+            " ",
             other,
-            Piece::Words("\n"),
-        ],
+            "\n",
+        ),
     )
 }
 
@@ -206,15 +201,15 @@ fn values_line<'a>(alloc: Global, tester: &'a str, unit: &'a str) -> Result<Vec<
     if !is_of_bus(identifier(unit)) {
         return value_line(alloc, "--unit", unit);
     }
-    line_of(
+    line_in(
         alloc,
-        &[
-            Piece::Words("hint: --tester is "),
-            Piece::Quoted(tester.as_bytes()),
-            Piece::Words(", --unit "),
-            Piece::Quoted(unit.as_bytes()),
-            Piece::Words("\n"),
-        ],
+        (
+            "hint: --tester is ",
+            Quoted(tester.as_bytes()),
+            ", --unit ",
+            Quoted(unit.as_bytes()),
+            "\n",
+        ),
     )
 }
 
@@ -233,30 +228,34 @@ fn is_of_bus(id: Option<Id>) -> bool
 fn value_line(alloc: Global, option: &'static str, value: &str) -> Result<Vec<u8>, AllocError>
     ensures { IfOk result (λ line. line.items ≡ value_line option.now value.entry.now) }
 {
-    let mut line = line_of(
+    let value = value.as_bytes();
+    line_in(
         alloc,
-        &[
-            Piece::Words("hint: "),
-            Piece::Words(option),
-            Piece::Words(" is "),
-            Piece::Quoted(value.as_bytes()),
-        ],
-    )?;
-    push_what_to_write(&mut line, behind_prefix(value.as_bytes()))?;
-    Ok(line)
+        (
+            "hint: ",
+            option,
+            " is ",
+            Quoted(value),
+            WhatToWrite(behind_prefix(value)),
+        ),
+    )
 }
 
-/// Puts at the end of the line what to write, where that are these digits.
-fn push_what_to_write(line: &mut Vec<u8>, digits: Option<&[u8]>) -> Result<(), AllocError>
-    ensures { OnOk result (line.new.items ≡ line.old.items ++ what_to_write (option_map (λ t. t.now) digits.entry)) }
-{
-    match digits {
-        Some(digits) => {
-            push_piece(line, Piece::Words("; write "))?;
-            push_piece(line, Piece::Quoted(digits))?;
-            push_piece(line, Piece::Words("\n"))
+/// What to write instead of a value, where that are these digits.
+#[derive(Clone, Copy)]
+struct WhatToWrite<'a>(Option<&'a [u8]>);
+
+impl<'a> Part for WhatToWrite<'a> {
+    ghost use Rattle.std.specs.Prelude.{option_map};
+    ghost use Rattle.udsnorm.specs.Advice.{what_to_write};
+
+    ghost text = { λ digits. what_to_write (option_map (λ t. t.now) digits.0) };
+
+    fn say<S: TextSink>(self, out: &mut S) {
+        match self.0 {
+            Some(digits) => say(out, ("; write ", Quoted(digits), "\n")),
+            None => say(out, OF_AN_IDENTIFIER),
         }
-        None => push_piece(line, Piece::Words(OF_AN_IDENTIFIER)),
     }
 }
 

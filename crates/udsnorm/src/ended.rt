@@ -12,7 +12,8 @@ use crate::opening::OpenFault;
 use crate::pair_jobs::PairAnswer;
 use can_log::Id;
 use std::fs::OpenFile;
-use trace_io::Target;
+use std::io::Read;
+use trace_io::{Source, Target};
 use trace_log::{CompareFault, Config, Fault, Summary};
 use trace_report::{Cause, cause_of};
 use trace_run::Glimpse;
@@ -107,7 +108,7 @@ pub(crate) fn unopened(which: Which, fault: OpenFault) -> Option<Known>
 }
 
 /// What is known of standard input, by what a job over it came to.
-pub(crate) fn known_of_input<I, W: Target>(
+pub(crate) fn known_of_input<I: Read, W: Target>(
     job: Job,
     config: &Config,
     outcome: Result<Summary, Fault>,
@@ -123,7 +124,7 @@ pub(crate) fn known_of_input<I, W: Target>(
 }
 
 /// What is known of the log of a file, by what a job over it came to.
-pub(crate) fn known_of_file<F: OpenFile + Drop, W: Target>(
+pub(crate) fn known_of_file<F: OpenFile + Read + Drop, W: Target>(
     job: Job,
     config: &Config,
     outcome: Result<Summary, Fault>,
@@ -214,7 +215,7 @@ fn known_of_pairs<W: Target>(summary: &Summary, out: &W) -> Option<Known>
 }
 
 /// What is known of one of two logs of files, by what a job over them came to.
-pub(crate) fn known_of_files<F: OpenFile + Drop>(
+pub(crate) fn known_of_files<F: OpenFile + Read + Drop>(
     config: &Config,
     answer: Option<Result<PairAnswer, CompareFault>>,
     left: Noticing<F>,
@@ -243,7 +244,7 @@ fn known_of_pair(config: &Config, pair: &PairAnswer) -> Option<Known>
 }
 
 /// What is known of the log of a file, by the fault of a run over it.
-fn known_of_fault<F: OpenFile + Drop>(
+fn known_of_fault<F: OpenFile + Read + Drop>(
     which: Which,
     config: &Config,
     fault: Fault,
@@ -271,7 +272,12 @@ fn why_unread<F: OpenFile>(log: &F) -> Matter
 }
 
 /// What is known of a log, by the fault of a run over it.
-fn known_of<R>(which: Which, config: &Config, fault: Fault, log: &Noticing<R>) -> Option<Known>
+fn known_of<R: Read>(
+    which: Which,
+    config: &Config,
+    fault: Fault,
+    log: &Noticing<R>,
+) -> Option<Known>
     ensures { IsKnownByFault which config.now log.now.given log.now.is_over fault result }
 {
     match fault {
@@ -287,7 +293,7 @@ fn known_of<R>(which: Which, config: &Config, fault: Fault, log: &Noticing<R>) -
 }
 
 /// What is known of a log that is refused: the cause.
-fn known_of_refused<R>(
+fn known_of_refused<R: Read>(
     which: Which,
     config: &Config,
     fault: Fault,

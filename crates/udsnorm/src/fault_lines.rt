@@ -1,12 +1,14 @@
 //! What is told of each fault. The faults display the same texts, but no contract says which text a fault displays.
 
 ghost use Rattle.std.specs.Prelude.{◌≡◌, ◌≤◌, ◌++◌, length};
-ghost use Rattle.udsnorm.specs.FaultLines.{clause, config_line, fault_line, lacks_line_feed, side_line, unclean_line, unclean_side, words_text};
-ghost use Rattle.udsnorm.specs.proving.Parts.{part_text};
+ghost use Rattle.std.specs.Fmt.{decimal};
+ghost use Rattle.udsnorm.specs.FaultLines.{config_line, fault_line, lacks_line_feed, side_line, unclean_line, unclean_side, words_text};
 
 use crate::job::WordsFault;
-use crate::text::{Line, Part, line_of};
+use crate::text::{Line, line_of};
+use text_parts::When;
 use trace_log::{CompareFault, ConfigFault, Fault, Summary};
+use trace_text::Number;
 
 /// The line of a fault.
 pub(crate) fn fault_line(fault: Fault) -> Line
@@ -30,29 +32,32 @@ fn line_after(log: &'static str, fault: Fault) -> Line
     requires { length log.now ≤ 7 }
     ensures { result.items ≡ log.now ++ fault_line fault }
 {
-    let log = Part::Text(log);
     match fault {
-        Fault::BadLine { line, column } => line_of(&[
-            log,
-            Part::Text("line "),
-            Part::Number(line as u128),
-            Part::Text(" column "),
-            Part::Number(column as u128),
-            Part::Text(": not a log line\n"),
-        ]),
-        Fault::Oversize { line, announced } => line_of(&[
-            log,
-            Part::Text("line "),
-            Part::Number(line as u128),
-            Part::Text(": "),
-            Part::Number(announced as u128),
-            Part::Text(" bytes announced, the limit is 1048575\n"),
-        ]),
-        Fault::LogLimit => line_of(&[log, Part::Text("log longer than the limit\n")]),
-        Fault::OutputLimit => line_of(&[log, Part::Text("canonical log longer than the limit\n")]),
-        Fault::Read => line_of(&[log, Part::Text("read failed\n")]),
-        Fault::Write => line_of(&[log, Part::Text("write failed\n")]),
-        Fault::Memory => line_of(&[log, Part::Text("out of memory\n")]),
+        Fault::BadLine { line, column } => {
+            let place = (
+                "line ",
+                Number(line),
+                " column ",
+                Number(u64::from(column)),
+                ": not a log line\n",
+            );
+            line_of((log, place))
+        }
+        Fault::Oversize { line, announced } => {
+            let announcement = (
+                "line ",
+                Number(line),
+                ": ",
+                Number(u64::from(announced)),
+                " bytes announced, the limit is 1048575\n",
+            );
+            line_of((log, announcement))
+        }
+        Fault::LogLimit => line_of((log, "log longer than the limit\n")),
+        Fault::OutputLimit => line_of((log, "canonical log longer than the limit\n")),
+        Fault::Read => line_of((log, "read failed\n")),
+        Fault::Write => line_of((log, "write failed\n")),
+        Fault::Memory => line_of((log, "out of memory\n")),
     }
 }
 
@@ -61,21 +66,31 @@ pub(crate) fn unclean_line(log: &'static str, summary: &Summary) -> Line
     requires { length log.now ≤ 7 }
     ensures { result.items ≡ log.now ++ unclean_line summary.now }
 {
-    line_of(&[
-        Part::Text(log),
-        Part::Text("not clean: frames "),
-        Part::Number(summary.frames as u128),
-        Part::Text(" dropped "),
-        Part::Number(summary.dropped as u128),
-        Part::Text(" ended "),
-        Part::Number(summary.ended as u128),
-        Part::Text(" unfinished "),
-        Part::Number(summary.unfinished as u128),
-        clause(summary.tester_frames == 0, ", no frame of the tester"),
-        clause(summary.unit_frames == 0, ", no frame of the unit"),
-        clause(lacks_line_feed(summary), ", no line feed at the end"),
-        Part::Text("\n"),
-    ])
+    let lost = (
+        "not clean: frames ",
+        count(summary.frames),
+        " dropped ",
+        count(summary.dropped),
+        " ended ",
+        count(summary.ended),
+        " unfinished ",
+        count(summary.unfinished),
+    );
+    let lacking = (
+        When(summary.tester_frames == 0, ", no frame of the tester"),
+        When(summary.unit_frames == 0, ", no frame of the unit"),
+        When(lacks_line_feed(summary), ", no line feed at the end"),
+        "\n",
+    );
+    line_of((log, (lost, lacking)))
+}
+
+/// A count, which has twenty digits at most.
+fn count(number: u64) -> Number
+    ensures same { result.0 ≡ number }
+    ensures short { length (decimal result.0) ≤ 20 }
+{
+    Number(number)
 }
 
 /// The line of one of two logs, which names the log; it is empty where that is clean.
@@ -95,13 +110,6 @@ fn lacks_line_feed(summary: &Summary) -> bool
     ensures { result ≡ lacks_line_feed summary.now }
 {
     summary.lines > 0 && !summary.ends_in_line_feed
-}
-
-/// A clause of a line, where it is so.
-fn clause(holds: bool, text: &'static str) -> Part
-    ensures { part_text result ≡ clause holds text.now }
-{
-    Part::Text(if holds { text } else { "" })
 }
 
 /// The text of words that ask for nothing: the parser's, which ends with a line feed, or a line.

@@ -1,6 +1,6 @@
-//! A reader that keeps the first bytes that it gave, for a hint.
+//! A reader that keeps the first bytes that it gave, for the cause of a refusal.
 
-ghost use Rattle.std.specs.Prelude.{◌≡◌, ◌+◌, ◌≤◌, ◌==◌, ◌&&◌, nat_lt, [], ◌++◌, false, length, take};
+ghost use Rattle.std.specs.Prelude.{◌≡◌, ◌+◌, ◌≤◌, [], ◌++◌, false, length, take};
 ghost use Rattle.arrayvec.specs.ArrayVec.{array_vec_len};
 ghost use Rattle.udsnorm.specs.declared.noticing.TheConstants.{KEPT};
 
@@ -12,12 +12,11 @@ use trace_io::{DeviceFault, Reading, Source};
 /// How many bytes are kept.
 pub(crate) const KEPT: usize = 16;
 
-/// A [`Reading`] that keeps the first bytes that it gave, and knows whether it is over.
+/// A [`Reading`] that keeps the first bytes that it gave.
 #[derive(Drop)]
 pub struct Noticing<R> {
     reading: Reading<R>,
     first: ArrayVec<u8, KEPT>,
-    is_over: bool,
 }
 
 impl<R> Model for Noticing<R> {
@@ -29,7 +28,7 @@ impl<R> Model for Noticing<R> {
 
     ghost view = { λ n. n.reading };
 
-    ghost invariant = { λ n. (n.first.items ≡ take KEPT n.reading.given) × (n.is_over ≡ n.reading.is_over) };
+    ghost invariant = { λ n. n.first.items ≡ take KEPT n.reading.given };
 }
 
 impl<R> Noticing<R> {
@@ -40,7 +39,6 @@ impl<R> Noticing<R> {
         Noticing {
             reading: Reading::new(inner),
             first: ArrayVec::new(),
-            is_over: false,
         }
     }
 
@@ -50,20 +48,6 @@ impl<R> Noticing<R> {
     {
         let Noticing { reading, .. } = self;
         reading.into_inner()
-    }
-
-    /// The first bytes that it gave.
-    pub(crate) fn first(&self) -> &[u8]
-        ensures { result.now ≡ take KEPT self.now.given }
-    {
-        self.first.as_slice()
-    }
-
-    /// Whether the last read had room and gave nothing: that is the end.
-    pub(crate) fn has_ended(&self) -> bool
-        ensures { result ≡ self.now.is_over }
-    {
-        self.is_over
     }
 }
 
@@ -84,17 +68,9 @@ impl<R: Read> Source for Noticing<R> {
     ghost failures = { λ n. n.failures };
 
     fn read(&mut self, buf: &mut [u8]) -> Result<usize, DeviceFault> {
-        match self.reading.read(buf) {
-            Ok(n) => {
-                self.is_over = is_end(n, buf);
-                keep(&mut self.first, &buf[..n]);
-                Ok(n)
-            }
-            Err(fault) => {
-                self.is_over = false;
-                Err(fault)
-            }
-        }
+        let n = self.reading.read(buf)?;
+        keep(&mut self.first, &buf[..n]);
+        Ok(n)
     }
 
     fn first(&self) -> &[u8] {
@@ -102,7 +78,7 @@ impl<R: Read> Source for Noticing<R> {
     }
 
     fn has_ended(&self) -> bool {
-        self.is_over
+        self.reading.has_ended()
     }
 
     fn reads(&self) -> u64 {
@@ -116,13 +92,6 @@ impl<R: Read> Source for Noticing<R> {
     fn failures(&self) -> u64 {
         self.reading.failures()
     }
-}
-
-/// Whether a read into these bytes that gave so many is at the end.
-fn is_end(given: usize, buf: &[u8]) -> bool
-    ensures { result ≡ (given == 0 && nat_lt 0 (length buf.now)) }
-{
-    given == 0 && !buf.is_empty()
 }
 
 /// Puts bytes behind the first ones, as long as there is room.

@@ -1,55 +1,87 @@
-//! Lines of text, made without memory.
+//! Lines of text, said by their parts: without memory, where a fault is told, and in memory.
 
-ghost use Rattle.std.specs.Prelude.{◌≡◌, ◌+◌, ◌≤◌, ◌++◌, length};
-ghost use Rattle.arrayvec.specs.ArrayVec.{array_vec_len};
-ghost use Rattle.udsnorm.specs.proving.Parts.{part_text, parts_text};
+ghost use Rattle.std.specs.Prelude.{◌≡◌, ◌≤◌, IfOk, length};
 ghost use Rattle.udsnorm.specs.declared.text.TheConstants.{LONGEST_LINE};
 
 use arrayvec::ArrayVec;
-use itoa::Buffer;
+use std::alloc::{AllocError, Global};
+use text_parts::{Part, say};
+use trace_io::TextSink;
 
 /// The length of the longest line: the right one of two logs is not clean in any way, with the largest counts.
 pub(crate) const LONGEST_LINE: usize = 205;
 
-/// A line as it is made.
+/// A line without memory.
 pub(crate) type Line = ArrayVec<u8, LONGEST_LINE>;
 
-/// A part of a line.
-#[derive(Clone, Copy)]
-pub(crate) enum Part {
-    /// The text as it is.
-    Text(&'static str),
-    /// The number in decimal.
-    Number(u128),
+/// The line of this text.
+pub(crate) fn line_of<P: Part>(part: P) -> Line
+    requires { length (P.text part) ≤ LONGEST_LINE }
+    ensures { result.items ≡ P.text part }
+{
+    let mut sink = LineSink { line: Line::new() };
+    say(&mut sink, part);
+    sink.line
 }
 
-/// The line of these parts, one after another.
-pub(crate) fn line_of(parts: &[Part]) -> Line
-    requires { length (parts_text parts.now) ≤ LONGEST_LINE }
-    ensures { result.items ≡ parts_text parts.now }
+/// The line of this text in memory.
+pub(crate) fn line_in<P: Part>(alloc: Global, part: P) -> Result<Vec<u8>, AllocError>
+    ensures { IfOk result (λ line. line.items ≡ P.text part) }
 {
-    let mut line = Line::new();
-    'parts: for part in parts {
-        push_part(&mut line, *part);
+    let mut sink = MemorySink {
+        line: Vec::new(alloc),
+        is_refused: false,
+    };
+    say(&mut sink, part);
+    if sink.is_refused {
+        return Err(AllocError);
     }
-    line
+    Ok(sink.line)
 }
 
-/// Puts a part at the end of the line.
-fn push_part(line: &mut Line, part: Part)
-    requires { array_vec_len line.old + length (part_text part) ≤ LONGEST_LINE }
-    ensures { line.new.items ≡ line.old.items ++ part_text part }
-{
-    match part {
-        Part::Text(text) => push_text(line, text),
-        Part::Number(number) => push_text(line, Buffer::new().format(number)),
+/// A line that is made without memory. What has no room there is left out.
+#[derive(Drop)]
+struct LineSink {
+    line: Line,
+}
+
+impl TextSink for LineSink {
+    ghost use Rattle.udsnorm.specs.declared.text.TheConstants.{LONGEST_LINE};
+    ghost use Rattle.udsnorm.specs.proving.Sinks.{TookWithin, took_nothing_within, took_onward_within};
+
+    ghost says = { λ old text new. TookWithin LONGEST_LINE old.line.items text new.line.items };
+
+    ghost nothing = { λ s. took_nothing_within LONGEST_LINE s.line.items };
+
+    ghost onward = { λ s m t a b one two. took_onward_within LONGEST_LINE s.line.items m.line.items t.line.items a b one two };
+
+    fn put(&mut self, text: &[u8]) {
+        let _ = self.line.try_extend_from_slice(text);
     }
 }
 
-/// Puts a text at the end of the line.
-fn push_text(line: &mut Line, text: &str)
-    requires { array_vec_len line.old + length text.now ≤ LONGEST_LINE }
-    ensures { line.new.items ≡ line.old.items ++ text.now }
-{
-    line.try_extend_from_slice(text.as_bytes()).unwrap()
+/// A line that is made in memory, and whether that was refused.
+#[derive(Drop)]
+struct MemorySink {
+    line: Vec<u8>,
+    is_refused: bool,
+}
+
+impl TextSink for MemorySink {
+    ghost use Rattle.udsnorm.specs.proving.Sinks.{TookUnlessRefused, took_nothing_yet, took_onward_unless_refused};
+
+    ghost says = { λ old text new. TookUnlessRefused old.is_refused old.line.items text new.is_refused new.line.items };
+
+    ghost nothing = { λ s. took_nothing_yet s.is_refused s.line.items };
+
+    ghost onward = { λ s m t a b one two. took_onward_unless_refused s.is_refused m.is_refused t.is_refused s.line.items m.line.items t.line.items a b one two };
+
+    fn put(&mut self, text: &[u8]) {
+        if self.is_refused {
+            return;
+        }
+        if let Err(_refused) = self.line.extend_from_slice(text) {
+            self.is_refused = true;
+        }
+    }
 }

@@ -1,6 +1,6 @@
--- What is told of two logs: how they compare, and whether both are clean.
+-- What is told of two logs: how they compare, whether both are clean, and whether the sides of one look exchanged.
 use Rattle.std.proofs.Common.{◌≡◌, ◌⊎◌, ℕ, Bool, true, List, Result, Ok, Err, refl, ap, sym, subst, ◌∙◌, inl, inr}
-use Rattle.std.specs.Prelude.{◌&&◌}
+use Rattle.std.specs.Prelude.{◌&&◌, ◌||◌}
 use Rattle.std.proofs.lemmas.Bool.{and_parts}
 use Rattle.isotp_receive.specs.declared.TheConstants.{MESSAGE_LIMIT}
 use Rattle.trace_canon.specs.Compared.{Compares}
@@ -22,7 +22,7 @@ use Rattle.udsnorm_c.specs.Laws.{CleanCompareIsRecorded, CleanReportPairIsRecord
 use Rattle.udsnorm_c.proofs.Recorded.{AreCountsOf, flag_set, of_accepted, one_count, recorded}
 use Rattle.udsnorm_c.proofs.Unput.{has_no_text, never_clean, never_put, of_no_page, of_refusal, of_side, so_has}
 
--- The answer says how two logs compare, and whether both are clean.
+-- The answer says how two logs compare, whether both are clean, and whether the sides of one look exchanged.
 record SaysOfTwo (settings : Settings) (left right : List ℕ) (comparison : Comparison) (answer : UdsnormAnswer) : Type 0 where
   one : Summary
   other : Summary
@@ -30,6 +30,7 @@ record SaysOfTwo (settings : Settings) (left right : List ℕ) (comparison : Com
   of_right : AreCountsOf settings right other
   item : answer.item ≡ first_item comparison
   clean : answer.clean ≡ flag (is_clean one && is_clean other)
+  exchanged : answer.exchanged ≡ flag (one.looks_exchanged || other.looks_exchanged)
 
 -- what is said of two logs that compare so
 abbrev ComparedSo : Settings → List ℕ → List ℕ → UdsnormAnswer → Type 0
@@ -55,6 +56,7 @@ compared_under settings left right answer (Ok counted) (compared, compares, coun
         of_right = subst (λ (c : CountedComparison). AreCountsOf settings right c.right) (sym counts) (of_accepted settings right compared.right.meaning compared.right.summary compares.1);
         item = ap (λ (a : UdsnormAnswer). a.item) says ∙ ap (λ (c : CountedComparison). first_item c.comparison) counts;
         clean = ap (λ (a : UdsnormAnswer). a.clean) says;
+        exchanged = ap (λ (a : UdsnormAnswer). a.exchanged) says;
       },
     )
 compared_under settings left right answer (Err fault) why says = inl (so_has answer _ says (of_side fault))
@@ -82,6 +84,7 @@ held_under settings left_name right_name left right old new answer (style, Ok pa
         of_right = subst (λ (c : CountedComparison). AreCountsOf settings right c.right) (sym counts) (of_held settings right held.right holds.1);
         item = ap (λ (a : UdsnormAnswer). a.item) says ∙ ap (λ (c : CountedComparison). first_item c.comparison) counts;
         clean = ap (λ (a : UdsnormAnswer). a.clean) says;
+        exchanged = ap (λ (a : UdsnormAnswer). a.exchanged) says;
       },
     )
 held_under settings left_name right_name left right old new answer (style, Err why, none, (same, says)) = inl (so_has answer _ says (of_no_page why))
@@ -119,13 +122,16 @@ clean_report_pair has_both_sides tester unit max_bytes left_name right_name left
 -- ---- a page says what comparing does
 
 say_the_same : (settings : Settings) (left right : List ℕ) (one other : Comparison) (page compared : UdsnormAnswer) → one ≡ other
-    → SaysOfTwo settings left right one page → SaysOfTwo settings left right other compared → (page.item ≡ compared.item) × (page.clean ≡ compared.clean)
+    → SaysOfTwo settings left right one page → SaysOfTwo settings left right other compared
+    → (page.item ≡ compared.item) × (page.clean ≡ compared.clean) × (page.exchanged ≡ compared.exchanged)
 say_the_same settings left right one other page compared same of_page of_compared =
     let of_left = one_count settings left of_page.one of_compared.one of_page.of_left of_compared.of_left in
     let of_right = one_count settings right of_page.other of_compared.other of_page.of_right of_compared.of_right in (
       of_page.item ∙ ap first_item same ∙ sym of_compared.item,
       of_page.clean ∙ ap (λ (s : Summary). flag (is_clean s && is_clean of_page.other)) of_left
           ∙ ap (λ (s : Summary). flag (is_clean of_compared.one && is_clean s)) of_right ∙ sym of_compared.clean,
+      of_page.exchanged ∙ ap (λ (s : Summary). flag (s.looks_exchanged || of_page.other.looks_exchanged)) of_left
+          ∙ ap (λ (s : Summary). flag (of_compared.one.looks_exchanged || s.looks_exchanged)) of_right ∙ sym of_compared.exchanged,
     )
 
 pub pair_page_agrees : AgreesWithCompare → PairPageAgreesWithCompare

@@ -87,14 +87,15 @@ CleanReportPairIsRecorded = (tester unit max_bytes : ℕ) (left_name right_name 
     → IsRecorded (settings_of tester unit max_bytes) left × IsRecorded (settings_of tester unit max_bytes) right
 
 -- where `udsnorm_compare` accepts two logs and their page is made, whether there was room for it or not, its answer has the
--- same first item that differs, and says the same of whether both are clean
+-- same first item that differs, and says the same of whether both are clean, and of whether tester and unit look exchanged
+-- in one
 abbrev pub PairPageAgreesWithCompare : Type 0
 PairPageAgreesWithCompare = (tester unit max_bytes : ℕ) (left_name right_name left right old new : List ℕ)
     (page compared : UdsnormAnswer)
     → ReportPairAnswers MESSAGE_LIMIT tester unit max_bytes left_name right_name left right old new page
     → (page.status ≡ 0) ⊎ (page.status ≡ 9)
     → CompareAnswers MESSAGE_LIMIT tester unit max_bytes left right compared → compared.status ≡ 0
-    → (page.item ≡ compared.item) × (page.clean ≡ compared.clean)
+    → (page.item ≡ compared.item) × (page.clean ≡ compared.clean) × (page.exchanged ≡ compared.exchanged)
 
 -- two numbers have the same words exactly where they are the same, or neither is a status
 abbrev pub StatusesAreToldApart : Type 0

@@ -1,7 +1,6 @@
-use Rattle.std.proofs.Common.{◌∙◌, sym}
 use Rattle.udsnorm.specs.declared.noticing.TheConstants.{KEPT}
 use Rattle.udsnorm.proofs.Fronts.{front_grows}
 use Rattle.udsnorm.proofs.noticing.NoticingSource.read.Goals as goal
 
-pub invariant_of-self : goal.invariant_of-self
-invariant_of-self g c = (front_grows KEPT _ _ _ _ _ c.self.invariant.0 c.keep.ensures c.in-Ok.ensures.given, c.is_end-self-inside.ensures ∙ sym c.in-Ok.ensures.over)
+pub invariant_of-self-2 : goal.invariant_of-self-2
+invariant_of-self-2 g c = front_grows KEPT _ _ _ _ _ c.self.invariant c.keep.ensures c.in_ok-n.ensures.given

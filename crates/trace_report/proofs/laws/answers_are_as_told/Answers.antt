@@ -1,0 +1,5 @@
+use Rattle.trace_report.proofs.ToldAnswers.{negative_is_negative, unanswered_has_none}
+use Rattle.trace_report.proofs.laws.answers_are_as_told.Goals as goal
+
+pub returns : goal.returns
+returns c = record { negative = negative_is_negative; unanswered = unanswered_has_none }

@@ -1,0 +1,6 @@
+use Rattle.std.proofs.Common.{refl}
+use Rattle.trace_text.proofs.Roles.{roles_differ}
+use Rattle.trace_text.proofs.laws.roles_have_texts.Goals as goal
+
+pub returns : goal.returns
+returns c = record { distinct = roles_differ; answer = refl }
