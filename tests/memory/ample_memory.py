@@ -185,12 +185,12 @@ def taken_by_each_job(cases, log):
 
 def taken_by_each_job_of_two(cases, log):
     """Each command over two logs takes it beside its canonical log, which comes from one that normalises it."""
-    for words in (["compare", "left", "right"], ["diff", "left", "right"], ["report", "left", "right"]):
+    for words in (["compare", "left", "right"], ["report", "left", "right"]):
         with ExitStack() as ends:
             ends.enter_context(named_pipe("left", canonical_pieces(cases.program, log)))
             ends.enter_context(named_pipe("right", log.pieces()))
-            look = (lambda output: length_of(output) > 0) if words[0] == "report" else lambda output: output.read()
-            want = {"compare": b"same\n", "diff": b"", "report": True}[words[0]]
+            look = (lambda output: output.read()) if words[0] == "compare" else lambda output: length_of(output) > 0
+            want = b"same\n" if words[0] == "compare" else True
             report(cases, f"{words[0]} with the canonical log: {log.name}", seen_of(cases.program, words, (), look), (DONE, b"", want))
 
 

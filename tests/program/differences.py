@@ -1,6 +1,6 @@
 #!/usr/bin/env python3
-"""`diff` of the built program over two logs: a table of rows/, random sessions by a second reading, what GNU diff writes of the
-same places, and what patch makes of the text.
+"""`diff` of the built program over two logs: the second reading by a table of rows/, random sessions by that reading, what GNU diff
+writes of the same places, and what patch makes of the text.
 
     tests/program/differences.py crates/udsnorm/out/udsnorm [TEST..]
 
@@ -68,18 +68,12 @@ def stray(number):
 
 
 def rows(cases):
-    """What is written and told of each row, and the same by the second reading."""
+    """What the second reading has of each row, of which sessions.py tries the program."""
     for row in tables.table("differences"):
-        left, right = row.side("left"), row.side("right")
         words = [word for text in row.texts("with") for word in text.split(" ")]
         [status] = row.texts("status")
         want = Ended(int(status), row.text("found"), row.text("told"))
-        with tempfile.TemporaryDirectory() as folder:
-            written(Path(folder), left, right)
-            command = sorted(words, key=lambda word: word != "diff")
-            wrong = differences("diff", cases.run(command, cwd=folder), want)
-        wrong += differences("by the second reading", second_reading(words, left, right), want)
-        cases.report(row.name, wrong)
+        cases.report(row.name, differences("by the second reading", second_reading(words, row.side("left"), row.side("right")), want))
 
 
 def second_reading(words, left, right):
@@ -239,7 +233,7 @@ def names(cases):
             lists.mkdir()
             (top / os.fsdecode(name)).write_bytes(log_of(ours))
             (top / RIGHT).write_bytes(log_of(theirs))
-            found = cases.run(["diff", os.fsdecode(name), RIGHT], cwd=top)
+            found = cases.run(["diff", "--", os.fsdecode(name), RIGHT], cwd=top)
             came = difference_oracle.differed(log_of(ours), log_of(theirs), (name, NAMES[1]))
             wrong = differences("diff", found, Ended(DIFFERENT, came.written, b""))
             (lists / os.fsdecode(name)).write_text("".join(difference_oracle.lines_of(ours)))

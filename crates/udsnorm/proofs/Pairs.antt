@@ -49,19 +49,47 @@ pub refused_pair : (text : TextOfCompared) (strict : Bool) (limit : ℕ) (settin
 refused_pair text strict limit settings one other (Ok compared) accepted compares = (((compared.left, compares.0), tt), refl)
 refused_pair text strict limit settings one other (Err why) accepted compares = absurd accepted
 
--- what was read of accepted logs stays so, where memory is refused behind that
-pub read_then_refused : {R : Type 0} (source : SourceGhosts R) (why : CompareFault) (max_bytes : ℕ) (answer : Result Compared CompareFault) (before after : R) → (Right fault.Memory ≡ why → ⊥) → IsAnswered answer
-    → ReadFrom source why max_bytes answer before after → ReadFrom {A = PairAnswer} source why max_bytes (Err (Right fault.Memory)) before after
-read_then_refused source why max_bytes (Ok compared) before after other accepted read = record {
+fault_told : (one other : CompareFault) → ◌≡◌ {A = Result PairAnswer CompareFault} (Err one) (Err other) → one ≡ other
+fault_told one other is = cc
+
+fault_kept : (one other : CompareFault) → ◌≡◌ {A = Result TwoValue CompareFault} (Err one) (Err other) → one ≡ other
+fault_kept one other is = cc
+
+none_told : (pair : PairAnswer) (why : CompareFault) → ◌≡◌ {A = Result PairAnswer CompareFault} (Ok pair) (Err why) → ⊥
+none_told pair why is = cc
+
+none_kept : (held : TwoValue) (why : CompareFault) → ◌≡◌ {A = Result TwoValue CompareFault} (Ok held) (Err why) → ⊥
+none_kept held why is = cc
+
+-- what was read of logs that are held is told of their answer, too
+read_held : {R : Type 0} (source : SourceGhosts R) (why : CompareFault) (max_bytes : ℕ) (answer : Result TwoValue CompareFault) (before after : R)
+    → ReadFrom source why max_bytes answer before after → ReadFrom source why max_bytes (answer_held answer) before after
+read_held source why max_bytes (Ok held) before after read = record {
+  over = read.over;
+  gave = read.gave;
+  ended = read.ended;
+  within = read.within;
+  calls = read.calls;
+  progress = read.progress;
+  failed = record { risen = λ is. absurd (none_told _ why is); same = λ other. read.failed.same (none_kept held why) };
+}
+read_held source why max_bytes (Err fault) before after read = record {
   over = tt;
   gave = read.gave;
   ended = read.ended;
   within = read.within;
   calls = read.calls;
   progress = read.progress;
-  failed = record { risen = λ is. absurd (other cc); same = λ _. read.failed.same (λ is. cc) };
+  failed = record {
+    risen = λ is. read.failed.risen (ap Err (fault_told fault why is));
+    same = λ other. read.failed.same (λ is. other (ap Err (fault_kept fault why is)));
+  };
 }
-read_then_refused source why max_bytes (Err same) before after other accepted read = absurd accepted
+
+pub read_told : {R : Type 0} (source : SourceGhosts R) (why : CompareFault) (max_bytes : ℕ) (answer : Result TwoValue CompareFault) (told : Result PairAnswer CompareFault) (before after : R)
+    → told ≡ answer_held answer → ReadFrom source why max_bytes answer before after → ReadFrom source why max_bytes told before after
+read_told source why max_bytes answer told before after is read =
+    subst (λ (a : Result PairAnswer CompareFault). ReadFrom source why max_bytes a before after) (sym is) (read_held source why max_bytes answer before after read)
 
 -- two logs that are held, without what they say, and their page
 pub pages_pair : (style left_name right_name : List ℕ) (left_seen right_seen : Glimpse) (strict : Bool) (limit : ℕ) (settings : Settings) (one other : List ℕ) (answer : Result TwoValue CompareFault) → HoldsTwo limit settings one other answer

@@ -52,8 +52,6 @@ pub enum Task {
 pub(crate) struct CommandRow {
     pub(crate) name: &'static str,
     pub(crate) about: &'static str,
-    /// What follows the options in its help: more about it, its statuses, and last an example.
-    pub(crate) after_help: &'static str,
     /// Its options and files, in groups that other commands have, too.
     pub(crate) arguments: &'static [&'static [Argument]],
 }
@@ -90,13 +88,11 @@ pub(crate) const COMMANDS: &[CommandRow] = &[
     CommandRow {
         name: "normalise",
         about: "Writes the canonical log",
-        after_help: OF_NORMALISE,
         arguments: &[SIDES, USUAL_LIMIT_OF_BOTH, ONE_LOG, STRICTLY, HINTED],
     },
     CommandRow {
         name: "list",
         about: "Writes the exchanges and stray messages",
-        after_help: OF_LIST,
         arguments: &[
             SIDES,
             USUAL_LIMIT_OF_BOTH,
@@ -110,7 +106,6 @@ pub(crate) const COMMANDS: &[CommandRow] = &[
     CommandRow {
         name: "watch",
         about: "Writes the lines of `list` while the session runs",
-        after_help: OF_WATCH,
         arguments: &[
             SIDES,
             LARGEST_LIMIT,
@@ -124,31 +119,26 @@ pub(crate) const COMMANDS: &[CommandRow] = &[
     CommandRow {
         name: "explain",
         about: "Writes which frames were dropped and which receptions ended early, and why",
-        after_help: OF_EXPLAIN,
         arguments: &[SIDES, USUAL_LIMIT, ONE_LOG, AS_JSON, STRICTLY, HINTED],
     },
     CommandRow {
         name: "messages",
         about: "Writes each message with its lines and time stamps",
-        after_help: OF_MESSAGES,
         arguments: &[SIDES, LARGEST_LIMIT, ONE_LOG, AS_JSON, STRICTLY, HINTED],
     },
     CommandRow {
         name: "report",
         about: "Writes the session as a page of HTML, to look at",
-        after_help: OF_REPORT,
         arguments: &[SIDES, LARGEST_LIMIT, ONE_OR_TWO_LOGS, STRICTLY, HINTED],
     },
     CommandRow {
         name: "find",
         about: "Writes which identifiers ask and which answer, for a log whose identifiers nobody told",
-        after_help: OF_FIND,
         arguments: &[USUAL_LIMIT, ONE_LOG, AS_JSON, HINTED],
     },
     CommandRow {
         name: "compare",
         about: "Says whether two logs have the same exchanges and stray messages",
-        after_help: OF_COMPARE,
         arguments: &[
             SIDES,
             USUAL_LIMIT_OF_BOTH,
@@ -162,7 +152,6 @@ pub(crate) const COMMANDS: &[CommandRow] = &[
     CommandRow {
         name: "diff",
         about: "Writes where two logs differ, as `diff -u` does",
-        after_help: OF_DIFF,
         arguments: &[
             SIDES,
             USUAL_LIMIT_OF_BOTH,
@@ -173,6 +162,23 @@ pub(crate) const COMMANDS: &[CommandRow] = &[
         ],
     },
 ];
+
+/// What follows the options in the help of a command: more about it, its statuses, and last an example. These texts stand
+/// apart from the table, of which each proof about it would read them all.
+pub(crate) fn after_help_of(command: &str) -> &'static str {
+    match command {
+        "normalise" => OF_NORMALISE,
+        "list" => OF_LIST,
+        "watch" => OF_WATCH,
+        "explain" => OF_EXPLAIN,
+        "messages" => OF_MESSAGES,
+        "report" => OF_REPORT,
+        "find" => OF_FIND,
+        "compare" => OF_COMPARE,
+        "diff" => OF_DIFF,
+        _ => "",
+    }
+}
 
 /// The names of options and files in the parser's matches.
 pub(crate) const TESTER: &str = "tester";

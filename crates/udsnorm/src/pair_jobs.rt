@@ -163,7 +163,9 @@ pub(crate) fn do_pair_job<A: Source, B: Source, W: Target>(
         }
         PairJob::Diff(notation) => {
             let compared = compare(alloc, config, left, right);
-            match write_diff(alloc, left_name, right_name, &compared, strict, notation, out) {
+            match write_diff(
+                alloc, left_name, right_name, &compared, strict, notation, out,
+            ) {
                 Ok(wrote) => PairDone {
                     answer: answer_of(&compared),
                     wrote,

@@ -10,7 +10,7 @@ use Rattle.udsnorm.specs.proving.Pairs.{answer_held, cause_in, text_of_answer}
 use Rattle.trace_report.specs.declared.cause.Cause.{Cause}
 use Rattle.trace_run.specs.Told.{glimpse_of}
 use Rattle.udsnorm.specs.declared.pair_jobs.PairAnswer.{PairAnswer}
-use Rattle.udsnorm.proofs.Pairs.{compared_pair, fault_compared, fault_held, pages_pair, read_then_refused, refused_pair}
+use Rattle.udsnorm.proofs.Pairs.{compared_pair, fault_compared, fault_held, pages_pair, read_told, refused_pair}
 use Rattle.udsnorm.proofs.pair_jobs.do_pair_job.Goals as goal
 
 pub returns-in-Compare-clause-engine : goal.returns-in-Compare-clause-engine
@@ -51,20 +51,14 @@ returns-in-Ok-clause-engine g c =
       c.in-Ok.ensures.text,
     )
 
-pub returns-in-Ok-clause-left_memory : goal.returns-in-Ok-clause-left_memory
-returns-in-Ok-clause-left_memory g c = λ log agrees is. rw c.in-Diff.is tt
-
-pub returns-in-Ok-clause-right_memory : goal.returns-in-Ok-clause-right_memory
-returns-in-Ok-clause-right_memory g c = λ log agrees is. rw c.in-Diff.is tt
-
 pub returns-in-Ok-clause-left_near : goal.returns-in-Ok-clause-left_near
 returns-in-Ok-clause-left_near g c = λ log agrees. rw c.in-Diff.is (c.compare-compared.ensures.left_near log agrees)
 
 pub returns-in-Ok-clause-right_near : goal.returns-in-Ok-clause-right_near
 returns-in-Ok-clause-right_near g c = λ log agrees. rw c.in-Diff.is (c.compare-compared.ensures.right_near log agrees)
 
-pub returns-in-Err-clause-engine : goal.returns-in-Err-clause-engine
-returns-in-Err-clause-engine g c =
+pub returns-in-Diff-clause-engine : goal.returns-in-Diff-clause-engine
+returns-in-Diff-clause-engine g c =
     let text_of = text_of_difference c.in-Diff.notation c.args.left_name.now c.args.right_name.now in
     rw c.in-Diff.is (
       [],
@@ -73,28 +67,14 @@ returns-in-Err-clause-engine g c =
       c.in-Err.ensures.nothing,
     )
 
-pub returns-in-Err-clause-left_memory : goal.returns-in-Err-clause-left_memory
-returns-in-Err-clause-left_memory g c = λ log agrees is. rw c.in-Diff.is tt
+pub returns-in-Diff-clause-left_near : goal.returns-in-Diff-clause-left_near
+returns-in-Diff-clause-left_near g c = λ log agrees. rw c.in-Diff.is (c.compare-compared.ensures.left_near log agrees)
 
-pub returns-in-Err-clause-right_memory : goal.returns-in-Err-clause-right_memory
-returns-in-Err-clause-right_memory g c = λ log agrees is. rw c.in-Diff.is tt
+pub returns-in-Diff-clause-right_near : goal.returns-in-Diff-clause-right_near
+returns-in-Diff-clause-right_near g c = λ log agrees. rw c.in-Diff.is (c.compare-compared.ensures.right_near log agrees)
 
-pub returns-in-Err-clause-left_near : goal.returns-in-Err-clause-left_near
-returns-in-Err-clause-left_near g c = λ log agrees. rw c.in-Diff.is (c.compare-compared.ensures.left_near log agrees)
-
-pub returns-in-Err-clause-right_near : goal.returns-in-Err-clause-right_near
-returns-in-Err-clause-right_near g c = λ log agrees. rw c.in-Diff.is (c.compare-compared.ensures.right_near log agrees)
-
-pub returns-in-Err-clause-left_read : goal.returns-in-Err-clause-left_read
-returns-in-Err-clause-left_read g c =
-    read_then_refused g.A.Source (Left fault.Read) c.args.config.now.max_bytes c.compare-compared.result _ _ (λ is. cc) c.in-Err.ensures.answered c.compare-compared.ensures.left_read
-
-pub returns-in-Err-clause-right_read : goal.returns-in-Err-clause-right_read
-returns-in-Err-clause-right_read g c =
-    read_then_refused g.B.Source (Right fault.Read) c.args.config.now.max_bytes c.compare-compared.result _ _ (λ is. cc) c.in-Err.ensures.answered c.compare-compared.ensures.right_read
-
-pub returns-in-Report-clause-engine : goal.returns-in-Report-clause-engine
-returns-in-Report-clause-engine g c =
+pub returns-clause-engine : goal.returns-clause-engine
+returns-clause-engine g c =
     let left = c.args.left_name.now in
     let right = c.args.right_name.now in
     let settings = c.args.config.now in
@@ -113,16 +93,24 @@ returns-in-Report-clause-engine g c =
       page.1,
     )
 
-pub returns-in-Report-clause-left_memory : goal.returns-in-Report-clause-left_memory
-returns-in-Report-clause-left_memory g c = λ log agrees is.
+pub returns-clause-left_memory : goal.returns-clause-left_memory
+returns-clause-left_memory g c = λ log agrees is.
     rw c.in-Report.is (c.keep_two-answer.ensures.left_memory log agrees (fault_held c.keep_two-answer.result _ (sym c.answer_held.ensures ∙ is)))
 
-pub returns-in-Report-clause-right_memory : goal.returns-in-Report-clause-right_memory
-returns-in-Report-clause-right_memory g c = λ log agrees is.
+pub returns-clause-right_memory : goal.returns-clause-right_memory
+returns-clause-right_memory g c = λ log agrees is.
     rw c.in-Report.is (c.keep_two-answer.ensures.right_memory log agrees (fault_held c.keep_two-answer.result _ (sym c.answer_held.ensures ∙ is)))
 
-pub returns-in-Report-clause-left_near : goal.returns-in-Report-clause-left_near
-returns-in-Report-clause-left_near g c = λ log agrees. rw c.in-Report.is (c.keep_two-answer.ensures.left_near log agrees)
+pub returns-clause-left_near : goal.returns-clause-left_near
+returns-clause-left_near g c = λ log agrees. rw c.in-Report.is (c.keep_two-answer.ensures.left_near log agrees)
 
-pub returns-in-Report-clause-right_near : goal.returns-in-Report-clause-right_near
-returns-in-Report-clause-right_near g c = λ log agrees. rw c.in-Report.is (c.keep_two-answer.ensures.right_near log agrees)
+pub returns-clause-right_near : goal.returns-clause-right_near
+returns-clause-right_near g c = λ log agrees. rw c.in-Report.is (c.keep_two-answer.ensures.right_near log agrees)
+
+pub returns-clause-left_read : goal.returns-clause-left_read
+returns-clause-left_read g c =
+    read_told g.A.Source (Left fault.Read) c.args.config.now.max_bytes c.keep_two-answer.result c.answer_held.result _ _ c.answer_held.ensures c.keep_two-answer.ensures.left_read
+
+pub returns-clause-right_read : goal.returns-clause-right_read
+returns-clause-right_read g c =
+    read_told g.B.Source (Right fault.Read) c.args.config.now.max_bytes c.keep_two-answer.result c.answer_held.result _ _ c.answer_held.ensures c.keep_two-answer.ensures.right_read
