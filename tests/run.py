@@ -50,7 +50,7 @@ LIST = [
     Test("program/differential.py", OF_PROGRAM, 22),
     Test("program/differences.py", OF_PROGRAM, 30),
     Test("library/python_package.py", OF_LIBRARY, 17),
-    Test("pages/report.py", OF_PROGRAM, 14),
+    Test("pages/report.py", OF_PROGRAM, 18),
     Test("program/program.py", OF_PROGRAM, 7),
     Test("documents/release.py", OF_LIBRARY, 6),
     Test("scripts/make_check.py", NOTHING, 5),

@@ -1,7 +1,7 @@
 #!/usr/bin/env python3
 """Tests of the documents: what they say of the repository's files is so.
 
-    tests/documents/documents.py
+    tests/documents/documents.py [TEST..]
 
 - the picture of the crates is the one that scripts/draw-crates draws of crates.txt, and names each crate and dependency;
 - the style that the program embeds in a report is that of crates/trace_report/style/report.css;
@@ -562,15 +562,12 @@ def symbolic_links(cases):
 
 
 def main():
-    if len(sys.argv) != 1:
-        sys.exit(__doc__)
-    cases = Cases(None)
-    for test in [
+    cases = Cases(None, sys.argv[1:])
+    cases.each([
         picture, style, links, lengths_of_lines, heads_of_tables, named_files, wrong_bodies, tried_by_the_gate, definitions, citations, calls_of_the_kit,
         named_clauses, printed_clauses, printed_formulas, texts_of_clauses, taken_away, bodies_of_laws, names_of_definitions, names_that_mean_nothing,
         decisions, searched_words, lines_of_faults, version_of_the_source, lower_proofs, symbolic_links,
-    ]:
-        test(cases)
+    ])
     cases.end()
 
 

@@ -27,20 +27,17 @@ class Cases:
         """A case passed where nothing is wrong."""
         if wrong:
             self.failed += 1
-            print("\n  asked: ".join([f"FAILED {name}: {'; '.join(wrong)}", *map(runs.spelled, runs.asked)]), flush=True)
+            print("\n  asked: ".join([f"FAILED {name}: {'; '.join(wrong)}", *map(runs.spelled, runs.asked_in_vain())]), flush=True)
         else:
             self.passed += 1
             print(f"ok {name}", flush=True)
-        runs.asked.clear()
+        runs.forget()
 
     def case(self, name, found, status, output=b"", error=b""):
         """Compares a run with its status and texts. A text that is None may be any."""
-        wrong = []
-        if found.status != status:
-            wrong.append(f"status {found.status}, not {status}")
+        wrong = runs.differences("status", found.status, status)
         for kind, came, want in [("output", found.output, output), ("error output", found.error, error)]:
-            if want is not None and (came or b"") != want:
-                wrong.append(f"{kind} {came[:100]!r}, not {want[:100]!r}")
+            wrong += [] if want is None else runs.differences(kind, came or b"", want)
         self.report(name, wrong)
 
     def chosen(self, tests):
@@ -59,8 +56,13 @@ class Cases:
                 test(self, *given)
             except Exception:
                 self.report(f"{test.__name__} comes to its end", [traceback.format_exc()])
-            if self.failed > before and not self.named:
-                print(f"This test alone: {shlex.join(['python3', *sys.argv, test.__name__])}", flush=True)
+            if self.failed > before:
+                self.tell_alone(test.__name__)
+
+    def tell_alone(self, name):
+        """Says how this test runs alone, where it is one of several."""
+        if not self.named:
+            print(f"This test alone: {shlex.join(['python3', *sys.argv, name])}", flush=True)
 
     def end(self):
         print(f"{self.passed} passed, {self.failed} failed")

@@ -1,174 +1,40 @@
 #!/usr/bin/env python3
-"""The page that `udsnorm report` writes of a log, or of two, by the definitions alone.
+"""The page that `udsnorm report` writes of two logs, by the definitions alone.
 
-    tests/helpers/report_oracle.py [NAME [LIMIT [TESTER UNIT]]] < LOG > PAGE
+    tests/helpers/report_oracle.py LEFT RIGHT [LIMIT [TESTER UNIT]] > PAGE
 
-What the frames of a log do is read off the whole log by oracle.py. A row is what is told of a frame, of a message or of a missing
-answer, and the page is fixed texts around the rows. Nothing is written as the log is read, and nothing is counted but rows: so
-this shares no idea with the program, which tells the page frame by frame and keeps a few numbers. The page of two logs is read off
-the rows of both.
+It is read off the rows of both logs, as report_facts.py has them, and is fixed texts around these; what it says as the page of a log does
+is that of tests/pages/golden. Nothing is written as the logs are read, and nothing is counted but rows.
 """
 
 import re
 import sys
-from collections import Counter, namedtuple
+from collections import namedtuple
 from pathlib import Path
 
 import causes
 import oracle
 from oracle import GIBIBYTE, SIDES, TESTER, UNIT, Outcome
-
-CRATES = Path(__file__).resolve().parents[2] / "crates"
-[STYLE] = [path.read_text() for path in CRATES.glob("*/style/report.css")]
-
-STANDARD_INPUT = b"standard input"
-
-# --- What the rows tell -----------------------------------------------------------------------------------------------
-
-# A message, of one of the kinds of KIND_LOOKS: the frames that it begins and ends with, how many carry it, and when its request
-# was complete, if it replies to one.
-Message = namedtuple("Message", "kind side item first last frames asked data")
-NoAnswer = namedtuple("NoAnswer", "item is_silent")
-# A frame that is dropped, and whether the row before is named by the same line.
-Dropped = namedtuple("Dropped", "entry reason is_named")
-# A frame that ends a message of a side, and the first frame of that.
-Ended = namedtuple("Ended", "entry side begun cause")
-# The first frame of a message that the log ends in.
-Unfinished = namedtuple("Unfinished", "side begun")
-
-REPLIES = ("positive", "negative")
-REQUEST = "request"
-
-
-def rows_of(frames):
-    """The rows of these frames, in their order: what a frame ends, and then why it is dropped, or the message that it completes.
-    Before a request stands that the request before has no answer."""
-    messages = {row.last.line: row for row in messages_of(frames)}
-    missing = missing_answers(messages.values())
-    rows = []
-    for p, entry in enumerate(frames):
-        rows += faults_at(frames, p)
-        if entry.line in messages:
-            row = messages[entry.line]
-            rows += [missing[row.item]] if row.kind == REQUEST and row.item in missing else []
-            rows.append(row)
-    return rows
-
-
-def end_rows(frames):
-    """The rows of the end of a log: what it ends in, and that its last request has no answer."""
-    begun = [(side, oracle.reception(frames, side, len(frames))) for side in (TESTER, UNIT)]
-    unfinished = [Unfinished(side, frames[standing[0]]) for side, standing in begun if standing]
-    missing = missing_answers(messages_of(frames))
-    return unfinished + [row for later, row in missing.items() if later is None]
-
-
-def messages_of(frames):
-    """The row of each message. To which item it belongs, all messages together say."""
-    ends = [p for p in range(len(frames)) if oracle.delivered(frames, p) is not None]
-    listed = oracle.messages(frames)
-    parts = oracle.parts_of(listed)
-    asked = {item: frames[p].micros for p, (item, role) in zip(ends, parts) if role == REQUEST}
-    return [
-        Message(
-            kind=kind_of(role, side, data),
-            side=side,
-            item=item,
-            first=frames[oracle.first_position(frames, p)],
-            last=frames[p],
-            frames=frames_carrying(frames, p),
-            asked=asked[item] if role in ("answer", "pending") else None,
-            data=data,
-        )
-        for p, (side, data), (item, role) in zip(ends, listed, parts)
-    ]
-
-
-def kind_of(role, side, data):
-    if role == "answer":
-        return "negative" if data[0] == 0x7F else "positive"
-    return "keep-alive" if role == "stray" and (side, data) == (TESTER, b"\x3E\x80") else role
-
-
-def frames_carrying(frames, p):
-    """How many frames carry the message that the frame at p completes: flow control carries nothing."""
-    if isinstance(frames[p].layout, oracle.Single):
-        return 1
-    first, taken = oracle.reception(frames, frames[p].direction, p)
-    return len([first, *taken, p])
-
-
-def missing_answers(messages):
-    """The row of each request without an answer, by the item of the request that comes next; that of the last request by None."""
-    requests = [row for row in messages if row.kind == REQUEST]
-    answered = {row.item for row in messages if row.kind in REPLIES}
-    later = [*(row.item for row in requests[1:]), None]
-    return {item: no_answer(row) for row, item in zip(requests, later) if row.item not in answered}
-
-
-def no_answer(request):
-    outcome = oracle.answer_text(oracle.Exchange(request.data, None))
-    return NoAnswer(request.item, outcome == "silent")
-
-
-def faults_at(frames, p):
-    side, cause, reason = oracle.verdict(frames, p)
-    ended = [Ended(frames[p], side, frames[oracle.reception(frames, side, p)[0]], cause)] if side else []
-    return ended + ([Dropped(frames[p], reason.words, is_named=bool(ended))] if reason else [])
-
+from report_facts import (
+    ALL_SHOWN, COUNTS, REPLIES, REQUEST, SHOWN_FIRST, STYLE, Dropped, Ended, Message, NoAnswer, Unfinished, count_mark, counts_of, data_told,
+    end_rows, is_request, last_part, milliseconds, name_text, no_answer, rows_of, said_of_kind, seconds, state,
+)
+from report_reader import VERDICTS, golden_words, without_numbers
 
 # --- Words ------------------------------------------------------------------------------------------------------------
 
 
-def sign(start, end):
-    return "-" if end < start else ""
-
-
-def seconds(start, end):
-    return sign(start, end) + oracle.stamp(abs(end - start))
-
-
-def milliseconds(start, end):
-    micros = abs(end - start)
-    return f"{sign(start, end)}{micros // 1000}.{micros % 1000:03}&#160;ms"
-
-
-def name_text(name):
-    """The name of a log: the five signs of HTML by their names, other printable ASCII as it is, and each other byte by number."""
-    named = {ord("&"): "&amp;", ord("<"): "&lt;", ord(">"): "&gt;", ord('"'): "&quot;", ord("'"): "&#39;"}
-    return "".join(named.get(byte, chr(byte) if 0x20 <= byte <= 0x7E else f"%{byte:02X}") for byte in name)
-
-
-def last_part(path):
-    """The name of a log in a file."""
-    return path.rpartition(b"/")[2]
-
-
-# Bytes that are shown as letters, where four of them stand in a row; among them a blank is shown, too.
-MARK = rb"0-9A-Za-z\-./:_"
-
-ALL_SHOWN, ALL_FOLDED, SHOWN_FIRST = 64, 512, 32
-
-
 def data_text(data):
     """The bytes of a message: all of a short one, the others of a longer one folded, and of a block of data only the first."""
-    if len(data) <= ALL_SHOWN:
-        return f"{code_text(data)}{letters_text(data)}"
-    front, rest = code_text(data[:SHOWN_FIRST]), data[SHOWN_FIRST:]
-    if len(data) <= ALL_FOLDED:
-        return f"{front} <details><summary>{len(rest)} bytes more</summary>{code_text(rest)}{letters_text(rest)}</details>"
-    return f"{front} <i>{len(rest)} bytes more, not shown</i>"
+    said = data_told(data)
+    front, letters = code_text(said["shown"]), f" <samp>{said['letters']}</samp>" if "letters" in said else ""
+    if "folded" in said:
+        return f"{front} <details><summary>{said['more']} bytes more</summary>{code_text(said['folded'])}{letters}</details>"
+    return f"{front} <i>{said['hidden']} bytes more, not shown</i>" if "hidden" in said else f"{front}{letters}"
 
 
-def code_text(data):
-    return f"<code>{data.hex(' ').upper()}</code>"
-
-
-def letters_text(data):
-    if not re.search(rb"[%s]{4}" % MARK, data):
-        return ""
-    letters = re.sub(rb"[^ %s]" % MARK, b".", data).decode()
-    return f" <samp>{letters}</samp>"
+def code_text(digits):
+    return f"<code>{digits}</code>"
 
 
 # --- Rows -------------------------------------------------------------------------------------------------------------
@@ -179,62 +45,18 @@ LIFELINES = {TESTER: "t", UNIT: "u"}
 # What the ends of arrows are called.
 HEADED, CROSSED, BARRED = "", "x", "e"
 
-CAUSES = {
-    "new start": "another message of this side began before its last frame",
-    "overflow": "the other side said that it has no room",
-    "late": "its next frame came after more than 1 s",
-    "sequence": "a frame is missing, came twice or out of order",
-    "length": "a frame has another length than its first one",
-}
-
-# Of a frame that ends a message, too, the row of that says why.
-REASONS = {
-    "remote frame": "it carries no data",
-    "frame length": "no CAN frame has this many bytes",
-    "empty frame": "it has no byte",
-    "unknown kind": "its first byte is of no kind of ISO-TP frame",
-    "single frame length": "its length does not fit the length that it tells",
-    "first frame length": "its length, or the one that it announces, is that of no first frame",
-    "flow control too short": "it has fewer than 3 bytes",
-    "flow control status": "its status is none of continue, wait and overflow",
-    "flow control unexpected": "the other side was sending nothing that it could be for",
-    "consecutive frame unexpected": "no message was under way that it goes on with",
-    "consecutive frame late": None,
-    "consecutive frame length": None,
-}
+# What a page says beside facts, by the place where it stands.
+WORDS = {(place, about): words for place, about, words in golden_words()}
 
 
 def reason_words(reason):
-    if reason.endswith(" bytes announced"):
-        return " <i>more than the limit of 1048575</i>"
-    words = None if reason.startswith("sequence number ") else REASONS[reason]
+    words = WORDS["dropped", without_numbers(reason)]
     return f" <i>{words}</i>" if words else ""
 
 
 def row_text(origin, row):
     """The line of a row, with times since this one."""
     return ROW_TEXTS[type(row)](origin, row)
-
-
-def brief_text(origin, row):
-    """The line of a row in a block that is folded at first: a message that needs no look is told in words alone."""
-    if not isinstance(row, Message) or row.kind in LOOKS.values():
-        return row_text(origin, row)
-    identifier, cells = message_cells(origin, row)
-    look, lifeline = KIND_LOOKS[row.kind], LIFELINES[row.side]
-    return f'<tr class="{look}"{named(identifier)}>{cells}<td class="{lifeline}">{brief_words(row)}\n'
-
-
-def brief_words(row):
-    data = row.data[:SHOWN_FIRST].hex(" ").upper()
-    more = len(row.data) - SHOWN_FIRST
-    shown = f"{data} and {more} bytes more" if more > 0 else data
-    match row.kind:
-        case "request":
-            return f"{service_name(row)} request {shown} &#8594;"
-        case "keep-alive":
-            return f"keep-alive {shown} &#8594;"
-    return f"&#8592; {row.kind} {shown} after {milliseconds(row.asked, row.first.micros)}"
 
 
 def line_of(look, identifier, cells, side, words, end):
@@ -271,21 +93,16 @@ def lines_text(first, last):
 
 
 def kind_words(row):
+    said = said_of_kind(row)
     match row.kind:
         case "request":
-            return f"<b>{service_name(row)}</b> <i>request</i>"
+            return f"<b>{said['service']}</b> <i>request</i>"
         case "negative":
-            code = row.data[2]
-            return f"<b>negative</b> <em>{oracle.CODES.get(code, f'code_{code:02X}')}</em>"
+            return f"<b>negative</b> <em>{said['code']}</em>"
         case "stray":
-            return f"<b>stray</b> <i>from the {row.side}</i>"
+            return f"<b>stray</b> <i>from the {said['of']}</i>"
         case kind:
             return f"<b>{kind}</b>"
-
-
-def service_name(row):
-    service = row.data[0]
-    return oracle.SERVICES.get(service, f"service_{service:02X}")
 
 
 def note_text(row):
@@ -301,7 +118,7 @@ def after_words(row):
 
 
 def no_answer_row(_, row):
-    silent = f"<b>silent</b> <i>item {row.item} asked for no positive answer</i>"
+    silent = f"<b>silent</b> <i>item {row.item} {WORDS['silent', '']}</i>"
     words = silent if row.is_silent else f"<b>no answer</b> <i>to item {row.item}</i>"
     return line_of("p" if row.is_silent else "m", None, f"<td>{row.item}<td><td>", UNIT, words, BARRED)
 
@@ -321,124 +138,25 @@ def partial_words(row):
 
 
 def ended_row(origin, row):
-    words = f"<b>ended</b> <i>{partial_words(row)}</i> <em>{row.cause}</em> <i>{CAUSES[row.cause]}</i>"
+    words = f"<b>ended</b> <i>{partial_words(row)}</i> <em>{row.cause}</em> <i>{WORDS['ended', row.cause]}</i>"
     return line_of("x", f"l{row.entry.line}", frame_cells(origin, row.entry), row.side, words, BARRED)
 
 
 def unfinished_row(_, row):
-    words = f"<b>unfinished</b> <i>{partial_words(row)} the log ends before its last frame</i>"
+    words = f"<b>unfinished</b> <i>{partial_words(row)} {WORDS['unfinished', '']}</i>"
     return line_of("x", f"e{LIFELINES[row.side]}", "<td><td><td>", row.side, words, BARRED)
 
 
 ROW_TEXTS = {Message: message_row, NoAnswer: no_answer_row, Dropped: dropped_row, Ended: ended_row, Unfinished: unfinished_row}
 
-# --- Blocks -----------------------------------------------------------------------------------------------------------
+# --- Tables -----------------------------------------------------------------------------------------------------------
 
-FULL_BLOCK, LARGEST_BLOCK, OPEN_BLOCKS = 200, 1000, 10
-
-TABLE_START = (
-    '<table>\n<thead><tr><th scope="col">Item<th scope="col">Lines<th scope="col">Time'
-    '<th scope="col"><span class="T">Tester</span><span class="U">Unit</span></thead>\n'
-)
+TABLE_START, BLOCK_END = WORDS["head", ""], "</table>\n</details>\n"
 
 
-def is_request(row):
-    return isinstance(row, Message) and row.kind == REQUEST
+# --- What a recording is ----------------------------------------------------------------------------------------------
 
-
-def blocks_of(rows):
-    """The rows in blocks: a request begins one behind a full block, and any row behind the largest."""
-    blocks = []
-    for row in rows:
-        if not blocks or len(blocks[-1]) >= (FULL_BLOCK if is_request(row) else LARGEST_BLOCK):
-            blocks.append([])
-        blocks[-1].append(row)
-    return blocks
-
-
-BLOCK_END = "</table>\n</details>\n"
-
-
-def blocks_text(origin, rows):
-    return "".join(block_text(origin, place, block) for place, block in enumerate(blocks_of(rows)))
-
-
-def block_text(origin, place, rows):
-    """A block, by how many stand before it. With each request a body of the table begins."""
-    opened, text = (" open", row_text) if place < OPEN_BLOCKS else ("", brief_text)
-    bodies = [("<tbody>\n" if n == 0 or is_request(row) else "") + text(origin, row) for n, row in enumerate(rows)]
-    summary = f"<summary>{block_title(origin, rows[0])}</summary>"
-    return f'<details class="b"{opened}>\n{summary}\n{TABLE_START}{"".join(bodies)}{BLOCK_END}'
-
-
-def block_title(origin, row):
-    match row:
-        case Message():
-            return f"From item {row.item}, line {row.first.line}, {seconds(origin, row.first.micros)} s"
-        case NoAnswer():
-            return f"From item {row.item}"
-        case Unfinished():
-            return "At the end of the log"
-    return f"From line {row.entry.line}, {seconds(origin, row.entry.micros)} s"
-
-
-# --- The verdict ------------------------------------------------------------------------------------------------------
-
-# What needs a look: the words, and the kind of its rows.
-LOOKS = {
-    "dropped frames": "dropped",
-    "ended early": "ended",
-    "unfinished": "unfinished",
-    "negative answers": "negative",
-    "without an answer": "no answer",
-    "strays": "stray",
-}
-MOST_LINKS = 10
-
-# All counts, as they are told. Behind the first three each is of the rows of its kind.
-COUNTS = [
-    "lines", "frames", "messages", "requests", "positive", "negative", "no answer", "silent", "pending", "keep-alive", "stray",
-    "dropped", "ended", "unfinished",
-]
-
-
-def row_kind(row):
-    """What the verdict calls a row."""
-    match row:
-        case Message():
-            return "requests" if row.kind == REQUEST else row.kind
-        case NoAnswer():
-            return "silent" if row.is_silent else "no answer"
-    return {Dropped: "dropped", Ended: "ended", Unfinished: "unfinished"}[type(row)]
-
-
-def link(row):
-    match row:
-        case Dropped() | Ended():
-            return f'<a href="#l{row.entry.line}">line {row.entry.line}</a>'
-        case Unfinished():
-            return f'<a href="#e{LIFELINES[row.side]}">of the {row.side}</a>'
-    return f'<a href="#i{row.item}">item {row.item}</a>'
-
-
-def look_text(rows):
-    """What needs a look, as a list. Nothing stands there where nothing does."""
-    lines = "".join(look_line(words, [row for row in rows if row_kind(row) == kind]) for words, kind in LOOKS.items())
-    return f'<ul class="look">\n{lines}</ul>\n' if lines else ""
-
-
-def look_line(words, rows):
-    if not rows:
-        return ""
-    more = f" and {len(rows) - MOST_LINKS} more" if len(rows) > MOST_LINKS else ""
-    return f"<li>{words} <b>{len(rows)}</b>: {', '.join(map(link, rows[:MOST_LINKS]))}{more}\n"
-
-
-def counts_of(lines, frames, rows):
-    """How many there are of each thing."""
-    counts = Counter(map(row_kind, rows))
-    counts.update(lines=len(lines), frames=len(frames), messages=sum(isinstance(row, Message) for row in rows))
-    return counts
+STATES = {kind: heading for heading, kind in VERDICTS.items()} | {"no frame": "The recording is not clean"}
 
 
 def counts_text(counts):
@@ -447,9 +165,8 @@ def counts_text(counts):
 
 
 def count_look(name, count):
-    if count == 0:
-        return ' class="zero"'
-    return ' class="hot"' if name in LOOKS.values() else ""
+    mark = count_mark(name, count)
+    return f' class="{mark}"' if mark else ""
 
 
 def span_text(frames):
@@ -460,83 +177,10 @@ def span_text(frames):
     return f'<p class="span">{clock}: {seconds(first, last)} s.</p>\n'
 
 
-def heading(log, frames, counts):
-    """The look, the sign and the words of the heading, and the sentences below it, of a log that is not refused."""
-    told = unclean_words(log, frames, counts)
-    is_exchanged = oracle.look_exchanged(oracle.messages(frames))
-    if not told and not is_exchanged:
-        return "good", "&#10003;", "The recording is clean", "No frame of the two identifiers was dropped, and no message is in part."
-    words = state_words(told, is_exchanged) if frames else "No frame of the tester or the unit"
-    counted = [f"<em>{told}.</em>"] if told else []
-    return "warn", "!", words, " ".join([*counted, *meant(log, frames, counts), *([EXCHANGED_MEANS] if is_exchanged else [])])
-
-
-def state_words(is_unclean, is_exchanged):
-    """What a recording is called that is not clean, or whose sides look exchanged, or both."""
-    if not is_exchanged:
-        return "The recording is not clean"
-    return "The recording is not clean, and tester and unit look exchanged" if is_unclean else "Tester and unit look exchanged"
-
-
-EXCHANGED_MEANS = (
-    "No message is a request: the tester sent responses, and the unit messages that are none. "
-    "See <code>--tester</code> and <code>--unit</code>."
-)
-
-
-def unclean_words(log, frames, counts):
-    """What is told of a log that has to be clean and is not."""
-    senders = {entry.direction for entry in frames}
-    lacking = [f"frame of the {side}" for side in (TESTER, UNIT) if side not in senders]
-    lacking += ["line feed at the end"] if is_cut(log) else []
-    if not lacking and not lost(counts):
-        return None
-    told = " ".join(f"{name} {number}" for name, number in [("frames", len(frames)), *((name, counts[name]) for name in LOSSES)])
-    return told + "".join(f", no {what}" for what in lacking)
-
-
-def meant(log, frames, counts):
-    """What that means for what is below."""
-    sentences = []
-    if lost(counts):
-        sentences += ["Frames are missing, late, out of order or of no legal form.", "Messages that they belonged to are not below."]
-    if is_cut(log):
-        sentences.append("The log ends inside its last line: it may be cut.")
-    if not frames:
-        other = "Either no line has a frame, or other identifiers are meant: see <code>--tester</code> and <code>--unit</code>."
-        sentences.append(other if log else "The log is empty: it has no line.")
-    return sentences
-
-
-LOSSES = ("dropped", "ended", "unfinished")
-
-
-def lost(counts):
-    return sum(counts[name] for name in LOSSES)
-
-
-def is_cut(log):
-    return log != b"" and not log.endswith(b"\n")
-
-
-def answers_text(counts):
-    if not counts["requests"]:
-        return ""
-    if counts["negative"] or counts["no answer"]:
-        return " Not every request has a positive answer."
-    return " No answer is negative, and none is missing."
-
-
 def cause_text(log, limit, fault):
     """The line with the cause of a refusal, where one is known."""
     cause = causes.cause(log, limit, fault)
     return f"<p><b>Cause:</b> {cause}.</p>\n" if cause else ""
-
-
-def refused_heading(fault):
-    """The same of a refused one."""
-    before = "Below is what the lines before that say; what comes after it is not read, and the counts are of the lines before."
-    return "bad", "&#10005;", "The log is refused", f"<em>{fault}.</em> {before}"
 
 
 # --- The page ---------------------------------------------------------------------------------------------------------
@@ -580,25 +224,6 @@ it tells nothing of the rest of the session.</p>
 </header>
 """
 
-SESSION_START = """\
-<main id="session">
-<h2>Session</h2>
-<p class="filter"><input type="checkbox" id="only"> <label for="only">Show only what needs a look</label></p>
-"""
-
-# What the link to the verdict is called where that is written last. The style shows it first, and hides the second word.
-VERDICT_AT_THE_END = 'Verdict<span class="plain">, at the end of this page</span>'
-
-STOP = '<p class="stop"><b>Refused here:</b> {fault}.</p>\n'
-
-VERDICT = """\
-</main>
-<section id="verdict" class="{look}">
-<h2><span aria-hidden="true">{sign}</span> {heading}</h2>
-<p>{sentence}{answers}</p>
-{cause}{looks}{counts}{span}</section>
-"""
-
 HELP = """\
 <footer id="help">
 <h2>How to read this page</h2>
@@ -624,59 +249,6 @@ recorded leaves no trace, also in a clean recording. Grey letters after the byte
 </body>
 </html>
 """
-
-HELP_OF_ONE = HELP.format(
-    shown="""\
-<p>The left line is the tester, the right line the unit. Each arrow is a message, however many frames carried it, in the order in \
-which the messages were complete. """,
-    blocks=" In a long session the first ten blocks are open, and the others folded and brief.",
-)
-
-
-def page(log, name, refused=None, sides=SIDES, limit=GIBIBYTE):
-    """The page of a log with this name, or of what stands before the place where it is refused. What is open there is called
-    neither unanswered nor unfinished."""
-    lines = refused.lines if refused else oracle.cut(log)
-    frames = oracle.trace(lines, sides)
-    rows = rows_of(frames) + ([] if refused else end_rows(frames))
-    counts = counts_of(lines, frames, rows)
-    look, mark, words, sentence = refused_heading(refused.fault) if refused else heading(log, frames, counts)
-    verdict = VERDICT.format(
-        look=look,
-        sign=mark,
-        heading=words,
-        sentence=sentence,
-        cause=cause_text(log, limit, refused.fault) if refused else "",
-        answers="" if refused else answers_text(counts),
-        looks=look_text(rows),
-        counts=counts_text(counts),
-        span=span_text(frames),
-    )
-    blocks = blocks_text(frames[0].micros if frames else 0, rows)
-    stop = STOP.format(fault=refused.fault) if refused else ""
-    return f"{front_text(name, sides)}{blocks}{stop}{verdict}{HELP_OF_ONE}".encode("ascii")
-
-
-def front_text(name, sides):
-    shown = name_text(name)
-    return FRONT.format(title=shown, heading=shown, verdict=VERDICT_AT_THE_END, middle="Session", style=STYLE, **sides) + SESSION_START
-
-
-def begun(log, name=STANDARD_INPUT, sides=SIDES):
-    """What is written of a page while more lines of its log may come: it begins with the first frame, and its last block has no
-    end."""
-    frames = oracle.trace(oracle.cut(log), sides)
-    if not frames:
-        return b""
-    return (front_text(name, sides) + blocks_text(frames[0].micros, rows_of(frames)).removesuffix(BLOCK_END)).encode("ascii")
-
-
-def reported(log, limit=GIBIBYTE, sides=SIDES, name=STANDARD_INPUT):
-    """The page of a log, which is refused as `explain` refuses it."""
-    refused = oracle.refusal(log, limit, is_long_refused=False)
-    written = page(log, name, refused, sides, limit)
-    return Outcome(oracle.REFUSED, refused.fault, written) if refused else Outcome(oracle.DONE, None, written)
-
 
 # --- Two logs: how their items differ ---------------------------------------------------------------------------------
 
@@ -969,8 +541,11 @@ def session_text(session):
 
 def state_text(session, counts):
     """Whether a recording is clean."""
-    look, _, words, reason = heading(session.log, session.frames, counts)
-    return f"{words}." if look == "good" else f"<b>{words if session.frames else 'The recording is not clean'}:</b> {reason}"
+    kind, told, sentences = state(session.log, session.frames, counts)
+    if kind == "clean":
+        return f"{STATES[kind]}."
+    means = [*([f"<em>{told}.</em>"] if told else []), *(WORDS["sentence", name] for name in sentences)]
+    return f"<b>{STATES[kind]}:</b> {' '.join(means)}"
 
 
 def counts_of_session(session):
@@ -1016,10 +591,12 @@ def pair_reported(left, right, limit=GIBIBYTE, sides=SIDES, names=(b"left.log", 
 
 
 def main():
-    name = sys.argv[1].encode() if len(sys.argv) > 1 else STANDARD_INPUT
-    limit = int(sys.argv[2]) if len(sys.argv) > 2 else GIBIBYTE
-    sides = dict(zip((TESTER, UNIT), sys.argv[3:])) or SIDES
-    came = reported(sys.stdin.buffer.read(), limit, sides, name)
+    if len(sys.argv) < 3:
+        sys.exit(__doc__)
+    paths = sys.argv[1:3]
+    limit = int(sys.argv[3]) if len(sys.argv) > 3 else GIBIBYTE
+    sides = dict(zip((TESTER, UNIT), sys.argv[4:])) or SIDES
+    came = pair_reported(*(Path(path).read_bytes() for path in paths), limit, sides, [last_part(path.encode()) for path in paths])
     sys.stdout.buffer.write(came.written)
     sys.exit(came.status)
 

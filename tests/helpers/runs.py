@@ -12,7 +12,21 @@ from collections import deque, namedtuple
 from contextlib import contextmanager
 from pathlib import Path
 
-Ended = namedtuple("Ended", "status output error")
+
+class Ended(namedtuple("Ended", "status output error")):
+    """How a run ended. Beside that stands what was asked, so that a failure can say it."""
+
+    asked = None
+
+    def _replace(self, **parts):
+        return self.of(self.asked, *super()._replace(**parts))
+
+    @classmethod
+    def of(cls, asked, *parts):
+        ended = cls(*parts)
+        ended.asked = asked
+        return ended
+
 
 # What a run took: its most kilobytes, or none, and its status.
 Peak = namedtuple("Peak", "kilobytes status")
@@ -22,9 +36,9 @@ PROGRAM_BYTES = 2_500_000
 
 PIPES = {"stdout": subprocess.PIPE, "stderr": subprocess.PIPE}
 
-# What was asked of programs last, so that a failure can say it.
+# What was asked of programs last, and of those that did otherwise than they should.
 Asked = namedtuple("Asked", "words size begin environment")
-asked = deque(maxlen=3)
+asked, blamed = deque(maxlen=3), []
 
 
 def ask(program, words, log=b"", env=None, **_):
@@ -44,7 +58,7 @@ def run(program, words=(), log=b"", **options):
     given = {} if "stdin" in options else {"input": log}
     ask(program, words, log, **options)
     done = subprocess.run([program, *words], timeout=60, **(PIPES | given | options))
-    return Ended(done.returncode, done.stdout, done.stderr)
+    return Ended.of(asked[-1], done.returncode, done.stdout, done.stderr)
 
 
 def told_by(program, words, folder, log=b"", **options):
@@ -66,7 +80,7 @@ def told_by(program, words, folder, log=b"", **options):
             break
         told += piece
     os.close(ours)
-    return Ended(done.returncode, done.stdout, told)
+    return Ended.of(asked[-1], done.returncode, done.stdout, told)
 
 
 def start(program, words=(), **options):
@@ -130,7 +144,30 @@ class Program:
 
 
 def differences(what, came, want):
-    return [] if came == want else [f"{what}: {shown(came)}, not {shown(want)}"]
+    if came == want:
+        return []
+    blame(came, want)
+    return [f"{what}: {shown(came)}, not {shown(want)}"]
+
+
+def blame(came, want):
+    """Keeps what was asked of the runs that ended otherwise."""
+    if isinstance(came, Ended):
+        blamed.extend([came.asked] if came.asked and came.asked not in blamed else [])
+    elif isinstance(came, (list, tuple)) and isinstance(want, (list, tuple)):
+        for one, other in zip(came, want):
+            if one != other:
+                blame(one, other)
+
+
+def asked_in_vain():
+    """What a failure says that was asked: of the first runs that ended otherwise, where they are known, and else last."""
+    return blamed[:3] or [*asked]
+
+
+def forget():
+    asked.clear()
+    blamed.clear()
 
 
 def shown(value):

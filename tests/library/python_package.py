@@ -504,7 +504,7 @@ class Shipped(unittest.TestCase):
         statuses = re.findall(r"^    UDSNORM_(\w+) = (\d+)", (TOP / "library" / "udsnorm.h").read_text(), re.M)
         known = {name: getattr(library, name) for name, _ in statuses if hasattr(library, name)}
         self.assertEqual(known, {name: int(number) for name, number in statuses if name in known})
-        types = {"u32": ctypes.c_uint32, "u64": ctypes.c_uint64}
+        types = {"u16": ctypes.c_uint16, "u32": ctypes.c_uint32, "u64": ctypes.c_uint64}
         self.assertEqual(library.Answer._fields_, [(name, types[of]) for name, of in header.fields()])
 
     def test_the_oldest_python(self):

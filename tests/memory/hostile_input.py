@@ -94,7 +94,7 @@ MEANT = Fraction(49, 22)
 FOUND = Fraction(100, 44)
 
 # Those of the rows of a log, of which a page of two logs holds both.
-ROWS = Fraction(240, 22)
+ROWS = Fraction(218, 22)
 
 # Those of what a log means for each byte of its canonical log.
 MEANT_CANONICAL = Fraction(49, 46)

@@ -54,7 +54,7 @@ explain          2      0     2      -
 find             2      2     0      -
 compare          8      4    11      -
 report           2      0     2      -
-keep_two        10      8    13      -
+keep_two        10      6    13      -
 """
 
 # How many growths each job has over each log, apart from those of its words: of a job over two logs those over the left one, and

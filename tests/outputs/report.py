@@ -1,5 +1,5 @@
-"""The page of a log."""
+"""The page of a log: what it comes to is equal to each page that tells the facts of the log."""
 
-import report_oracle
+import report_facts
 
-OUTCOMES = {"report": report_oracle.reported}
+OUTCOMES = {"report": report_facts.reported}

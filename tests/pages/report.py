@@ -3,9 +3,10 @@
 
     tests/pages/report.py crates/udsnorm/out/udsnorm [TEST..]
 
-Of the sample logs, the logs of rows/, logs made for one thing each and 300 random ones the page is the oracle's, byte for byte,
-and its rows alone tell what `list` and `explain` write. Then come names of files, options, refused logs, devices, sizes and
-memory. Prints a line for each case and ends with `N passed, M failed`; its status is 1 where a case failed.
+Pages of each kind are those of golden/, byte for byte. Of the sample logs, the logs of rows/, logs made for one thing each and 300
+random ones the page tells the facts of its log, by report_facts.py, and its rows alone tell what `list` and `explain` write. Then come
+names of files, options, refused logs, devices, sizes and memory. Prints a line for each case and ends with `N passed, M failed`; its
+status is 1 where a case failed.
 """
 
 import gzip
@@ -20,14 +21,17 @@ from pathlib import Path
 
 sys.path.insert(0, str(Path(__file__).resolve().parents[1] / "helpers"))
 
+import golden_pages
 import oracle
-import report_oracle
+import report_facts
 import tables
 from cases import DEVICE, DONE, REFUSAL, UNCLEAN, Cases
 from oracle import TESTER, UNIT
 from random_logs import random_logs
 from recordings import message_of
-from report_reader import counts_in, counts_of_rows, counts_told, explanation_told, has_brief_rows, list_told, rows_in, shortened
+from report_facts import first_difference
+from report_reader import read, rows_in
+from retold import counts_in, counts_of_rows, counts_told, explanation_told, list_told, shortened
 from runs import PROGRAM_BYTES, differences, end, give, peak, start
 from tables import EXAMPLES, VIN
 from told import LONG_LOG, READ_FAILED, WRITE_FAILED, place
@@ -91,7 +95,69 @@ def log_of(*frames):
     return b"".join(tables.stamped(number, frame) for number, frame in enumerate(frames))
 
 
-# --- Pages beside the oracle --------------------------------------------------------------------------------------------
+# --- Pages of each kind ---------------------------------------------------------------------------------------------------
+
+
+def golden(cases):
+    """A page of each kind is the one that was read whole, but for the style, and that is the style of all pages."""
+    for name, log in golden_pages.logs().items():
+        found, path = cases.run(["report", *golden_pages.PAGES[name]], log), golden_pages.GOLDEN / f"{name}.html"
+        wrong = first_difference("line", golden_pages.shortened(found.output.decode()).split("\n"), path.read_text().split("\n"))
+        wrong += [] if f"<style>\n{report_facts.STYLE}</style>\n".encode() in found.output else ["the style is not that of report.css"]
+        cases.report(f"golden/{path.name}", wrong + text_faults(found.output))
+    names = {f"{name}.html" for name in golden_pages.PAGES}
+    cases.report("golden/ has no other page", differences("its pages", {path.name for path in golden_pages.GOLDEN.glob("*.html")}, names))
+    for log, lines in golden_pages.refused_logs():
+        page = cases.run(["report"], log).output.decode()
+        cases.report(f"golden/refused.txt: {log!r}", differences("why it is refused", golden_pages.reasons(page), lines))
+
+
+# Faults of a page of golden/clean.log: what stands there, and what stands in its place.
+FAULTS = [
+    ("a byte of a message", "<code>50 03 00 32", "<code>50 03 00 33"),
+    ("a time", "<td>0.022345<td>", "<td>0.022346<td>"),
+    ("a line", "<th scope=\"row\">4<td>5<td>", "<th scope=\"row\">4<td>6<td>"),
+    ("the time that an answer took", "after 12.345&#160;ms", "after 12.354&#160;ms"),
+    ("the target of a link", '<a href="#i1">item 1</a>', '<a href="#i2">item 1</a>'),
+    ("a row less", re.compile(r'<tr class="ok">.*\n'), ""),
+    ("two rows exchanged", re.compile(r"(<tr .*\n)(<tr .*\n)"), r"\2\1"),
+    ("a sentence less", " Not every request has a positive answer.", ""),
+    ("another word", "Not every request", "Not each request"),
+    ("a count", "<dt>pending</dt><dd>2</dd>", "<dt>pending</dt><dd>3</dd>"),
+    ("an identifier twice", 'id="i3"', 'id="i2"'),
+    ("letters of other bytes", "<samp>b..WBA3A5C50EF123456</samp>", "<samp>b..WBA3A5C50EF123457</samp>"),
+    ("a row in the body of another request", re.compile(r"<tbody>\n(?=.*22 F1 91)"), ""),
+    ("a block that is folded", '<details class="b" open>', '<details class="b">'),
+    ("the look of a row", '<tr class="ok">', '<tr class="n">'),
+    ("an arrow the other way round", '<use href="#u"/>', '<use href="#t"/>'),
+]
+
+
+def faults(cases):
+    """The reader finds each fault of a page: these, each line that is left out or stands twice, and each eleventh
+    byte that is another one."""
+    log = golden_pages.logs()["clean"]
+    page, want = cases.run(["report"], log).output.decode(), report_facts.reported(log).written
+    cases.report("a page without a fault", want.differences(page.encode()))
+    for name, old, new in FAULTS:
+        other = re.sub(old if isinstance(old, re.Pattern) else re.escape(old), new, page, count=1)
+        wrong = ["the page is the same"] if other == page else [] if want.differences(other.encode()) else ["it is not found"]
+        cases.report(f"a fault: {name}", wrong)
+    lines = page.splitlines(keepends=True)
+    others = {f"line {at + 1} left out": lines[:at] + lines[at + 1 :] for at in range(len(lines))}
+    others |= {f"line {at + 1} twice": lines[: at + 1] + lines[at:] for at in range(len(lines))}
+    others |= {f"byte {at + 1} is another one": [page[:at], "~", page[at + 1 :]] for at in places_of_bytes(page)}
+    unseen = [name for name, other in others.items() if not want.differences("".join(other).encode())]
+    cases.report(f"{len(others)} faults of lines and bytes", [f"not found: {name}" for name in unseen[:3]])
+
+
+def places_of_bytes(page):
+    """Every eleventh byte of a page, without its style, which is a text by itself."""
+    begin, end = page.index("<style>"), page.index("</style>")
+    return [*range(begin), *range(end, len(page))][::11]
+
+
+# --- Pages beside the facts of their logs ---------------------------------------------------------------------------------
 
 
 def pages(cases):
@@ -104,23 +170,20 @@ def pages(cases):
 def page_faults(cases, log, sides):
     options = [word for side in (TESTER, UNIT) for word in (f"--{side}", sides[side])]
     found = cases.run(["report", *options], log)
-    wrong = page_differences(found, report_oracle.reported(log, sides=sides)) + text_faults(found.output)
+    wrong = page_differences(found, report_facts.reported(log, sides=sides)) + text_faults(found.output)
     try:
-        return wrong + retold_otherwise(cases, found.output.decode(), log, options)
+        return wrong + retold_otherwise(cases, read(found.output.decode()).facts, log, options)
     except (LookupError, ValueError) as error:
         return [*wrong, f"a page that can't be read: {error!r}"]
 
 
 def page_differences(found, came, status=None, told=None):
-    """How a run of the program differs from what the oracle says; of a page the first line that does. Another status and what
-    is told then can be said."""
+    """How a run of the program differs from what the log says. Another status and what is told then can be said."""
     fault = f"{came.fault}\n".encode() if came.fault else b""
-    lines = itertools.zip_longest(found.output.splitlines(keepends=True), came.written.splitlines(keepends=True))
-    differing = next(([number, *both] for number, both in enumerate(lines, 1) if both[0] != both[1]), None)
     return [
         *differences("status", found.status, came.status if status is None else status),
         *differences("error output", found.error, fault if told is None else told),
-        *(differences(f"line {differing[0]} of the page", *differing[1:]) if differing else []),
+        *came.written.differences(found.output),
     ]
 
 
@@ -143,16 +206,17 @@ def text_faults(page):
 def retold_otherwise(cases, page, log, options):
     """How what the rows alone tell differs from what `list` writes, or `watch` where that is refused, and `explain`; and what the
     page counts from how many rows there are."""
-    rows, is_brief = rows_in(page), has_brief_rows(page)
+    rows, counts = rows_in(page), page.verdict.counts
+    is_brief = any(row.is_brief for row in rows)
     listed = cases.run(["list", *options], log)
     if listed.status != DONE:
         listed = cases.run(["watch", *options], log)
     explained = cases.run(["explain", *options], log)
-    counts = counts_told(page, rows) if explained.status == DONE else ""
+    counted = counts_told(counts, rows) if explained.status == DONE else ""
     return [
         *differences("the list by the rows", shortened(list_told(rows), is_brief), shortened(listed.output.decode(), is_brief)),
-        *differences("the explanation by the rows", explanation_told(rows) + counts, explained.output.decode()),
-        *differences("the counts", counts_in(page), counts_of_rows(rows)),
+        *differences("the explanation by the rows", explanation_told(rows) + counted, explained.output.decode()),
+        *differences("the counts", counts_in(counts), counts_of_rows(rows)),
     ]
 
 
@@ -273,8 +337,8 @@ def names(cases):
 
 def name_faults(cases, words, shown, **options):
     found = cases.run(["report", *words], VIN, **options)
-    name = report_oracle.last_part(os.fsencode(words[-1])) if words else report_oracle.STANDARD_INPUT
-    wrong = page_differences(found, report_oracle.reported(VIN, name=name))
+    name = report_facts.last_part(os.fsencode(words[-1])) if words else report_facts.STANDARD_INPUT
+    wrong = page_differences(found, report_facts.reported(VIN, name=name))
     for text in (f"<title>{shown} - udsnorm report</title>\n", f"<h1>{shown}</h1>\n"):
         wrong += [] if text.encode() in found.output else [f"{text!r} is not there"]
     return wrong + ([] if b"<script" not in found.output else ["it has a script"])
@@ -284,7 +348,7 @@ def options(cases):
     """Options are those of `messages`, which ends in the same way; and the page is for them."""
     for words, sides, limit in OPTIONS:
         found = cases.run(["report", *words], VIN)
-        wrong = page_differences(found, report_oracle.reported(VIN, limit, sides))
+        wrong = page_differences(found, report_facts.reported(VIN, limit, sides))
         cases.report(f"report {' '.join(words)}", wrong + ends_otherwise(cases, words, VIN, found))
     for words in WRONG_VALUES:
         found = cases.run(["report", *words], VIN)
@@ -309,7 +373,7 @@ def strict_runs(cases):
         ("a refused log", VIN + b"x\n"),
     ]:
         found = cases.run(["report", "--strict"], log)
-        came = report_oracle.reported(log)
+        came = report_facts.reported(log)
         told = oracle.unclean(log) if came.status == DONE else None
         wrong = page_differences(found, came, *([UNCLEAN, f"{told}\n".encode()] if told else []))
         shown = f"<p><em>{told.removeprefix('not clean: ')}.</em>" if told else ""
@@ -335,7 +399,7 @@ def refused_logs(cases):
         ("by a limit of a byte", VIN, 1, LONG_LOG, []),
     ]:
         found = cases.run(["report", *(["--limit", str(limit)] if limit else [])], log)
-        wrong = page_differences(found, report_oracle.reported(log, limit or oracle.GIBIBYTE), REFUSAL, told)
+        wrong = page_differences(found, report_facts.reported(log, limit or oracle.GIBIBYTE), REFUSAL, told)
         cases.report(f"a log that is refused {name}", wrong + refusal_faults(found, told, rows))
 
 
@@ -346,16 +410,16 @@ def causes_of_refusals(cases):
         ("compressed", gzip.compress(VIN), None, True),
         ("a table", b"timestamp,id,data\n", None, True),
         ("with nine decimals", b"(1700000000.000000000) can0 7E0#00\n", None, True),
-        ("cut", VIN[:-3], None, True),
+        ("cut", VIN[:-2], None, True),
         ("with a notice", VIN + b"DROPCOUNT: dropped 1 CAN frame\n", None, True),
         ("that begins with a notice", b"DROPCOUNT: dropped 1 CAN frame\n" + VIN, None, True),
         ("longer than its limit", VIN, 40, True),
         ("of no known kind", b"no log\n", None, False),
-        ("with a line that breaks off", lines[0][:-3] + b"\n" + VIN, None, False),
+        ("with a line that breaks off", lines[0][:-2] + b"\n" + VIN, None, False),
     ]:
         words = ["report", "--hints", *(["--limit", str(limit)] if limit else [])]
         found = cases.run(words, log)
-        wrong = page_differences(found, report_oracle.reported(log, limit or oracle.GIBIBYTE), REFUSAL, found.error)
+        wrong = page_differences(found, report_facts.reported(log, limit or oracle.GIBIBYTE), REFUSAL, found.error)
         hints = [line for line in found.error.decode().splitlines() if line.startswith("hint: ")]
         shown = re.findall(r"^<p><b>Cause:</b> (.*)\.</p>$", found.output.decode(), re.M)
         wrong += differences("the cause", shown, [hint.removeprefix("hint: ").replace("standard input", "this log") for hint in hints])
@@ -369,23 +433,24 @@ def refusal_faults(found, told, rows):
     heading = "The log is refused</h2>\n<p><em>" + reason + ".</em> Below is what the lines before that say;"
     return [
         *(f"{text!r} is not there" for text in (stop, heading, '<p id="end">') if text not in page),
-        *differences("the kinds of its rows", [row.kind for row in rows_in(page)], rows),
+        *differences("the kinds of its rows", [row.kind for row in rows_in(read(page).facts)], rows),
         *text_faults(found.output),
     ]
 
 
 def growing_page(cases):
     """Each row can be read before the frame behind it is given: a page is written while the session is recorded."""
-    log, running, came, wrong = log_of("123#00", *needing_a_look(), ANSWER), start(cases.program, ["report"]), b"", []
-    lines = log.splitlines(keepends=True)
+    log = log_of("123#00", *needing_a_look(), ANSWER)
+    whole, running, came = cases.run(["report"], log), start(cases.program, ["report"]), b""
+    lines, wrong = log.splitlines(keepends=True), page_differences(whole, report_facts.reported(log))
     for number, line in enumerate(lines, 1):
         give(running, line)
-        want = report_oracle.begun(b"".join(lines[:number]))
+        want = report_facts.so_far(whole.output, b"".join(lines[:number]))
         while len(came) < len(want) and select.select([running.stdout], [], [], 30)[0]:
             came += os.read(running.stdout.fileno(), 65_536)
         wrong += differences(f"behind line {number}", came, want)
     rest = end(running)
-    wrong += page_differences(rest._replace(output=came + rest.output), report_oracle.reported(log))
+    wrong += differences("the whole page", rest._replace(output=came + rest.output), whole)
     cases.report("a page of a log that comes line by line", wrong)
 
 
@@ -431,7 +496,7 @@ def main():
     if len(sys.argv) < 2:
         sys.exit(__doc__)
     cases = Cases(os.path.abspath(sys.argv[1]), sys.argv[2:])
-    cases.each([pages, names, options, strict_runs, refused_logs, causes_of_refusals, growing_page, devices, sizes, memory])
+    cases.each([golden, faults, pages, names, options, strict_runs, refused_logs, causes_of_refusals, growing_page, devices, sizes, memory])
     cases.end()
 
 

@@ -25,7 +25,8 @@ import tables
 from cases import DEVICE, DIFFERENT, DONE, REFUSAL, UNCLEAN, WORDS, Cases
 from oracle import TESTER, UNIT
 from random_logs import random_logs
-from report import ANSWER, EXTENDED, FIRST, NAMES, OUT_OF_ORDER, REFUSED, REQUEST, STRAY, UNKNOWN, WRONG_VALUES, log_of, page_differences, text_faults
+from report import ANSWER, EXTENDED, FIRST, NAMES, OUT_OF_ORDER, REFUSED, REQUEST, STRAY, UNKNOWN, WRONG_VALUES, log_of, text_faults
+from report_facts import first_difference, last_part
 from runs import differences, files, peak_kilobytes, start
 from tables import EXAMPLES, VIN
 from told import LONG_CANONICAL, LONG_LOG, READ_FAILED, WRITE_FAILED, oversize, place
@@ -159,6 +160,16 @@ def pair_faults(cases, left, right, sides=oracle.SIDES, limit=None, is_strict=Fa
     return page_differences(found, came) + page_faults(found.output) + compared_otherwise(found, compared)
 
 
+def page_differences(found, came):
+    """How a run of the program differs from what the oracle says; of a page the first line that does."""
+    fault = f"{came.fault}\n".encode() if came.fault else b""
+    return [
+        *differences("status", found.status, came.status),
+        *differences("error output", found.error, fault),
+        *first_difference("line of the page", *(page.decode().split("\n") for page in (found.output, came.written))),
+    ]
+
+
 def compared_otherwise(found, compared):
     """How a page says something else than `compare`. That also refuses logs by messages that they announce and by their canonical logs,
     of which `refused_by_compare` is."""
@@ -174,7 +185,10 @@ def verdict_of(page):
     item = re.search(rb"</span> The two sessions differ, first at item (\d+)</h2>", page)
     if item:
         return b"different at item %s\n" % item[1]
-    same = (b"</span> The two sessions are the same</h2>", b"</span> Neither session has an item</h2>")
+    same = (
+        b"</span> The two sessions are the same</h2>", b"</span> The two sessions are the same, but tester and unit look exchanged</h2>",
+        b"</span> Neither session has an item</h2>",
+    )
     return b"same\n" if any(words in page for words in same) else b""
 
 
@@ -464,7 +478,7 @@ def name_faults(cases, words, folder):
     """Two files of one name are called by their paths."""
     paths = words[-2:]
     found = cases.run(["report", *words], cwd=folder)
-    given = [report_oracle.last_part(os.fsencode(path)) for path in paths]
+    given = [last_part(os.fsencode(path)) for path in paths]
     shown = [NAMES[path.removeprefix(f"{folder}/")] for path in paths]
     if given[0] == given[1]:
         given, shown = [path.encode() for path in paths], paths

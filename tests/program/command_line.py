@@ -16,7 +16,7 @@ from pathlib import Path
 sys.path.insert(0, str(Path(__file__).resolve().parents[1] / "helpers"))
 
 import commands
-import report_oracle
+import report_facts
 from cases import DEVICE, DIFFERENT, DONE, REFUSAL, UNCLEAN, WORDS, Cases
 from counts import counts_line
 from objects import in_objects
@@ -58,8 +58,10 @@ OF_PROGRAM = "udsnorm"
 
 def text_of(job, file=None):
     """What a job writes of the log, which is in this file where one is given. A page has its name."""
-    name = report_oracle.STANDARD_INPUT if file is None else report_oracle.last_part(file.encode())
-    return report_oracle.page(LOG, name) if job == "report" else TEXTS[job] if job in TEXTS else commands.ORACLES[job](LOG).written
+    name = report_facts.STANDARD_INPUT if file is None else report_facts.last_part(file.encode())
+    if job == "report":
+        return report_facts.reported(LOG, name=name).written
+    return TEXTS[job] if job in TEXTS else commands.ORACLES[job](LOG).written
 
 
 def jobs(cases):

@@ -4,6 +4,7 @@ import errno
 import itertools
 from functools import partial
 
+import report_facts
 import report_oracle
 from cases import DEVICE, DIFFERENT, DONE, REFUSAL
 from counts import counts_line
@@ -60,13 +61,6 @@ line 2: unit frame dropped: unknown kind
 """ + counts_line(NO_FRAMES, dropped=2)
 
 
-def page_told():
-    """What each line of the session adds to its page."""
-    lines = SESSION.splitlines(keepends=True)
-    pages = [report_oracle.begun(b"".join(lines[:number])) for number in range(len(lines) + 1)]
-    return [page.removeprefix(before) for before, page in itertools.pairwise(pages)]
-
-
 def devices(program):
     yield "normalise, a read fails after each byte", partial(reads_fail, program)
     yield "list, a read fails after each byte", partial(listing_fails, program)
@@ -74,9 +68,9 @@ def devices(program):
         ("explain", SESSION, [*EXPLAINED.splitlines(keepends=True)[:2], b"", b"", b""]),
         ("messages", SESSION, [b"", b"", *PLACED.splitlines(keepends=True)]),
         ("messages", VIN, [VIN_PLACED.splitlines(keepends=True)[0], b"", b"", b"", VIN_PLACED.splitlines(keepends=True)[1]]),
-        ("report", SESSION, page_told()),
     ]:
         yield f"{job} of {len(log)} bytes, a read fails after each byte", partial(telling_fails, program, job, log, told)
+    yield f"report of {len(SESSION)} bytes, a read fails after each byte", partial(page_fails, program)
     for job in ("compare", "diff", "report"):
         yield f"{job} of two logs, a read of either fails after each byte", partial(comparing_fails, program, job)
     yield "report of two logs, a byte a call", partial(page_byte_by_byte, program)
@@ -131,6 +125,14 @@ def telling_fails(program, job, log, told):
         written = b"".join(told[: log[:given].count(b"\n")])
         wrong += differences(f"{given} bytes", found, (Ended(DEVICE, written, READ_FAILED), True))
     return wrong
+
+
+def page_fails(program):
+    """The front of a page is written with the first frame, and the rows of each of the lines before."""
+    whole, lines = program.run(["report"], SESSION), SESSION.splitlines(keepends=True)
+    pages = [report_facts.so_far(whole.output, b"".join(lines[:number])) for number in range(len(lines) + 1)]
+    told = [page.removeprefix(before) for before, page in itertools.pairwise(pages)]
+    return differences("the page", whole, Ended(DONE, report_facts.reported(SESSION).written, b"")) + telling_fails(program, "report", SESSION, told)
 
 
 def comparing_fails(program, job):

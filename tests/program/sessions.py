@@ -22,7 +22,7 @@ sys.path.insert(0, str(Path(__file__).resolve().parents[1] / "helpers"))
 
 import commands
 import oracle
-import report_oracle
+import report_facts
 import tables
 from cases import DIFFERENT, DONE, REFUSAL, UNCLEAN, WORDS, Cases
 from counts import counts_in, counts_line
@@ -30,11 +30,14 @@ from devices import devices
 from objects import in_objects
 from recordings import CANONICAL, SIZES, Style, message_of, recorded
 from refuser import Refuser
-from runs import Ended, Program, asked, differences, files, how, pipe
+from runs import Ended, Program, asked, asked_in_vain, differences, files, forget, how, pipe
 from tables import CANONICAL_LINE, VIN, VIN_PLACED, Row
 from told import LONG_CANONICAL, LONG_LOG, OVERSIZE, place
 
 JOBS = ["normalise", "list", "explain", "messages", "report"]
+
+# The line of a page with the cause of a refusal.
+CAUSE = re.compile(rb"^<p><b>Cause:</b> .*\n", re.M)
 
 # Why a log is refused that can be explained all the same, and whose messages can be told.
 ONLY_NORMALISED = (OVERSIZE, LONG_CANONICAL)
@@ -54,7 +57,7 @@ def taken(program, log, options=()):
     ended, wrong = [], []
     for job in JOBS:
         ended.append(program.run([job, *options], log))
-        wrong += differences(f"{job} byte by byte", program.run_short([job, *options], log), ended[-1])
+        wrong += byte_by_byte(job, program.run_short([job, *options], log), ended[-1])
     normalised, listed, explained, placed, reported = ended
     wrong += differences("how list ends", how(listed), how(normalised))
     wrong += differences("what is listed of a refused log", listed.output if listed.status else b"", b"")
@@ -71,6 +74,14 @@ def taken(program, log, options=()):
     if listed.status == DONE:
         wrong += differences("the list by the messages", oracle.listed_again(placed.output.decode()), listed.output.decode())
     return Taken(*ended, wrong)
+
+
+def byte_by_byte(job, found, whole):
+    """How a job ends otherwise where each read gives a byte. Then less is seen of a log that is refused, and its page may have no cause."""
+    came, want = (ended._replace(output=CAUSE.sub(b"", ended.output)) for ended in (found, whole))
+    wrong = differences(f"{job} byte by byte", came, want)
+    seen, known = CAUSE.findall(found.output), CAUSE.findall(whole.output)
+    return wrong + (differences(f"the cause of {job} byte by byte", seen, known) if seen else [])
 
 
 def watched_otherwise(program, log, options, listed, explained):
@@ -104,7 +115,7 @@ def again(program, row, found):
     canonical = row.canonical()
     clean = counts_line(canonical, canonical, row.sides())
     places = placed_one_by_one(found.listed)
-    page = report_oracle.reported(canonical, sides=dict(zip((oracle.TESTER, oracle.UNIT), row.sides()))).written
+    page = report_facts.reported(canonical, sides=dict(zip((oracle.TESTER, oracle.UNIT), row.sides()))).written
     wants = [Ended(DONE, canonical, b""), found.listed, *(Ended(DONE, text, b"") for text in (clean, places, page))]
     ended = [program.run([job, *sides(row)], canonical) for job in JOBS]
     return differences("the canonical log again", ended, wants)
@@ -631,13 +642,13 @@ def thousands_of_exchanges(program):
 
 
 def answer_of(check):
-    """What is wrong by a check, and what it asked last. An answer that it can't read is wrong, too."""
-    asked.clear()
+    """What is wrong by a check, and what it asked. An answer that it can't read is wrong, too."""
+    forget()
     try:
         wrong = check()
     except (LookupError, ValueError) as error:
         wrong = [f"an answer that can't be read: {error!r}"]
-    return wrong, [*asked] if wrong else []
+    return wrong, asked_in_vain() if wrong else []
 
 
 def main():
@@ -650,12 +661,16 @@ def main():
             sessions, places, pages, commands_of_rows, decided_items, pairs_found, logs_without_message, frames_without_part, refused_lines, recording_that_breaks_off, names_listed,
             limits, strict_runs, configurations, comparisons, recordings, long_logs, devices,
         ])
-        names, checks = zip(*(case for test in tests for case in test(program)))
+        of_tests, names, checks = zip(*((test.__name__, *case) for test in tests for case in test(program)))
         if not cases.named:
             cases.report("each table of rows/ is taken", [f"{name} is not" for name in tables.left()])
-        for name, (wrong, last) in zip(names, workers.map(answer_of, checks)):
+        failing = []
+        for test, name, (wrong, last) in zip(of_tests, names, workers.map(answer_of, checks)):
             asked.extend(last)
             cases.report(name, wrong)
+            failing += [test] if wrong and test not in failing else []
+    for test in failing:
+        cases.tell_alone(test)
     cases.end()
 
 
