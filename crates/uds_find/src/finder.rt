@@ -79,13 +79,10 @@ impl Finder {
             → StandsAfter frames self.old → IsFirstCredit frames frame) }
         ensures kept { self.new.waiting ≡ self.old.waiting }
     {
-        match credited_to(self.waiting[service as usize], unit) {
-            None => Ok(()),
-            Some(pair) => {
-                count(&mut self.pairs, pair)?;
-                Ok(())
-            }
+        if let Some(pair) = credited_to(self.waiting[service as usize], unit) {
+            count(&mut self.pairs, pair)?;
         }
+        Ok(())
     }
 }
 
@@ -118,12 +115,10 @@ fn lines_of(alloc: Global, pairs: BTreeMap<Pair, u64>) -> Result<Vec<CreditLine>
 fn credited_to(waiting: Option<Id>, unit: Id) -> Option<Pair>
     ensures { result ≡ Spec.credited_to waiting unit }
 {
-    match waiting {
-        Some(tester) => if tester == unit {
-            None
-        } else {
-            Some(Pair { tester, unit })
-        },
-        None => None,
+    let tester = waiting?;
+    if tester == unit {
+        None
+    } else {
+        Some(Pair { tester, unit })
     }
 }
