@@ -37,7 +37,7 @@ impl<'a> Model for Segments<'a> {
 }
 
 impl<'a> Segments<'a> {
-    ghost use Rattle.std.specs.Prelude.{◌≡◌, ◌≤◌, [], ◌∷◌, List, ℕ, length, slice_set, IfSome, IfNone, IsSome};
+    ghost use Rattle.std.specs.Prelude.{◌≡◌, ◌≤◌, [], ◌∷◌, List, ℕ, length, IfSome, IfNone, IsSome};
     ghost use Rattle.isotp_segment.specs.CanonicalFrames.{IsFullNext, canonical_frames};
     ghost use Rattle.isotp_receive.specs.declared.TheConstants.{MESSAGE_LIMIT};
 
@@ -68,15 +68,9 @@ impl<'a> Segments<'a> {
         if self.number < 2 || self.count <= self.number || sender != self.dir {
             return None;
         }
-        match full_frame(self.message, self.number - 1) {
-            Some((bytes, control)) => {
-                self.number += 1;
-                let mut frame = *bytes;
-                frame[0] = control;
-                Some(frame)
-            }
-            None => None,
-        }
+        let frame = full_frame(self.message, self.number - 1)?;
+        self.number += 1;
+        Some(frame)
     }
 
     /// The next frame, of whatever kind.

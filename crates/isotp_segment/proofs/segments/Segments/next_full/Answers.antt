@@ -18,9 +18,9 @@ returns-then-self-lt2-clause-misses_none c full =
           absurd (differs_true the_type c.args.sender c.self.inside.dir (sym w.ne.ensures ∙ w.if-ne.true) at.same)
     ]
 
-pub returns-in-None-clause-misses_none : goal.returns-in-None-clause-misses_none
-returns-in-None-clause-misses_none c full =
+pub returns-in_err-frame-clause-misses_none : goal.returns-in_err-frame-clause-misses_none
+returns-in_err-frame-clause-misses_none c full =
     let at = is_full_at MESSAGE_LIMIT c.args.sender c.self.inside.dir c.self.inside.message.now c.self.inside.number c.self.invariant.some c.self.invariant.limit
     (subst (IsFullNext c.args.sender) (sym c.self.view_is) full) in
-    let short = c.in-None.ensures.none in
+    let short = c.in_err-frame.ensures.none in
     absurd (omega (arith, at.within, short))
