@@ -148,9 +148,9 @@ fn put_strays<S: ItemSink>(held: &HeldMessages, sink: &mut S)
     ensures { PutsItems S.takes sink.old (map stray_of held.now) sink.new }
 {
     let mut strays = StraySink { sink };
-    if let Err(_fault) = held.put_all(&mut strays) {
-        // A sink of items takes all that is put.
-        return;
+    match held.put_all(&mut strays) {
+        Ok(()) => {}
+        Err(fault) => match fault {},
     }
 }
 
