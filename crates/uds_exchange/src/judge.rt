@@ -3,7 +3,8 @@
 ghost use Rattle.std.specs.Prelude.{◌≡◌, ◌^◌, ◌<◌, ◌++◌, ◌∷◌, [], List, length};
 ghost use Rattle.direction.specs.Dir.{Message};
 ghost use Rattle.uds_exchange.specs.Exchanged.{sides_of};
-ghost use Rattle.uds_exchange.specs.Judging.{HasJudged, IsJudgeOf, IsOpenSid, advanced, number_after, number_in, one_more, sent, step_after};
+ghost use Rattle.uds_exchange.specs.Judging.{HasJudged, IsJudgeOf, IsOpenSid, number_after, one_more, sent, step_after};
+ghost use Rattle.uds_exchange.specs.proving.Judging.{advanced, number_in};
 
 use crate::sides::Sides;
 use crate::step::{Step, step_of};
