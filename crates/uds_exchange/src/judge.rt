@@ -26,15 +26,15 @@ pub struct Judged<'a> {
 #[derive(Clone, Copy, Debug)]
 pub struct Judge {
     /// The first byte of the last request, where that waits for its answer.
-    pub open_sid: Option<u8>,
+    pub(crate) open_sid: Option<u8>,
     /// How many items there are.
-    pub items: u64,
+    items: u64,
     /// How many of them are strays behind a request that waits.
-    pub held_count: u64,
+    held_count: u64,
     /// How many replies were left out.
-    pub removed: u64,
+    removed: u64,
     /// What tells whether tester and unit are exchanged.
-    pub sides: Sides,
+    sides: Sides,
 }
 
 impl Judge {
@@ -70,6 +70,20 @@ impl Judge {
             step,
             item,
         }
+    }
+
+    /// How many replies were left out.
+    pub fn removed(&self) -> u64
+        ensures { result ≡ self.now.removed }
+    {
+        self.removed
+    }
+
+    /// What tells whether tester and unit are exchanged.
+    pub fn sides(&self) -> Sides
+        ensures { result ≡ self.now.sides }
+    {
+        self.sides
     }
 
     /// Counts one more message by what becomes of it, and answers the number of its item.
