@@ -40,7 +40,7 @@ pub record StandsAfter (frames : List FrameValue) (finder : FinderValue) : Type 
 -- the line of a pair and of the number of its credits
 abbrev pub credit_line : Pair × ℕ → CreditLine
 credit_line entry = record {
-  credits = record { 0 = entry.1 };
+  credits = entry.1;
   tester = record { items = identifier_text entry.0.tester };
   unit = record { items = identifier_text entry.0.unit };
 }
@@ -52,7 +52,7 @@ text_order = slice_cmp nat_cmp
 -- the order of lines: the most credits first, then by the tester's text, then by the unit's
 abbrev pub line_order : CreditLine → CreditLine → Ordering
 line_order one other =
-    ordering_then (nat_cmp other.credits.0 one.credits.0)
+    ordering_then (nat_cmp other.credits one.credits)
     (ordering_then (text_order one.tester.items other.tester.items) (text_order one.unit.items other.unit.items))
 
 -- These are the lines of the pairs that have a credit in these frames, in their order.
