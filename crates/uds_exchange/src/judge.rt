@@ -51,7 +51,8 @@ impl Judge {
         }
     }
 
-    /// Judges one more message. Laid in line: what a call answers in memory is read by covering loads.
+    /// Judges one more message. Laid in line: what a call answers in memory is read by loads wider than its stores, for which
+    /// store-to-load forwarding fails.
     #[inline(always)]
     pub fn take<'a>(&mut self, dir: Dir, message: &'a [u8]) -> Judged<'a>
         ensures next { (M : List Message) → length M < 2 ^ 62 → HasJudged M self.old → HasJudged (M ++ (dir, message.now) ∷ []) self.new }
