@@ -1,6 +1,6 @@
 use Rattle.std.proofs.Common.{sym, ◌∙◌}
 use Rattle.trace_report.proofs.Holding.{span_begins, span_goes_on}
-use Rattle.trace_report.proofs.keeper.span_with.Goals as goal
+use Rattle.trace_report.proofs.span.span_with.Goals as goal
 
 pub returns-in-Some : goal.returns-in-Some
 returns-in-Some c = λ T e span micros. span_goes_on T e c.in-Some.span c.args.micros (sym c.in-Some.is ∙ span) micros
