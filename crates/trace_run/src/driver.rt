@@ -16,7 +16,7 @@ ghost use Rattle.trace_run.specs.declared.machine.Stop.TheVariants.{OutputLimit}
 ghost use Rattle.trace_log.specs.declared.summary.Summary.{Summary as SummaryValue};
 ghost use Rattle.trace_log.specs.Devices.{HasLowCounts};
 
-use crate::machine::{Glimpse, Machine, Stop};
+use crate::machine::{Glimpse, Machine};
 use crate::page::{Page, settle};
 use crate::receiver::Receiver;
 use crate::summing::sum_up;
@@ -175,8 +175,5 @@ fn finish<M: Machine, W: Target>(
     if !settle(target, &mut page) {
         return Err(Fault::Write);
     }
-    match answer {
-        Ok(value) => Ok(value),
-        Err(Stop::OutputLimit) => Err(Fault::OutputLimit),
-    }
+    Ok(answer?)
 }

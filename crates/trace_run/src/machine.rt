@@ -7,6 +7,7 @@ ghost use Rattle.isotp_receive.specs.Trace.{Entry};
 ghost use Rattle.trace_run.specs.Seen.{IsSeen, glimpse_value};
 ghost use Rattle.trace_run.specs.Told.{Refusal, Script};
 ghost use Rattle.trace_run.specs.declared.machine.Stop.{Stop as StopValue};
+ghost use Rattle.trace_log.specs.declared.fault.Fault.TheVariants.{OutputLimit};
 ghost use Rattle.trace_log.specs.declared.summary.Summary.{Summary as SummaryValue};
 
 use direction::Dir;
@@ -21,6 +22,16 @@ use uds_exchange::Judged;
 pub enum Stop {
     /// What it would tell is longer than the limit.
     OutputLimit,
+}
+
+impl From<Stop> for Fault {
+    ghost from_gives = { λ _ fault. fault ≡ OutputLimit };
+
+    fn from(stop: Stop) -> Fault {
+        match stop {
+            Stop::OutputLimit => Fault::OutputLimit,
+        }
+    }
 }
 
 /// What is seen of a frame: what it did, and the message that it completed.

@@ -108,10 +108,7 @@ impl<M: Machine, W: Target> Telling<M, W> {
                     event,
                     message,
                 };
-                match tell(&mut self.machine, target, &mut self.page, seen) {
-                    Ok(()) => Ok(()),
-                    Err(_refused) => Err(Fault::Memory),
-                }
+                Ok(tell(&mut self.machine, target, &mut self.page, seen)?)
             }
         }
     }
@@ -176,10 +173,7 @@ fn tell<M: Machine, W: Target>(
     ensures needs { OnErr result ((start : M) (T : List Entry) (e : Entry) → IsSeen T e seen.entry → M.stands start T machine.old → M.needs start T e) }
 {
     let mut out = Drain { target, page };
-    match machine.event(seen, &mut out) {
-        Ok(()) => Ok(()),
-        Err(refused) => Err(refused),
-    }
+    machine.event(seen, &mut out)
 }
 
 /// Has the machine say what it says at the end, and answer.

@@ -16,14 +16,14 @@ returns-then-not-settle-clause-ends g c = λ start first settings log meanings r
     (carried_at_the_end (g.M.Machine.stands first) W script start settings log meanings _ _ _ _ _ _ _ _ _ c.settle.result c.sum_up-summary.result tells counted
     (c.tell_end-answer.ensures.says first (trace settings meanings) tells.machine_stands received.pair_is received.keeps) c.settle.ensures.settled)
 
-pub returns-in-Ok-clause-ends : goal.returns-in-Ok-clause-ends
-returns-in-Ok-clause-ends g c = λ start first settings log meanings received feed tells.
+pub returns-in_ok-answer-clause-ends : goal.returns-in_ok-answer-clause-ends
+returns-in_ok-answer-clause-ends g c = λ start first settings log meanings received feed tells.
     let W = g.W.Target in
     let M = g.M.Machine in
     let script = M.script first in
     let counted = c.sum_up-summary.ensures settings log meanings received feed tells.judged in (
-      subst (λ s. M.answers first (trace settings meanings) s (Ok c.in-Ok.value)) counted
-          (subst (λ r. M.answers first (trace settings meanings) c.sum_up-summary.result r) c.in-Ok.is (c.tell_end-answer.ensures.answered first (trace settings meanings) tells.machine_stands received.pair_is)),
+      subst (λ s. M.answers first (trace settings meanings) s (Ok c.in_ok-answer.value)) counted
+          (subst (λ r. M.answers first (trace settings meanings) c.sum_up-summary.result r) c.in_ok-answer.is (c.tell_end-answer.ensures.answered first (trace settings meanings) tells.machine_stands received.pair_is)),
       subst (λ b. Carries W start (whole_of_lines script MESSAGE_LIMIT settings log meanings) (not b) [] c.settle.new.target) c.if-not-settle.false
           (carried_at_the_end (M.stands first) W script start settings log meanings _ _ _ _ _ _ _ _ _ c.settle.result c.sum_up-summary.result tells counted
           (c.tell_end-answer.ensures.says first (trace settings meanings) tells.machine_stands received.pair_is received.keeps) c.settle.ensures.settled),
@@ -47,8 +47,8 @@ returns-then-not-settle-clause-more g c = λ mid said first settings meanings re
     let told = c.tell_end-answer.ensures.says first (trace settings meanings) stands received.pair_is received.keeps in
     only_more (c.settle.ensures.settled mid _ (told mid said carried))
 
-pub returns-in-Ok-clause-more : goal.returns-in-Ok-clause-more
-returns-in-Ok-clause-more g c = λ mid said first settings meanings received stands carried.
+pub returns-in_ok-answer-clause-more : goal.returns-in_ok-answer-clause-more
+returns-in_ok-answer-clause-more g c = λ mid said first settings meanings received stands carried.
     let told = c.tell_end-answer.ensures.says first (trace settings meanings) stands received.pair_is received.keeps in
     only_more (c.settle.ensures.settled mid _ (told mid said carried))
 
