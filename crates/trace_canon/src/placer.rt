@@ -1,7 +1,7 @@
 //! `messages`: a machine that says each message with its place in the log, as it is delivered.
 ghost use Rattle.isotp_receive.specs.declared.TheConstants.{MESSAGE_LIMIT};
 ghost use Rattle.trace_canon.specs.MessageLines.{extent_text, judged_at, placed_line, placed_text, placing_script};
-ghost use Rattle.trace_run.specs.Told.{RanLenient, answers_counts, needs_none};
+ghost use Rattle.trace_run.specs.Told.{RanLenient, answers_counts, command, needs_none};
 ghost use Rattle.trace_io.specs.Counted.{IsLowCount};
 ghost use Rattle.trace_log.specs.Devices.{HasLowCounts};
 
@@ -34,7 +34,7 @@ pub fn messages<R: Source, W: Target>(
     requires writer { IsLowCount (W.failures writer.old) }
 
     // What is answered and written; that it is written before more is read; and what was done with the devices.
-    ensures ran { RanLenient R.Source W.Target (placing_script notation MESSAGE_LIMIT) answers_counts needs_none MESSAGE_LIMIT config.now reader.old writer.old result reader.new writer.new }
+    ensures ran { RanLenient R.Source W.Target (command (placing_script notation MESSAGE_LIMIT) answers_counts needs_none) config.now reader.old writer.old result reader.new writer.new }
 {
     let machine = Placer {
         notation,

@@ -1,7 +1,6 @@
 //! A log told by a machine: where a run reads, writes and fails.
 ghost use Rattle.std.specs.Prelude.{◌≡◌, ℕ, List, [], length, Err, Option, false};
 ghost use Rattle.can_log.specs.declared.frame.Stamped.{Stamped as StampedValue};
-ghost use Rattle.isotp_receive.specs.declared.TheConstants.{MESSAGE_LIMIT};
 ghost use Rattle.isotp_receive.specs.Trace.{Entry};
 ghost use Rattle.trace_io.specs.Counted.{IsLowCount};
 ghost use Rattle.trace_run.specs.proving.Carrying.{Begins, CarriesPage, SettlesPageAs, EndsTelling, GivesUp, RefusesTelling};
@@ -10,7 +9,7 @@ ghost use Rattle.trace_log.specs.proving.Receiving.{Receives};
 ghost use Rattle.trace_log.specs.Settings.{Settings};
 ghost use Rattle.trace_log.specs.Summing.{ends_in_line_feed};
 ghost use Rattle.trace_run.specs.Seen.{glimpse_value};
-ghost use Rattle.trace_run.specs.Told.{Ran, RanLenient, glimpse_of, told_with};
+ghost use Rattle.trace_run.specs.Told.{Ran, RanLenient, command, glimpse_of, told_with};
 ghost use Rattle.trace_log.specs.Trace.{trace};
 ghost use Rattle.trace_run.specs.declared.machine.Stop.TheVariants.{OutputLimit};
 ghost use Rattle.trace_log.specs.declared.summary.Summary.{Summary as SummaryValue};
@@ -39,7 +38,7 @@ pub fn run<M: Machine + Drop, R: Source, W: Target>(
     requires machine { M.stands machine [] machine }
     requires reader { HasLowCounts R.Source reader.old }
     requires writer { IsLowCount (W.failures writer.old) }
-    ensures ran { Ran R.Source W.Target (told_with (M.script machine) (M.refusal machine) (glimpse_of R.Source reader.new)) (M.answers machine) (M.needs machine) MESSAGE_LIMIT config.now reader.old writer.old result reader.new writer.new }
+    ensures ran { Ran R.Source W.Target (command (told_with (M.script machine) (M.refusal machine) (glimpse_of R.Source reader.new)) (M.answers machine) (M.needs machine)) config.now reader.old writer.old result reader.new writer.new }
 {
     let pair = Pair::new(alloc);
     let mut receiver = Receiver::start(config, pair, Telling::start(machine));
@@ -68,7 +67,7 @@ pub fn run_lenient<M: Machine + Drop, R: Source, W: Target>(
     requires has_answer { (T : List Entry) (summary : SummaryValue) → M.answers machine T summary (Err OutputLimit) → ⊥ }
     requires reader { HasLowCounts R.Source reader.old }
     requires writer { IsLowCount (W.failures writer.old) }
-    ensures ran { RanLenient R.Source W.Target (told_with (M.script machine) (M.refusal machine) (glimpse_of R.Source reader.new)) (M.answers machine) (M.needs machine) MESSAGE_LIMIT config.now reader.old writer.old result reader.new writer.new }
+    ensures ran { RanLenient R.Source W.Target (command (told_with (M.script machine) (M.refusal machine) (glimpse_of R.Source reader.new)) (M.answers machine) (M.needs machine)) config.now reader.old writer.old result reader.new writer.new }
 {
     run(alloc, config, machine, reader, writer)
 }
