@@ -16,7 +16,7 @@ ghost use Rattle.trace_log.specs.declared.summary.Summary.{Summary as SummaryVal
 ghost use Rattle.trace_log.specs.Devices.{HasLowCounts};
 
 use crate::machine::{Glimpse, Machine};
-use crate::page::{Page, settle};
+use crate::page::Page;
 use crate::receiver::Receiver;
 use crate::summing::sum_up;
 use crate::telling::{Telling, tell_end, tell_refusal};
@@ -135,7 +135,7 @@ fn refuse<M: Machine, W: Target>(
 fn settle_before<W: Target>(fault: Fault, target: &mut W, page: &mut Page) -> Fault
     ensures { SettlesPageAs fault W.Target page.old target.old result target.new }
 {
-    if settle(target, page) {
+    if page.settle(target) {
         fault
     } else {
         Fault::Write
@@ -171,7 +171,7 @@ fn finish<M: Machine, W: Target>(
     } = telling;
     let summary = sum_up(&pair, lines, counts, &judge, ended);
     let answer = tell_end(machine, target, &mut page, &pair, &summary);
-    if !settle(target, &mut page) {
+    if !page.settle(target) {
         return Err(Fault::Write);
     }
     Ok(answer?)

@@ -65,7 +65,8 @@ pub trait Machine {
     /// What it is after a trace, by what it was at the start.
     ghost stands: { Self → List Entry → Self → Type 0 };
 
-    /// What it says, by what it was at the start.
+    /// What it says, by what it was at the start. Of a refusal a run takes what `refusal` says, and not what this has of
+    /// one.
     ghost script: { Self → Script };
 
     /// What it says where the log is refused, by what it was at the start.

@@ -3,7 +3,7 @@ ghost use Rattle.trace_run.specs.Printed.{Prints};
 ghost use Rattle.trace_run.specs.proving.Carrying.{SaysToPage};
 ghost use Rattle.trace_io.specs.Counted.{IsLowCount};
 
-use crate::page::{Drain, Page, settle};
+use crate::page::{Drain, Page};
 use trace_io::{Target, TextSink};
 use trace_log::Fault;
 
@@ -26,7 +26,7 @@ pub fn print<P: Printable, W: Target>(printable: &P, target: &mut W) -> Result<(
 {
     let mut page = Page::new();
     put(printable, target, &mut page);
-    if settle(target, &mut page) {
+    if page.settle(target) {
         Ok(())
     } else {
         Err(Fault::Write)

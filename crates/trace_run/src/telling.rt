@@ -13,7 +13,7 @@ ghost use Rattle.trace_run.specs.Seen.{IsSeen, glimpse_value};
 ghost use Rattle.trace_run.specs.proving.Carrying.{SaysToPage, stops_for};
 
 use crate::machine::{Glimpse, Machine, Seen, Stop};
-use crate::page::{Drain, Page, settle};
+use crate::page::{Drain, Page};
 use direction::Dir;
 use isotp_receive::{Event, Pair, Reason, Verdict};
 use std::alloc::AllocError;
@@ -81,7 +81,7 @@ impl<M: Machine, W: Target> Telling<M, W> {
         ensures kept { (start : W) (first : M) (earlier : List Entry) → HasWrittenAtLeast M.script W.Target start first earlier self.old target.old
             → HasWrittenAtLeast M.script W.Target start first earlier self.new target.new }
     {
-        settle(target, &mut self.page)
+        self.page.settle(target)
     }
 
     /// Takes what the next frame of the trace did.
