@@ -1,3 +1,4 @@
+pub mod HandedOn
 pub mod Comparisons
 pub mod Lengths
 pub mod CanonicalWriting

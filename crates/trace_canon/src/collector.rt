@@ -35,13 +35,8 @@ pub fn meaning_of<R: Source>(
     requires reader { HasLowCounts R.Source reader.old }
     ensures ran { RanToCollect R.Source GivesMeaning MESSAGE_LIMIT config.now reader.old result reader.new }
 {
-    match session_of(alloc, config, reader) {
-        Ok(session) => {
-            let Session { meaning, .. } = session;
-            Ok(meaning)
-        }
-        Err(fault) => Err(fault),
-    }
+    let session = session_of(alloc, config, reader)?;
+    Ok(session.meaning)
 }
 
 /// The same, with what was counted in the log.
@@ -96,13 +91,9 @@ impl Collector {
             self.length = length;
             return Ok(());
         }
-        match self.pairing.take(message) {
-            Ok(()) => {
-                self.length = length;
-                Ok(())
-            }
-            Err(refused) => Err(refused),
-        }
+        self.pairing.take(message)?;
+        self.length = length;
+        Ok(())
     }
 
     /// Whether the canonical log is above the limit, and so with this message, too: it is handed in for the contract, which
@@ -169,10 +160,7 @@ impl Machine for Collector {
         let Some(message) = seen.message else {
             return Ok(());
         };
-        match self.take(message) {
-            Ok(()) => Ok(()),
-            Err(refused) => Err(refused),
-        }
+        self.take(message)
     }
 
     fn end<S: TextSink>(

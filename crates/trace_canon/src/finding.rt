@@ -29,19 +29,13 @@ pub fn find<R: Source, W: Target>(
 
     ensures ran { RanToFind R.Source W.Target notation config.now reader.old writer.old result reader.new writer.new }
 {
-    match found_in(alloc, config, reader) {
-        Ok(found) => {
-            let pairs = Pairs {
-                pairs: &found.pairs,
-                notation,
-            };
-            match print(&pairs, writer) {
-                Ok(()) => Ok(found.summary),
-                Err(_failed) => Err(Fault::Write),
-            }
-        }
-        Err(fault) => Err(fault),
-    }
+    let found = found_in(alloc, config, reader)?;
+    let pairs = Pairs {
+        pairs: &found.pairs,
+        notation,
+    };
+    print(&pairs, writer)?;
+    Ok(found.summary)
 }
 
 /// The lines of all pairs, in order, in a notation.

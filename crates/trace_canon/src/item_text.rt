@@ -39,16 +39,10 @@ pub fn write_items<T: ItemText, R: Source, W: Target>(
     requires writer { IsLowCount (W.failures writer.old) }
     ensures ran { RanOverItems R.Source W.Target (T.text text.now) MESSAGE_LIMIT config.now reader.old writer.old result reader.new writer.new }
 {
-    match session_of(alloc, config, reader) {
-        Ok(session) => {
-            let items = &session.meaning;
-            match print(&OfItems { text, items }, writer) {
-                Ok(()) => Ok(session.summary),
-                Err(_failed) => Err(Fault::Write),
-            }
-        }
-        Err(fault) => Err(fault),
-    }
+    let session = session_of(alloc, config, reader)?;
+    let items = &session.meaning;
+    print(&OfItems { text, items }, writer)?;
+    Ok(session.summary)
 }
 
 /// A text of these items.

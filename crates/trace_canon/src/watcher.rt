@@ -87,16 +87,13 @@ impl Machine for Watcher {
         let Some(message) = seen.message else {
             return Ok(());
         };
-        match decide_to(
+        decide_to(
             &mut self.decider,
             self.style,
             &mut self.number,
             out,
             message,
-        ) {
-            Ok(()) => Ok(()),
-            Err(refused) => Err(refused),
-        }
+        )
     }
 
     fn end<S: TextSink>(
@@ -160,10 +157,7 @@ fn decide_to<S: TextSink>(
     ensures quiet { OnErr result (S.says out.old [] out.new) }
 {
     let mut sink = LineSink { out, number, style };
-    match decider.take(message, &mut sink) {
-        Ok(()) => Ok(()),
-        Err(refused) => Err(refused),
-    }
+    decider.take(message, &mut sink)
 }
 
 /// Says the lines of the items that are not decided.

@@ -22,8 +22,8 @@ returns-then-length-max_bytes c = λ settings M judged stood.
     (omega (arith, most, c.max_bytes.ensures.value, c.if-length-max_bytes.true))
     (omega (arith, most, c.max_bytes.ensures.value, c.if-length-max_bytes.true, all.1, c.saturating_add-length.ensures)) c.args.self.now.config stood.same
 
-pub returns-in-Ok : goal.returns-in-Ok
-returns-in-Ok c = λ settings M judged stood.
+pub returns-in_ok-take : goal.returns-in_ok-take
+returns-in_ok-take c = λ settings M judged stood.
     let message = sent c.args.message in
     let most = ap (λ (s : Settings). s.max_bytes) stood.same in
     let within = c.is_over.ensures.within c.if-is_over.false in
@@ -32,5 +32,5 @@ returns-in-Ok c = λ settings M judged stood.
     let have = subst (λ (s : Settings). HaveLengths s (flattened (meaning (M ++ message ∷ []))) size) stood.same
     (c.added.ensures M stood.size all.0 judged (subst (λ (s : Settings). HaveLengths s (flattened (meaning M)) stood.size) (sym stood.same) stood.measured)) in
     let known : c.saturating_add-length.result ≡ size = omega (arith, most, c.max_bytes.ensures.value, c.max_bytes.ensures.settings.most, c.if-length-max_bytes.false, all.1, c.saturating_add-length.ensures) in
-    collects_more settings M message c.take.new.self c.saturating_add-length.result size have (c.in-Ok.ensures.ok M all.0 judged) known
+    collects_more settings M message c.take.new.self c.saturating_add-length.result size have (c.in_ok-take.ensures.ok M all.0 judged) known
     (omega (arith, known, most, c.max_bytes.ensures.value, c.if-length-max_bytes.false)) c.args.self.now.config stood.same
