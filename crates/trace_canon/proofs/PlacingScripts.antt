@@ -1,5 +1,5 @@
 -- What a machine that places messages keeps and says of one more frame.
-use Rattle.std.proofs.Common.{◌≡◌, ℕ, None, List, [], ◌∷◌, ◌++◌, refl, ap, sym, subst, ◌∙◌, codes}
+use Rattle.std.proofs.Common.{◌≡◌, ℕ, None, List, [], ◌∷◌, ◌++◌, refl, ap, sym, subst, ◌∙◌, append-nil, append_assoc, codes}
 use Rattle.std.specs.Fmt.{decimal}
 use Rattle.can_log.specs.Frame.{FrameValue}
 use Rattle.direction.specs.Dir.{Message}
@@ -122,12 +122,22 @@ nothing_said notation T e seen is none = silent_line notation T e e.dir (verdict
 -- the parts of the object of a message
 abbrev object_parts_of : ℕ → List ℕ → List ℕ → List ℕ → FramePlace → FramePlace → List ℕ
 object_parts_of number role side bytes start end =
-    codes "{\"item\":" ++ (decimal number ++ (codes ",\"role\":\"" ++ (role ++ (codes "\",\"direction\":\"" ++ (side
-    ++ (codes "\",\"first_line\":" ++ (decimal start.line ++ (codes ",\"last_line\":" ++ (decimal end.line
-    ++ (codes ",\"start\":\"" ++ (stamp_text start.micros ++ (codes "\",\"end\":\"" ++ (stamp_text end.micros
-    ++ (codes "\",\"message\":\"" ++ (bytes ++ (codes "\"}\n" ++ []))))))))))))))))
+    codes "{\"item\":" ++ decimal number ++ codes ",\"role\":\"" ++ role ++ codes "\",\"direction\":\"" ++ side
+    ++ (codes "\",\"first_line\":" ++ decimal start.line ++ codes ",\"last_line\":" ++ decimal end.line)
+    ++ (codes ",\"start\":\"" ++ stamp_text start.micros ++ codes "\",\"end\":\"" ++ stamp_text end.micros)
+    ++ (codes "\",\"message\":\"" ++ bytes ++ codes "\"}\n")
 
-pub object_parts : (number : ℕ) (step : Step) (sent : Message) (start end : FramePlace) (role : List ℕ) → role ≡ role_text step
-    → object_parts_of number role (direction_text sent.0) (bytes_text sent.1) start end ≡ object_line (placed_members (placed_at number step sent start end))
-object_parts number step sent start end role role_is =
-    rw role_is (sym (line_is (placed_members (placed_at number step sent start end))))
+-- one behind another
+in_order : (a b c d e f g h i j k l m n o p q : List ℕ)
+    → a ++ b ++ c ++ d ++ e ++ f ++ (g ++ h ++ i ++ j) ++ (k ++ l ++ m ++ n) ++ (o ++ p ++ q)
+    ≡ a ++ (b ++ (c ++ (d ++ (e ++ (f ++ (g ++ (h ++ (i ++ (j ++ (k ++ (l ++ (m ++ (n ++ (o ++ (p ++ (q ++ []))))))))))))))))
+in_order a b c d e f g h i j k l m n o p q = simp (append_assoc, append-nil)
+
+pub object_parts : (number : ℕ) (step : Step) (sent : Message) (start end : FramePlace)
+    → object_parts_of number (role_text step) (direction_text sent.0) (bytes_text sent.1) start end ≡ object_line (placed_members (placed_at number step sent start end))
+object_parts number step sent start end =
+    in_order (codes "{\"item\":") (decimal number) (codes ",\"role\":\"") (role_text step) (codes "\",\"direction\":\"") (direction_text sent.0)
+    (codes "\",\"first_line\":") (decimal start.line) (codes ",\"last_line\":") (decimal end.line)
+    (codes ",\"start\":\"") (stamp_text start.micros) (codes "\",\"end\":\"") (stamp_text end.micros)
+    (codes "\",\"message\":\"") (bytes_text sent.1) (codes "\"}\n")
+    ∙ sym (line_is (placed_members (placed_at number step sent start end)))

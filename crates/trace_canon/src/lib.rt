@@ -52,11 +52,11 @@ pub mod laws;
 mod length;
 mod lister;
 mod message_objects;
+mod message_parts;
 mod normaliser;
 mod pair_lines;
 mod placer;
 mod progress;
-mod stamp;
 mod watcher;
 
 pub use collector::{Session, meaning_of};
