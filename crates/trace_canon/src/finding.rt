@@ -7,9 +7,10 @@ ghost use Rattle.trace_log.specs.Devices.{HasLowCounts};
 use crate::hearing::found_in;
 use crate::pair_lines::say_pairs;
 use std::alloc::Global;
+use text_parts::Part;
 use trace_io::{Source, Target, TextSink};
 use trace_log::{Config, Fault, Summary};
-use trace_run::{Printable, print};
+use trace_run::print;
 use trace_text::Notation;
 use uds_find::CreditLine;
 
@@ -34,23 +35,23 @@ pub fn find<R: Source, W: Target>(
         pairs: &found.pairs,
         notation,
     };
-    print(&pairs, writer)?;
+    print(pairs, writer)?;
     Ok(found.summary)
 }
 
 /// The lines of all pairs, in order, in a notation.
-#[derive(Drop)]
+#[derive(Clone, Copy)]
 struct Pairs<'a> {
     pairs: &'a Vec<CreditLine>,
     notation: Notation,
 }
 
-impl<'a> Printable for Pairs<'a> {
+impl<'a> Part for Pairs<'a> {
     ghost use Rattle.trace_canon.specs.Found.{pairs_text};
 
     ghost text = { λ lines. pairs_text lines.notation lines.pairs.now.items };
 
-    fn say<S: TextSink>(&self, out: &mut S) {
+    fn say<S: TextSink>(self, out: &mut S) {
         say_pairs(self.pairs, self.notation, out);
     }
 }

@@ -7,13 +7,14 @@ ghost use Rattle.trace_log.specs.Devices.{HasLowCounts};
 
 use crate::collector::session_of;
 use std::alloc::Global;
+use text_parts::Part;
 use trace_io::{Source, Target, TextSink};
 use trace_log::{Config, Fault, Summary};
-use trace_run::{Printable, print};
+use trace_run::print;
 use uds_exchange::Meaning;
 
 /// A text of items.
-pub trait ItemText {
+pub trait ItemText: Copy {
     ghost use Rattle.std.specs.Prelude.{List, ℕ};
     ghost use Rattle.uds_exchange.specs.Meaning.{ItemValue};
 
@@ -41,21 +42,21 @@ pub fn write_items<T: ItemText, R: Source, W: Target>(
 {
     let session = session_of(alloc, config, reader)?;
     let items = &session.meaning;
-    print(&OfItems { text, items }, writer)?;
+    print(OfItems { text, items }, writer)?;
     Ok(session.summary)
 }
 
 /// A text of these items.
-#[derive(Drop)]
+#[derive(Clone, Copy)]
 struct OfItems<'a, T> {
     text: &'a T,
     items: &'a Meaning,
 }
 
-impl<'a, T: ItemText> Printable for OfItems<'a, T> {
+impl<'a, T: ItemText> Part for OfItems<'a, T> {
     ghost text = { λ of. T.text of.text.now of.items.now };
 
-    fn say<S: TextSink>(&self, out: &mut S) {
+    fn say<S: TextSink>(self, out: &mut S) {
         self.text.say(self.items, out);
     }
 }
