@@ -8,9 +8,9 @@ ghost use Rattle.isotp_receive.specs.declared.TheConstants.{MESSAGE_LIMIT};
 ghost use Rattle.trace_canon.specs.SessionScript.{has_place};
 ghost use Rattle.trace_canon.specs.Sessions.{GivesMeaning, GivesSession, RanToCollect};
 ghost use Rattle.trace_log.specs.Devices.{HasLowCounts};
+ghost use Rattle.trace_log.specs.Settings.{AreSettings};
 
 use crate::length::message_length;
-use direction::Dir;
 use isotp_receive::Pair;
 use std::alloc::{AllocError, Global};
 use trace_io::{Source, TextSink};
@@ -47,6 +47,7 @@ pub(crate) fn session_of<R: Source>(
 ) -> Result<Session, Fault>
     requires reader { HasLowCounts R.Source reader.old }
     ensures ran { RanToCollect R.Source GivesSession MESSAGE_LIMIT config.now reader.old result reader.new }
+    ensures configured { AreSettings config.now }
 {
     let machine = Collector {
         alloc,
@@ -70,6 +71,7 @@ pub(crate) struct Collector {
 
 impl Collector {
     ghost use Rattle.std.specs.Prelude.{◌≡◌, ◌≤◌, ◌+◌, ℕ, List, [], ◌∷◌, ◌++◌, OnOk, true, false};
+    ghost use Rattle.can_log.specs.Frame.{AreBytes};
     ghost use Rattle.direction.specs.Dir.{Message};
     ghost use Rattle.uds_exchange.specs.Meaning.{meaning, flattened};
     ghost use Rattle.uds_exchange.specs.Judging.{IsJudgedAfter, sent};
@@ -82,7 +84,7 @@ impl Collector {
         ensures { OnOk result ((settings : Settings) (M : List Message) → IsJudgedAfter M message.entry → Collects settings M self.old.pairing self.old.length self.old.config
             → Collects settings (M ++ sent message.entry ∷ []) self.new.pairing self.new.length self.new.config) }
     {
-        if self.is_over(message.dir, message.bytes) {
+        if self.is_over() {
             return Ok(());
         }
         let length = self.length.saturating_add(self.added(message));
@@ -96,12 +98,11 @@ impl Collector {
         Ok(())
     }
 
-    /// Whether the canonical log is above the limit, and so with this message, too: it is handed in for the contract, which
-    /// speaks of its bytes.
+    /// Whether the canonical log is above the limit, and so with any message more.
     #[inline(always)]
-    fn is_over(&self, _dir: Dir, _bytes: &[u8]) -> bool
-        ensures stays { result ≡ true → (settings : Settings) (M : List Message) → Collects settings M self.now.pairing self.now.length self.now.config
-            → Collects settings (M ++ (_dir, _bytes.now) ∷ []) self.now.pairing self.now.length self.now.config }
+    fn is_over(&self) -> bool
+        ensures stays { result ≡ true → (settings : Settings) (M : List Message) (x : Message) → AreBytes x.1 → Collects settings M self.now.pairing self.now.length self.now.config
+            → Collects settings (M ++ x ∷ []) self.now.pairing self.now.length self.now.config }
         ensures within { result ≡ false → self.now.length ≤ self.now.config.max_bytes }
         ensures settings { AreSettings self.now.config }
     {

@@ -31,8 +31,7 @@
 //! [`meaning_of`], [`compare`] (`comparing`), and each text of the items (`item_text`), as that of [`list`] (`lister`).
 //!
 //! [`find`] (`finding`) is none: it hears every frame, whatever its identifier (`hearing`), and has no receiver.
-//! [`counted`] answers of a log in memory with a text and the counts, and [`in_memory`] with a text, a meaning or a
-//! comparison alone.
+//! [`counted`] answers of a log in memory with a text and the counts, and [`in_memory`] with its meaning.
 #![tactic(auto)]
 
 pub mod begun;

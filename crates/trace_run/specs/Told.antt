@@ -14,7 +14,7 @@ use Rattle.trace_run.specs.declared.machine.Stop.TheVariants as stop
 use Rattle.trace_log.specs.declared.summary.Summary.{Summary}
 use Rattle.trace_log.specs.Answers.{piece_length, ReadsWhile, TellsOutcome}
 use Rattle.trace_log.specs.Outcome.{IsReadWhole}
-use Rattle.trace_log.specs.Settings.{Settings}
+use Rattle.trace_log.specs.Settings.{AreSettings, Settings}
 use Rattle.trace_log.specs.Trace.{trace}
 use Rattle.trace_log.specs.Summing.{summary_of}
 use Rattle.trace_log.specs.LinesRead.{AreReadBefore, WritesTextOfRead, WritesFrontOfRead}
@@ -240,6 +240,8 @@ pub record Ran {R W A : Type 0} (source : SourceGhosts R) (target : TargetGhosts
   -- reading stops within one piece
   pub near : (log : List ℕ) → AgreesWith source before after log
       → ReadsWhile (StopsNothingWithin of.script.strict MESSAGE_LIMIT settings log) (bytes_given source before after) (source.failures before) (source.failures after)
+  -- the settings are those of a configuration
+  pub configured : AreSettings settings
   -- what it did with its devices
   pub read : ReadFrom source Read settings.max_bytes result before after
   pub wrote : WroteTo target Write result old new

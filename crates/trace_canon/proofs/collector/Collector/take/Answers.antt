@@ -4,10 +4,11 @@ use Rattle.uds_exchange.specs.Meaning.{meaning, flattened}
 use Rattle.trace_log.specs.Settings.{Settings}
 use Rattle.trace_canon.specs.proving.Measuring.{HaveLengths}
 use Rattle.trace_canon.proofs.Collecting.{collects_more, collects_no_more, keeps_all}
+use Rattle.trace_canon.proofs.Lengths.{each_is_byte}
 use Rattle.trace_canon.proofs.collector.Collector.take.Goals as goal
 
 pub returns-then-is_over : goal.returns-then-is_over
-returns-then-is_over c = λ settings M judged stood. c.is_over.ensures.stays c.if-is_over.true settings M stood
+returns-then-is_over c = λ settings M judged stood. c.is_over.ensures.stays c.if-is_over.true settings M (sent c.args.message) (each_is_byte c.args.message.bytes.now (λ i. omega (arith, c.type_inv.message i))) stood
 
 pub returns-then-length-max_bytes : goal.returns-then-length-max_bytes
 returns-then-length-max_bytes c = λ settings M judged stood.
