@@ -83,18 +83,8 @@ impl Begun {
 pub fn still_begun(dir: Dir, ended: Option<Ended>, begun: Option<FramePlace>) -> Option<FramePlace>
     ensures { result ≡ left_by dir ended begun }
 {
-    match (ended, dir) {
-        (None, _) => begun,
-        (
-            Some(
-                Ended {
-                    dir: Dir::Tester,
-                    ..
-                },
-            ),
-            Dir::Tester,
-        ) => None,
-        (Some(Ended { dir: Dir::Unit, .. }), Dir::Unit) => None,
-        (Some(_), _) => begun,
+    match ended {
+        Some(ended) if ended.dir == dir => None,
+        _ => begun,
     }
 }

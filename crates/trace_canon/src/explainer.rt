@@ -95,7 +95,7 @@ impl Machine for Explainer {
 }
 
 /// Says the lines of a frame, which is in this line and was sent by this side. Laid in line, where it is known of most frames
-/// that they have none: a call would end in covering loads of what the frame did.
+/// that they have none: a call would hand over what the frame did in memory, where store-to-load forwarding fails.
 #[inline(always)]
 fn say_event<S: TextSink>(notation: Notation, line: u64, dir: Dir, event: Event<'_>, out: &mut S)
     ensures { S.says out.old (event_text notation line dir (seen_event event.entry)) out.new }

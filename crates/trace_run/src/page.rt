@@ -71,7 +71,7 @@ impl Page {
     }
 
     /// Puts three texts on the page, one after another. Each is laid where it is to lie: put together first, they would be
-    /// stored in pieces and loaded at once, for which store-to-load forwarding fails.
+    /// stored in pieces and loaded at once, where store-to-load forwarding fails.
     #[inline(always)]
     fn put_three<W: Target>(&mut self, target: &mut W, first: &[u8], second: &[u8], third: &[u8])
         ensures { SaysToPage W.Target self.old target.old (first.now ++ second.now ++ third.now) self.new target.new }

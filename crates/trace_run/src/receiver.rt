@@ -146,7 +146,8 @@ impl<M: Machine, W: Target> Receiver<M, W> {
 }
 
 /// Has what a frame did counted and told. Most frames complete a message or are stored for one. They go ways of their own: there
-/// the verdict is known when it is compiled, so that no reason is stored in pieces and loaded at once.
+/// the verdict is known when it is compiled, so that no reason is stored in pieces and loaded at once, where store-to-load
+/// forwarding fails.
 #[inline(always)]
 fn hand_on<M: Machine, W: Target>(
     counts: &mut Summary,
