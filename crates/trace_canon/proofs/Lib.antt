@@ -9,6 +9,7 @@ pub mod SaidFrames
 pub mod CanonicalSayings
 pub mod CanonicalMachines
 pub mod CanonicalScripts
+pub mod Begins
 pub mod MessagePlaces
 pub mod FirstFrames
 pub mod PlacingScripts
