@@ -1,4 +1,4 @@
-use Rattle.std.proofs.Common.{not, [], subst, ap, ◌∙◌, Ok, Err}
+use Rattle.std.proofs.Common.{not, [], subst, Ok, Err}
 use Rattle.isotp_receive.specs.declared.TheConstants.{MESSAGE_LIMIT}
 use Rattle.trace_run.specs.declared.machine.Stop.TheVariants.{OutputLimit}
 use Rattle.trace_run.specs.proving.Carrying.{Carries}
@@ -24,7 +24,7 @@ returns-clause-ends g c = λ start first settings log meanings received feed tel
     let script = M.script first in
     let counted = c.sum_up-summary.ensures settings log meanings received feed tells.judged in (
       subst (λ s. M.answers first (trace settings meanings) s (Ok c.in_ok-answer.field-0)) counted
-          (subst (λ r. M.answers first (trace settings meanings) c.sum_up-summary.result r) c.in_ok-answer.ensures (c.tell_end-answer.ensures.answered first (trace settings meanings) tells.machine_stands received.pair_is)),
+          (c.in_ok-answer.ensures.answered first (trace settings meanings) tells.machine_stands received.pair_is),
       subst (λ b. Carries W start (whole_of_lines script MESSAGE_LIMIT settings log meanings) (not b) [] c.settle.new.target) c.if-not-settle.false
           (carried_at_the_end (M.stands first) W script start settings log meanings _ _ _ _ _ _ _ _ _ c.settle.result c.sum_up-summary.result tells counted
           (c.tell_end-answer.ensures.says first (trace settings meanings) tells.machine_stands received.pair_is received.keeps) c.settle.ensures.settled),
@@ -38,7 +38,8 @@ returns-in_err-answer-clause-ends g c = λ start first settings log meanings rec
     let counted = c.sum_up-summary.ensures settings log meanings received feed tells.judged in
     rw (handed_on c.from_residual.result _ c.from_residual.ensures.1) (
       subst (λ s. M.answers first (trace settings meanings) s (Err OutputLimit)) counted
-          (subst (λ r. M.answers first (trace settings meanings) c.sum_up-summary.result r) (c.in_err-answer.ensures ∙ ap Err (only_stop c.in_err-answer.field-0.0)) (c.tell_end-answer.ensures.answered first (trace settings meanings) tells.machine_stands received.pair_is)),
+          (subst (λ stop. M.answers first (trace settings meanings) c.sum_up-summary.result (Err stop)) (only_stop c.in_err-answer.field-0.0)
+          (c.in_err-answer.ensures.answered first (trace settings meanings) tells.machine_stands received.pair_is)),
       subst (λ b. Carries W start (whole_of_lines script MESSAGE_LIMIT settings log meanings) (not b) [] c.settle.new.target) c.if-not-settle.false
           (carried_at_the_end (M.stands first) W script start settings log meanings _ _ _ _ _ _ _ _ _ c.settle.result c.sum_up-summary.result tells counted
           (c.tell_end-answer.ensures.says first (trace settings meanings) tells.machine_stands received.pair_is received.keeps) c.settle.ensures.settled),
