@@ -46,13 +46,7 @@ pub fn run<M: Machine + Drop, R: Source, W: Target>(
     let mut receiver = Receiver::start(config, pair, Telling::start(machine));
     match feed_lines(config.max_bytes(), reader, &mut receiver, writer) {
         Ok(ended) => finish(receiver, ended, writer),
-        Err(fault) => {
-            let source = Glimpse {
-                first: reader.first(),
-                is_over: reader.has_ended(),
-            };
-            Err(give_up(fault, source, receiver, writer))
-        }
+        Err(fault) => Err(give_up(fault, Glimpse::of(reader), receiver, writer)),
     }
 }
 

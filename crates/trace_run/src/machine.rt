@@ -13,7 +13,7 @@ ghost use Rattle.trace_log.specs.declared.summary.Summary.{Summary as SummaryVal
 use direction::Dir;
 use isotp_receive::{Event, Pair};
 use std::alloc::AllocError;
-use trace_io::TextSink;
+use trace_io::{Source, TextSink};
 use trace_log::{Fault, Summary};
 use uds_exchange::Judged;
 
@@ -54,6 +54,22 @@ pub struct Glimpse<'a> {
     pub first: &'a [u8],
     /// Whether it is over.
     pub is_over: bool,
+}
+
+impl<'a> Glimpse<'a> {
+    ghost use Rattle.std.specs.Prelude.{◌≡◌};
+    ghost use Rattle.trace_run.specs.Seen.{glimpse_value};
+    ghost use Rattle.trace_run.specs.Told.{glimpse_of};
+
+    /// What is now seen of a source.
+    pub fn of<R: Source>(source: &'a R) -> Glimpse<'a>
+        ensures { glimpse_value result ≡ glimpse_of R.Source source.now }
+    {
+        Glimpse {
+            first: source.first(),
+            is_over: source.has_ended(),
+        }
+    }
 }
 
 /// A command's machine. It is handed what each frame did ([`Seen`]), in order, and the end or why the log is refused, and says its

@@ -53,7 +53,7 @@ gives_up : (g : Over) (c : After-give_up g)
 gives_up g c =
     let M = g.M.Machine in
     subst (λ (source : Glimpse). GivesUp M.stands (λ m. told_with (M.script m) (M.refusal m) source) g.W.Target c.in-Err.fault c.feed_lines.new.taker c.feed_lines.new.device c.give_up.result c.give_up.new.target)
-    (cc (c.first.ensures, c.has_ended.ensures)) c.give_up.ensures
+    c.of.ensures c.give_up.ensures
 
 pub returns-in-Err : goal.returns-in-Err
 returns-in-Err g c =
