@@ -1,4 +1,5 @@
 pub mod HandedOn
+pub mod LeftAlone
 pub mod Comparisons
 pub mod Lengths
 pub mod CanonicalWriting

@@ -91,7 +91,9 @@ fn say_frames<S: TextSink>(
     ensures progress { progress.new ≡ progress_after config.now progress.old frames.entry }
 {
     let mut rest = frames;
-    'frames: while let Some((sender, frame)) = rest.next() {
+    'frames: while let Some(next) = rest.next() {
+        let sender = next.0;
+        let frame = next.1;
         if !say_frame(out, config, progress, sender, &frame) {
             return;
         }

@@ -12,7 +12,7 @@ one_more : (g : Over) (c : After-say_frame g)
     → SaysFront g.S.TextSink.says c.args.config.now c.args.progress.now c.args.out.now c.args.frames c.say_frame.new.progress c.say_frame.new.out c.next.new.self
 one_more g c =
     more_said g.S.TextSink.says g.met.S.TextSink.nothing g.met.S.TextSink.onward c.args.config.now c.args.progress.now c.frames.progress c.frames.progress c.say_frame.new.progress
-    c.args.out.now c.frames.out c.say_frame.new.out c.args.frames c.frames.rest ((c.in-Some.sender, c.in-Some.frame) ∷ c.next.new.self) c.next.new.self c.frames.invariant
+    c.args.out.now c.frames.out c.say_frame.new.out c.args.frames c.frames.rest (c.in-Some.next ∷ c.next.new.self) c.next.new.self c.frames.invariant
     c.in-Some.ensures.steps refl (c.say_frame.ensures.says c.next.new.self)
 
 pub returns-then-not-say_frame-clause-says : goal.returns-then-not-say_frame-clause-says

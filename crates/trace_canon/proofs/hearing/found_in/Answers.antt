@@ -1,7 +1,7 @@
 use Rattle.std.proofs.Common.{arith, rules}
 use Rattle.std.proofs.lemmas.Result.{IfOk-weaker, IfErr-weaker}
 use Rattle.trace_canon.proofs.Hearings.{heard_fault, heard_need, heard_unwritten, heard_end, heard_end_need}
-use Rattle.trace_log.proofs.Promises.{reads_legal}
+use Rattle.trace_log.proofs.Promises.{handed_on, reads_legal}
 use Rattle.trace_canon.proofs.hearing.found_in.Goals as goal
 
 pub returns : goal.returns
@@ -22,16 +22,16 @@ returns g c = record {
 }
 
 pub returns-in_err-ended : goal.returns-in_err-ended
-returns-in_err-ended g c = record {
+returns-in_err-ended g c = rw (handed_on c.from_residual.result _ c.from_residual.ensures.1) (record {
   ran = record {
     answer = λ log agrees.
-        heard_fault c.args.config.now log _ (c.start-hearing.result, tt) _ c.start-hearing.ensures _ c.in_err-ended.fault c.max_bytes.ensures.value
+        heard_fault c.args.config.now log _ (c.start-hearing.result, tt) _ c.start-hearing.ensures _ c.in_err-ended.field-0.0 c.max_bytes.ensures.value
         (c.in_err-ended.ensures.lines log agrees (c.start-hearing.result, tt) (λ heard. heard));
     near = λ log agrees. reads_legal (c.in_err-ended.ensures.near log agrees (c.start-hearing.result, tt) (λ heard. heard));
     memory = λ log agrees refused.
-        heard_need c.args.config.now log _ (c.start-hearing.result, tt) _ c.start-hearing.ensures _ c.in_err-ended.fault c.max_bytes.ensures.value
+        heard_need c.args.config.now log _ (c.start-hearing.result, tt) _ c.start-hearing.ensures _ c.in_err-ended.field-0.0 c.max_bytes.ensures.value
         (c.in_err-ended.ensures.lines log agrees (c.start-hearing.result, tt) (λ heard. heard)) (cc refused);
     read = search rules;
-    never_write = heard_unwritten c.in_err-ended.fault (c.start-hearing.result, tt) _ (c.in_err-ended.ensures.takes (c.start-hearing.result, tt) (λ heard. heard));
+    never_write = heard_unwritten c.in_err-ended.field-0.0 (c.start-hearing.result, tt) _ (c.in_err-ended.ensures.takes (c.start-hearing.result, tt) (λ heard. heard));
   };
-}
+})

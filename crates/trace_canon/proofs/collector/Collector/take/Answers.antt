@@ -8,7 +8,7 @@ use Rattle.trace_canon.proofs.Lengths.{each_is_byte}
 use Rattle.trace_canon.proofs.collector.Collector.take.Goals as goal
 
 pub returns-then-is_over : goal.returns-then-is_over
-returns-then-is_over c = λ settings M judged stood. c.is_over.ensures.stays c.if-is_over.true settings M (sent c.args.message) (each_is_byte c.args.message.bytes.now (λ i. omega (arith, c.type_inv.message i))) stood
+returns-then-is_over c = λ settings M judged stood. c.is_over.ensures.stays c.if-is_over.true settings M (sent c.args.message) (each_is_byte c.args.message.bytes.now (λ i. omega (arith, c.before.is_over.type_inv.message.bytes i))) stood
 
 pub returns-then-length-max_bytes : goal.returns-then-length-max_bytes
 returns-then-length-max_bytes c = λ settings M judged stood.
@@ -23,8 +23,8 @@ returns-then-length-max_bytes c = λ settings M judged stood.
     (omega (arith, most, c.max_bytes.ensures.value, c.if-length-max_bytes.true))
     (omega (arith, most, c.max_bytes.ensures.value, c.if-length-max_bytes.true, all.1, c.saturating_add-length.ensures)) c.args.self.now.config stood.same
 
-pub returns-in_ok-take : goal.returns-in_ok-take
-returns-in_ok-take c = λ settings M judged stood.
+pub returns : goal.returns
+returns c = λ settings M judged stood.
     let message = sent c.args.message in
     let most = ap (λ (s : Settings). s.max_bytes) stood.same in
     let within = c.is_over.ensures.within c.if-is_over.false in
