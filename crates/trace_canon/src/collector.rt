@@ -70,23 +70,19 @@ pub(crate) struct Collector {
 }
 
 impl Collector {
-    ghost use Rattle.std.specs.Prelude.{◌≡◌, ◌≤◌, ◌+◌, ℕ, List, [], ◌∷◌, ◌++◌, OnOk, true, false};
-    ghost use Rattle.can_log.specs.Frame.{AreBytes};
+    ghost use Rattle.std.specs.Prelude.{◌+◌, ℕ, List, [], ◌∷◌, ◌++◌, OnOk};
     ghost use Rattle.direction.specs.Dir.{Message};
     ghost use Rattle.uds_exchange.specs.Meaning.{meaning, flattened};
     ghost use Rattle.uds_exchange.specs.Judging.{IsJudgedAfter, sent};
-    ghost use Rattle.trace_log.specs.Settings.{AreSettings, Settings};
+    ghost use Rattle.trace_log.specs.Settings.{Settings};
     ghost use Rattle.trace_canon.specs.SessionScript.{Collects};
     ghost use Rattle.trace_canon.specs.proving.Measuring.{HaveLengths};
 
-    /// Takes one more message, while the canonical log is within the limit.
+    /// Takes one more message: what it adds to the length, and the message itself where the canonical log is within the limit.
     fn take(&mut self, message: Judged<'_>) -> Result<(), AllocError>
         ensures { OnOk result ((settings : Settings) (M : List Message) → IsJudgedAfter M message.entry → Collects settings M self.old.pairing self.old.length self.old.config
             → Collects settings (M ++ sent message.entry ∷ []) self.new.pairing self.new.length self.new.config) }
     {
-        if self.is_over() {
-            return Ok(());
-        }
         let length = self.length.saturating_add(self.added(message));
         if length > self.config.max_bytes() {
             self.pairing = JudgedPairing::new(self.alloc);
@@ -98,20 +94,9 @@ impl Collector {
         Ok(())
     }
 
-    /// Whether the canonical log is above the limit, and so with any message more.
-    #[inline(always)]
-    fn is_over(&self) -> bool
-        ensures stays { result ≡ true → (settings : Settings) (M : List Message) (x : Message) → AreBytes x.1 → Collects settings M self.now.pairing self.now.length self.now.config
-            → Collects settings (M ++ x ∷ []) self.now.pairing self.now.length self.now.config }
-        ensures within { result ≡ false → self.now.length ≤ self.now.config.max_bytes }
-        ensures settings { AreSettings self.now.config }
-    {
-        self.length > self.config.max_bytes()
-    }
-
     /// By how many bytes one more message makes the canonical log longer.
     fn added(&self, message: Judged<'_>) -> u64
-        ensures { (M : List Message) (size : ℕ) → self.now.pairing ≡ meaning M → IsJudgedAfter M message.entry → HaveLengths self.now.config (flattened (meaning M)) size
+        ensures { (M : List Message) (size : ℕ) → IsJudgedAfter M message.entry → HaveLengths self.now.config (flattened (meaning M)) size
             → HaveLengths self.now.config (flattened (meaning (M ++ sent message.entry ∷ []))) (size + result) }
     {
         if has_place(message.step) {
