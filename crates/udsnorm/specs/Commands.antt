@@ -21,7 +21,7 @@ use Rattle.trace_log.specs.Needing.{HasFrame, IsKeptForMessage, NeedsMemoryToRec
 use Rattle.trace_canon.specs.Keeping.{CompletesKept, NeedsMemoryToCollect, NeedsMemoryToOrder}
 use Rattle.trace_log.specs.Refusal.{HasNoBadPlaceWithin, IsNotRefusedWithin}
 use Rattle.trace_log.specs.Settings.{Settings}
-use Rattle.trace_run.specs.Told.{Glimpse, Script, AnswersTold, RanLenient, TellsEagerly, answers_counts, needs_none}
+use Rattle.trace_run.specs.Told.{Glimpse, Script, AnswersTold, RanLenient, TellsEagerly, answers_counts, command, needs_none}
 use Rattle.trace_canon.specs.WatchScript.{watching_script}
 use Rattle.trace_canon.specs.declared.comparing.Compared.{Compared}
 use Rattle.trace_canon.specs.declared.comparison_lines.ComparisonStyle.{ComparisonStyle}
@@ -31,6 +31,7 @@ use Rattle.trace_log.specs.declared.fault.Fault.TheVariants.{Memory, Read, Write
 use Rattle.trace_text.specs.declared.notation.Notation.{Notation}
 use Rattle.trace_log.specs.declared.summary.Summary.{Summary}
 use Rattle.isotp_receive.specs.Trace.{Entry}
+use Rattle.isotp_receive.specs.declared.TheConstants.{MESSAGE_LIMIT}
 use Rattle.trace_io.specs.declared.device.Source.{Ghosts as SourceGhosts}
 use Rattle.trace_io.specs.declared.device.Target.{Ghosts as TargetGhosts}
 use Rattle.trace_difference.specs.Written.{difference_text}
@@ -200,12 +201,12 @@ pub record RanAny {R W : Type 0} (source : SourceGhosts R) (target : TargetGhost
   pub wrote : WroteTo target Write result old new
 
 -- what its call promises of it
-abbrev pub RanBy : {R W : Type 0} → SourceGhosts R → TargetGhosts W → Engine → ℕ → Settings → R → W → Result Summary Fault → R → W → Type 0
-RanBy source target normalises limit settings = RanAny source target normalises limit settings
-RanBy source target (writes text) limit settings = RanOverItems source target text limit settings
-RanBy source target (finds notation) limit settings = RanToFind source target notation settings
-RanBy source target (runs script needs) limit settings = RanLenient source target (script limit) answers_counts (needs limit) limit settings
-RanBy source target (runs_in_style script) limit settings = RanAny source target (runs_in_style script) limit settings
+abbrev pub RanBy : {R W : Type 0} → SourceGhosts R → TargetGhosts W → Engine → Settings → R → W → Result Summary Fault → R → W → Type 0
+RanBy source target normalises settings = RanAny source target normalises MESSAGE_LIMIT settings
+RanBy source target (writes text) settings = RanOverItems source target text MESSAGE_LIMIT settings
+RanBy source target (finds notation) settings = RanToFind source target notation settings
+RanBy source target (runs script needs) settings = RanLenient source target (command (script MESSAGE_LIMIT) answers_counts (needs MESSAGE_LIMIT)) settings
+RanBy source target (runs_in_style script) settings = RanAny source target (runs_in_style script) MESSAGE_LIMIT settings
 
 -- the engine that does this job over one log, which has this name on a page, and of whose source this is seen where it is
 -- refused

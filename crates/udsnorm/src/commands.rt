@@ -358,7 +358,7 @@ fn call_engine<R: Source, W: Target>(
 ) -> Result<Summary, Fault>
     requires input { HasLowCounts R.Source input.old }
     requires out { IsLowCount (W.failures out.old) }
-    ensures ran { RanBy R.Source W.Target (engine_of job name.now (glimpse_of R.Source input.new)) MESSAGE_LIMIT config.now input.old out.old result input.new out.new }
+    ensures ran { RanBy R.Source W.Target (engine_of job name.now (glimpse_of R.Source input.new)) config.now input.old out.old result input.new out.new }
 {
     match job {
         Job::Normalise => normalise(alloc, config, input, out),

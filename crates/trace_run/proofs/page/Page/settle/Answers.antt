@@ -3,15 +3,15 @@ use Rattle.trace_io.proofs.Promises.{took_more}
 use Rattle.trace_io.specs.Written.{HasFront}
 use Rattle.trace_run.specs.proving.Carrying.{Carries}
 use Rattle.trace_run.proofs.WrittenFronts.{block_written, gathered_written, rest_along}
-use Rattle.trace_run.proofs.page.settle.Goals as goal
+use Rattle.trace_run.proofs.page.Page.settle.Goals as goal
 
 pub returns-in-Err-clause-settled : goal.returns-in-Err-clause-settled
 returns-in-Err-clause-settled g c = λ start said carries.
     let W = g.W.Target in
-    let page = c.args.page.now in
+    let page = c.args.self.now in
     let failed = c.in-Err.ensures in
     let so_far : Carries W start said false page.block c.args.target.now =
-    subst (λ b. Carries W start said b page.block c.args.target.now) c.if-page.false carries in
+    subst (λ b. Carries W start said b page.block c.args.target.now) c.if-self.false carries in
     record {
       low = so_far.low;
       held_some = λ some. absurd (omega arith);
@@ -28,10 +28,10 @@ returns-in-Err-clause-settled g c = λ start said carries.
 pub returns-clause-settled : goal.returns-clause-settled
 returns-clause-settled g c = λ start said carries.
     let W = g.W.Target in
-    let page = c.args.page.now in
+    let page = c.args.self.now in
     let wrote = c.in_default.ensures in
     let so_far : Carries W start said false page.block c.args.target.now =
-    subst (λ b. Carries W start said b page.block c.args.target.now) c.if-page.false carries in
+    subst (λ b. Carries W start said b page.block c.args.target.now) c.if-self.false carries in
     record {
       low = so_far.low;
       held_some = λ some. absurd (omega arith);
@@ -49,7 +49,7 @@ returns-clause-settled g c = λ start said carries.
 pub returns-in-Err-clause-no_more : goal.returns-in-Err-clause-no_more
 returns-in-Err-clause-no_more g c = λ start said carries.
     let W = g.W.Target in
-    let page = c.args.page.now in
+    let page = c.args.self.now in
     let done = returns-in-Err-clause-settled g c start said carries in
     record {
       low = done.low;
@@ -66,5 +66,5 @@ returns-in-Err-clause-no_more g c = λ start said carries.
 pub returns-clause-no_more : goal.returns-clause-no_more
 returns-clause-no_more g c = λ start said carries.
     let W = g.W.Target in
-    subst (λ h. Carries W start said c.args.page.now.failed h c.write_all.new.target) (sym c.clear.ensures)
-    (subst (λ b. Carries W start said b [] c.write_all.new.target) (sym c.if-page.false) (returns-clause-settled g c start said carries))
+    subst (λ h. Carries W start said c.args.self.now.failed h c.write_all.new.target) (sym c.clear.ensures)
+    (subst (λ b. Carries W start said b [] c.write_all.new.target) (sym c.if-self.false) (returns-clause-settled g c start said carries))
