@@ -5,9 +5,10 @@ ghost use Rattle.trace_difference.specs.Written.{written_rows};
 
 use crate::row_objects::say_objects;
 use crate::unified_text::say_unified;
+use text_parts::Part;
 use trace_io::{Target, TextSink};
 use trace_log::Fault;
-use trace_run::{Printable, print};
+use trace_run::print;
 use trace_text::Notation;
 use uds_difference::Difference;
 use uds_exchange::Meaning;
@@ -35,7 +36,7 @@ pub fn write_difference<W: Target>(
     ensures printed { Prints W.Target (written_rows notation left.entry.name.now right.entry.name.now difference.now.shortest difference.now.rows.items left.entry.items.now right.entry.items.now) target.old result target.new }
 {
     print(
-        &Noted {
+        Noted {
             difference,
             left,
             right,
@@ -62,7 +63,7 @@ pub fn say_difference<S: TextSink>(
 }
 
 /// A difference in a notation.
-#[derive(Drop)]
+#[derive(Clone, Copy)]
 struct Noted<'a> {
     difference: &'a Difference,
     left: Side<'a>,
@@ -70,12 +71,12 @@ struct Noted<'a> {
     notation: Notation,
 }
 
-impl<'a> Printable for Noted<'a> {
+impl<'a> Part for Noted<'a> {
     ghost use Rattle.trace_difference.specs.Written.{written_rows};
 
     ghost text = { λ t. written_rows t.notation t.left.name.now t.right.name.now t.difference.now.shortest t.difference.now.rows.items t.left.items.now t.right.items.now };
 
-    fn say<S: TextSink>(&self, out: &mut S) {
+    fn say<S: TextSink>(self, out: &mut S) {
         say_difference(self.difference, self.left, self.right, self.notation, out);
     }
 }
