@@ -48,6 +48,7 @@ LIST = [
     Test("memory/hostile_input.py", OF_PROGRAM, 32),
     Test("documents/documents.py", NOTHING, 23),
     Test("program/differential.py", OF_PROGRAM, 22),
+    Test("program/differences.py", OF_PROGRAM, 30),
     Test("library/python_package.py", OF_LIBRARY, 17),
     Test("pages/report.py", OF_PROGRAM, 18),
     Test("program/program.py", OF_PROGRAM, 7),

@@ -57,7 +57,7 @@ FOLDED = (
     "</details>"
 )
 DATA = rf"<code>(?P<shown>{BYTES})</code>(?: <samp>(?P<letters>[^<]+)</samp>|{FOLDED}| <i>(?P<hidden>\d+) bytes more, not shown</i>)?{NOTE}"
-BRIEF_DATA = rf"(?P<shown>{BYTES})(?: and (?P<hidden>\d+) bytes more)?"
+BRIEF_DATA = rf"(?P<shown>{BYTES})(?: and (?P<hidden>\d+) (?:(?<= 1 )byte|(?<! 1 )bytes) more)?"
 
 # Of each kind of row how it looks, how its arrow ends, and what it says. `words` are no facts.
 Kind = namedtuple("Kind", "look end form")

@@ -17,6 +17,7 @@ The crate's tests are proved before they run, which takes a minute or two where 
 Prints a line for each case and ends with `N passed, M failed`; its status is 1 where a case failed.
 """
 
+import itertools
 import os
 import re
 import subprocess
@@ -197,6 +198,16 @@ def the_other_commands(cases, refuser):
             cases.report(f"{job} of {log.name}, each of {len(told)} growths refused", [] if holds else in_short(told))
 
 
+def differences_refused(cases, refuser):
+    """Each growth of `diff` is told, of the words, of the left log, or of the right one, for which it also sets both side by side.
+    How many these are is up to the search."""
+    left, right = b"left: " + OUT_OF_MEMORY, b"right: " + OUT_OF_MEMORY
+    for words, name in itertools.product(([], ["--json"]), ("both-directions", "pending", "vin")):
+        told = told_of_each(cases.program, refuser, ["diff", *words, EXAMPLES / f"{name}.log", EXAMPLES / "lost-frame.log"])
+        kinds = [kind for kind, _ in groupby(told) if kind not in (None, OUT_OF_MEMORY)]
+        cases.report(f"diff {words} of {name}, each of {len(told)} growths refused", [] if kinds == [left, right] else in_short(told))
+
+
 def build_calls(cases):
     """The tests of the calls of the libraries, proved and built."""
     words = ["rt", "test"]
@@ -238,7 +249,7 @@ def main():
         sys.exit(__doc__)
     cases = Cases(os.path.abspath(sys.argv[1]), sys.argv[2:])
     with tempfile.TemporaryDirectory() as folder:
-        cases.each([the_program, the_other_commands, the_libraries], Refuser(folder))
+        cases.each([the_program, the_other_commands, differences_refused, the_libraries], Refuser(folder))
     cases.end()
 
 

@@ -44,6 +44,16 @@ PAIRS = [(SESSION, SESSION), (SESSION, VIN), (VIN, SESSION + b"x\n")]
 KEEP_ALIVE = b"(1.000000) can0 7E0#023E80\n"
 KEEP_ALIVE_LISTED = b"1 stray tester 3E80\n"
 
+# What is written of a keep-alive beside an empty log.
+DIFFERENCES = {
+    "compare --show": b"different at item 1\nleft: " + KEEP_ALIVE_LISTED + b"right: nothing\n",
+    "diff": b"--- %s\n+++ %s\n@@ -1 +0,0 @@\n-stray tester 3E80\n",
+    "diff --json": b"""\
+{"place":1,"change":"removed","left_item":1,"right_item":0,"left":{"kind":"stray","direction":"tester","message":"3E80"},"right":null}
+{"same":0,"removed":1,"added":0,"changed":0,"shortest":true}
+""",
+}
+
 NO_FRAMES = 2 * b"(1.000000) can0 7E8#40\n"
 NO_FRAMES_EXPLAINED = b"""\
 line 1: unit frame dropped: unknown kind
@@ -61,11 +71,12 @@ def devices(program):
     ]:
         yield f"{job} of {len(log)} bytes, a read fails after each byte", partial(telling_fails, program, job, log, told)
     yield f"report of {len(SESSION)} bytes, a read fails after each byte", partial(page_fails, program)
-    for job in ("compare", "report"):
+    for job in ("compare", "diff", "report"):
         yield f"{job} of two logs, a read of either fails after each byte", partial(comparing_fails, program, job)
     yield "report of two logs, a byte a call", partial(page_byte_by_byte, program)
     yield "report of two logs, a write fails after some bytes", partial(page_writes_fail, program)
-    yield "compare --show, a write fails after each byte", partial(showing_fails, program)
+    for words, text in DIFFERENCES.items():
+        yield f"{words}, a write fails after each byte", partial(differing_fails, program, words.split(), text)
     for job, log, text in [
         ("normalise", VIN, VIN_CANONICAL),
         ("list", SESSION, LISTED),
@@ -158,12 +169,13 @@ def page_writes_fail(program):
     return wrong
 
 
-def showing_fails(program):
+def differing_fails(program, words, text):
     """So much of the text is written as the output takes, a byte a call; what it fails at is no log of the two."""
-    wrong, text = [], b"different at item 1\nleft: " + KEEP_ALIVE_LISTED + b"right: nothing\n"
+    wrong = []
     with files(KEEP_ALIVE, b"") as names:
+        text = text % (*(str(name).encode() for name in names),) if b"%s" in text else text
         for room in range(len(text) + 1):
-            found = program.run_failing(["compare", "--show", *names], WRITE, room + 1, most=1)
+            found = program.run_failing([*words, *names], WRITE, room + 1, most=1)
             want = (Ended(DEVICE, text[:room], WRITE_FAILED), True) if room < len(text) else (Ended(DIFFERENT, text, b""), False)
             wrong += differences(f"{room} bytes", found, want)
     return wrong

@@ -255,7 +255,7 @@ def foreign(cases, folder):
     hinted(cases, "no frame of standard input", ["list"], folder, 0, hint.format("standard input", "7E0 or 7E8", ""), log=other)
     hinted(cases, "no frame of a log that has to be clean", ["list", "--strict", "other.log"], folder, UNCLEAN, usual)
     hinted(cases, "one frame of a side", ["list", "--tester", "7E0", "--unit", "7FF", "mine.log"], folder, 0, "dropped frames in mine.log: 1; udsnorm explain shows where")
-    for job in ["compare", "report"]:
+    for job in ["compare", "diff", "report"]:
         for left, right, status in [("other.log", "mine.log", 1), ("mine.log", "other.log", 1), ("other.log", "an other.log", 0)]:
             hinted(cases, f"{job} {left} {right}", [job, left, right], folder, status, usual)
         hinted(cases, f"{job} mine.log empty.log", [job, "mine.log", "empty.log"], folder, 1, "empty.log is empty")
@@ -291,7 +291,7 @@ def exchanged(cases, folder):
         hinted(cases, f"{job} with exchanged sides", [job, *swapped, "short.log"], folder, 0, told.format("short.log", " short.log"))
     hinted(cases, "exchanged sides in standard input", ["list", *swapped], folder, 0, told.format("standard input", ""), log=request + answer)
     hinted(cases, "exchanged sides, strictly", ["list", "--strict", *swapped, "short.log"], folder, 0, told.format("short.log", " short.log"))
-    for job in ["compare", "report"]:
+    for job in ["compare", "diff", "report"]:
         hinted(cases, f"{job} with exchanged sides in both", [job, *swapped, "short.log", "whole.log"], folder, 1, told.format("short.log", " short.log"))
         hinted(cases, f"{job} with exchanged sides in one", [job, *swapped, "requests.log", "short.log"], folder, 1, told.format("short.log", " short.log"))
 

@@ -493,6 +493,8 @@ def comparisons(program):
         for row in tables.table(name):
             yield f"{name}: {row.name}", partial(compared, program, row)
     yield "the right log is left alone where the left one is refused", partial(left_alone, program)
+    for row in tables.table("differences"):
+        yield f"differences: {row.name}", partial(differed, program, row)
 
 
 def compared(program, row):
@@ -514,6 +516,17 @@ def compared(program, row):
             wrong += differences("compare", program.run(["compare", *options, *words]), answer)
             wrong += differences("byte by byte", program.run_short(["compare", *options, *words]), answer)
     return wrong
+
+
+def differed(program, row):
+    """What `diff` writes of two logs in files of the names that the row has, and what it tells."""
+    words = sorted((word for text in row.texts("with") for word in text.split(" ")), key=lambda word: word != "diff")
+    [status] = row.texts("status")
+    with tempfile.TemporaryDirectory() as folder:
+        for side in ("left", "right"):
+            Path(folder, f"{side}.log").write_bytes(row.side(side))
+        found = program.run(words, cwd=folder)
+    return differences("diff", found, Ended(int(status), row.text("found"), row.text("told")))
 
 
 def left_alone(program):

@@ -168,12 +168,12 @@ pub(crate) fn full(alloc: Global) -> FailsAfter<Short<Vec<u8>>> {
 fn each_call_writes_its_text_of_a_session(rt: HostRuntime) -> Result<(), Fail> {
     assert_call(&rt, rt.alloc(), Call::Normalise, CANONICAL, 46)?;
     assert_call(&rt, rt.alloc(), Call::List, LISTED, 0)?;
-    let explained = in_memory::explanation(rt.alloc(), &sides()?, Notation::Text, LOG.as_bytes())?;
+    let explained = counted::explanation(rt.alloc(), &sides()?, Notation::Text, LOG.as_bytes())?;
     assert_call(
         &rt,
         rt.alloc(),
         Call::Explain,
-        str::from_utf8(explained.as_slice())?,
+        str::from_utf8(explained.text.as_slice())?,
         0,
     )
 }
@@ -222,22 +222,14 @@ fn a_session_is_compared(rt: HostRuntime) -> Result<(), Fail> {
 }
 
 #[test]
-fn a_session_in_memory_goes_through_each_call(rt: HostRuntime) -> Result<(), Fail> {
+fn a_session_in_memory_has_its_meaning(rt: HostRuntime) -> Result<(), Fail> {
     let (alloc, config) = (rt.alloc(), sides()?);
     let log = LOG.as_bytes();
-    let text = in_memory::canonical_log(alloc, &config, log)?;
-    assert!(rt; text.as_slice() == CANONICAL.as_bytes());
-    let text = in_memory::item_list(alloc, &config, NUMBERED, log)?;
-    assert!(rt; text.as_slice() == LISTED.as_bytes());
-    let text = in_memory::message_lines(alloc, &config, Notation::Text, log)?;
-    assert!(rt; text.as_slice() == PLACED.as_bytes());
-    let text = in_memory::explanation(alloc, &config, Notation::Text, log)?;
-    assert!(rt; text.as_slice().starts_with(EXPLAINED.as_bytes()));
     let items = items_text(alloc, &in_memory::meaning(alloc, &config, log)?)?;
     assert_text(&rt, "session", &items, ITEM);
-    let found = in_memory::comparison(alloc, &config, log, CANONICAL.as_bytes());
-    assert!(rt; found == Ok(Comparison::Same));
-    let cut = in_memory::canonical_log(alloc, &config, &log[..9]).err();
+    let listed = counted::item_list(alloc, &config, NUMBERED, log)?;
+    assert!(rt; listed.text.as_slice() == LISTED.as_bytes());
+    let cut = counted::canonical_log(alloc, &config, &log[..9]).err();
     assert!(rt;
         cut == Some(Fault::BadLine {
             line: 1,

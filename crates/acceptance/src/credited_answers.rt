@@ -143,7 +143,7 @@ fn lines_told(alloc: Global, lines: Vec<CreditLine>) -> Result<String, Fail> {
     for line in &lines {
         let tester = str::from_utf8(line.tester.as_slice())?;
         let unit = str::from_utf8(line.unit.as_slice())?;
-        let told = format!(in alloc; "{} {tester} {unit}\n", line.credits.0)?;
+        let told = format!(in alloc; "{} {tester} {unit}\n", line.credits)?;
         text.push_str(told.as_str())?;
     }
     Ok(text)

@@ -2,7 +2,8 @@
 //!
 //! Each crate below is proved by itself, without a test: the gate would prove it again with them. That its definitions say
 //! what was meant is shown here, layer by layer, by worked values: `log_lines`, `device_calls`, `frame_layouts`,
-//! `frame_verdicts`, `message_frames`, `message_kinds`, `pairings`, `credited_answers`.
+//! `frame_verdicts`, `message_frames`, `message_kinds`, `pairings`, `credited_answers`,
+//! `session_rows`.
 //!
 //! `said_texts` has each part of a line, and each name and number that commands share.
 //!
@@ -39,5 +40,7 @@ mod pairings;
 mod rows;
 #[cfg(test)]
 mod said_texts;
+#[cfg(test)]
+mod session_rows;
 #[cfg(test)]
 mod sizes;

@@ -180,7 +180,7 @@ fn each_list_has_the_meaning_of_its_row(rt: HostRuntime) -> Result<(), Fail> {
 }
 
 /// What the messages in the lines of a row with this mark mean.
-fn meaning_of(alloc: Global, row: &str, mark: &str) -> Result<Meaning, Fail> {
+pub(crate) fn meaning_of(alloc: Global, row: &str, mark: &str) -> Result<Meaning, Fail> {
     let mut pairing = Pairing::new(alloc);
     for line in lines_of(row) {
         if let Some(message) = line.strip_prefix(mark) {

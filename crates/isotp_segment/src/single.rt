@@ -1,4 +1,5 @@
-//! The frame of a message that one frame holds, by lanes: its bytes are put in their places all at once.
+//! The frame of a message that one frame holds. Most messages are such, and a copy of so few bytes, whose number is known
+//! only when it runs, would be a call: so they are put in their places all at once, by lanes.
 
 ghost use Rattle.std.specs.Prelude.{◌≡◌, ◌≤◌, [], ◌∷◌, length};
 ghost use Rattle.direction.specs.declared.Dir.{Dir};
@@ -31,18 +32,22 @@ static BLANKS: [[u8; 8]; 8] = [
 
 /// The lanes of the ends of the message where these bytes are found, by the length of the message.
 static PLACES: [[u8; 8]; 8] = [
-    [NONE, NONE, NONE, NONE, NONE, NONE, NONE, NONE],
-    [NONE, 0, NONE, NONE, NONE, NONE, NONE, NONE],
-    [NONE, 0, 2, NONE, NONE, NONE, NONE, NONE],
-    [NONE, 0, 1, 2, NONE, NONE, NONE, NONE],
-    [NONE, 0, 1, 2, 3, NONE, NONE, NONE],
-    [NONE, 0, 1, 2, 3, 7, NONE, NONE],
-    [NONE, 0, 1, 2, 3, 6, 7, NONE],
-    [NONE, 0, 1, 2, 3, 5, 6, 7],
+    [
+        NO_LANE, NO_LANE, NO_LANE, NO_LANE, NO_LANE, NO_LANE, NO_LANE, NO_LANE,
+    ],
+    [
+        NO_LANE, 0, NO_LANE, NO_LANE, NO_LANE, NO_LANE, NO_LANE, NO_LANE,
+    ],
+    [NO_LANE, 0, 2, NO_LANE, NO_LANE, NO_LANE, NO_LANE, NO_LANE],
+    [NO_LANE, 0, 1, 2, NO_LANE, NO_LANE, NO_LANE, NO_LANE],
+    [NO_LANE, 0, 1, 2, 3, NO_LANE, NO_LANE, NO_LANE],
+    [NO_LANE, 0, 1, 2, 3, 7, NO_LANE, NO_LANE],
+    [NO_LANE, 0, 1, 2, 3, 6, 7, NO_LANE],
+    [NO_LANE, 0, 1, 2, 3, 5, 6, 7],
 ];
 
 /// No lane: what is picked there is 0.
-const NONE: u8 = 0x80;
+const NO_LANE: u8 = 0x80;
 
 /// Eight lanes, and eight of another vector behind them: where lanes are picked of sixteen, a place may be none.
 const WIDENED: [usize; 16] = [0, 1, 2, 3, 4, 5, 6, 7, 8, 9, 10, 11, 12, 13, 14, 15];

@@ -1,13 +1,12 @@
 -- What is kept of a log's messages with one more.
 use Rattle.std.proofs.Common.{◌≡◌, ℕ, ◌+◌, ◌<◌, ◌≤◌, true, false, List, [], ◌∷◌, ◌++◌, inl, inr, arith, refl, ap, ◌∙◌}
 use Rattle.std.proofs.lemmas.Bool.{cases_lt, le-leb, lt-leb}
-use Rattle.can_log.specs.Frame.{AreBytes}
 use Rattle.direction.specs.Dir.{Message}
 use Rattle.uds_exchange.specs.Meaning.{ItemValue, meaning, flattened}
 use Rattle.trace_canon.specs.SessionScript.{Collects, fits_within}
 use Rattle.trace_log.specs.Settings.{Settings}
 use Rattle.trace_canon.specs.proving.Measuring.{HaveLengths}
-use Rattle.trace_canon.proofs.Lengths.{log_has_length, never_shorter}
+use Rattle.trace_canon.proofs.Lengths.{log_has_length}
 
 -- items of this size fit, where that is within the limit
 pub fits_so : (settings : Settings) (items : List ItemValue) (size : ℕ) → HaveLengths settings (flattened items) size → size ≤ settings.max_bytes → fits_within settings items ≡ true
@@ -72,13 +71,6 @@ module _ (settings : Settings) where
       | inl long ↦ ((kept.none long).0, long)
       | inr fits ↦ absurd (omega (arith, (kept.all fits).1, fits, over))
     ]
-
-    -- which it is with one more
-    pub collects_still : (message : Message) → AreBytes message.1 → settings.max_bytes < known → Collects settings (M ++ message ∷ []) items known config
-    collects_still message bytes over =
-        let none = keeps_none over in
-        let longer = never_shorter settings M message kept.size bytes kept.measured in
-        collects_no_more M message items known (kept.size + longer.0) longer.1 none.0 over (omega (arith, none.1)) config kept.same
 
     -- what is answered of it
     pub fits_then : known ≤ settings.max_bytes → fits_within settings (meaning M) ≡ true

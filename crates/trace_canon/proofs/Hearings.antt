@@ -15,8 +15,7 @@ use Rattle.trace_log.specs.Settings.{Settings}
 use Rattle.trace_log.specs.Feeding.{FeedsLog, FeedsSome, Took, Stopped, StopsWithin}
 use Rattle.trace_canon.specs.proving.Hearing.{HasHeard}
 use Rattle.uds_find.specs.Credit.{HasCredit, IsFirstCredit}
-use Rattle.uds_find.specs.Finding.{StandsAfter}
-use Rattle.uds_find.specs.declared.finder.Finder.{Finder}
+use Rattle.uds_find.specs.Finding.{FinderValue, StandsAfter}
 use Rattle.uds_find.proofs.Promises.{first_credit_is_credit}
 use Rattle.trace_log.proofs.Promises.{begins_with_lines, bad_counts, no_place_counts, bad_in_front, bad_at_end}
 
@@ -47,13 +46,13 @@ module _ (meanings : List (Option Stamped)) (what : Option Stamped) where
   counted_more line number = omega (arith, number, length-append meanings (what ∷ []))
 
   -- a blank one
-  pub heard_blank : (finder : Finder) (lines line : ℕ) → what ≡ None → line ≡ length meanings + 1 → HasHeard meanings finder lines
+  pub heard_blank : (finder : FinderValue) (lines line : ℕ) → what ≡ None → line ≡ length meanings + 1 → HasHeard meanings finder lines
       → HasHeard (meanings ++ what ∷ []) finder line
   heard_blank finder lines line is number heard =
       record { stands = subst (λ frames. StandsAfter frames finder) (sym (frames_blank is)) heard.stands; counted = counted_more line number }
 
   -- one with a frame
-  pub heard_frame : (stamped : Stamped) (old new : Finder) (lines line : ℕ) → what ≡ Some stamped → line ≡ length meanings + 1 → length meanings < 2 ^ 62
+  pub heard_frame : (stamped : Stamped) (old new : FinderValue) (lines line : ℕ) → what ≡ Some stamped → line ≡ length meanings + 1 → length meanings < 2 ^ 62
       → ((frames : List FrameValue) → length frames < 2 ^ 62 → StandsAfter frames old → StandsAfter (frames ++ stamped.frame ∷ []) new)
       → HasHeard meanings old lines → HasHeard (meanings ++ what ∷ []) new line
   heard_frame stamped old new lines line is number few takes heard = record {
@@ -62,7 +61,7 @@ module _ (meanings : List (Option Stamped)) (what : Option Stamped) where
   }
 
   -- one that needs memory
-  pub heard_first : (stamped : Stamped) (old : Finder) (lines : ℕ) → what ≡ Some stamped
+  pub heard_first : (stamped : Stamped) (old : FinderValue) (lines : ℕ) → what ≡ Some stamped
       → ((frames : List FrameValue) → StandsAfter frames old → IsFirstCredit frames stamped.frame) → HasHeard meanings old lines → HasCredit (frames_in (meanings ++ what ∷ []))
   heard_first stamped old lines is needs heard =
       subst HasCredit (sym (frames_more stamped is)) (first_credit_is_credit (frames_in meanings) stamped.frame (needs (frames_in meanings) heard.stands))
@@ -133,6 +132,6 @@ module _ (settings : Settings) (log : List ℕ) (meanings : List (Option Stamped
   heard_end_need (Err why) needs is = (meanings, all_begin log meanings means, needs)
 
 -- before the first line
-pub heard_none : (finder : Finder) (lines : ℕ) → StandsAfter [] finder → lines ≡ 0 → HasHeard [] finder lines
+pub heard_none : (finder : FinderValue) (lines : ℕ) → StandsAfter [] finder → lines ≡ 0 → HasHeard [] finder lines
 unfolding frames_in
 heard_none finder lines stands none = record { stands = stands; counted = none }

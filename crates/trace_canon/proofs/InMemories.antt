@@ -5,7 +5,6 @@ use Rattle.std.specs.Prelude.{MatchResult, IfErr}
 use Rattle.isotp_receive.specs.Trace.{Entry}
 use Rattle.uds_exchange.specs.Meaning.{ItemValue}
 use Rattle.trace_canon.specs.declared.comparing.Compared.{Compared}
-use Rattle.trace_canon.specs.declared.comparing.Comparison.{Comparison}
 use Rattle.trace_canon.specs.declared.counted.CountedComparison.{CountedComparison}
 use Rattle.trace_log.specs.declared.fault.CompareFault.{CompareFault}
 use Rattle.trace_log.specs.declared.fault.CompareFault.TheVariants.{Left, Right}
@@ -19,7 +18,7 @@ use Rattle.trace_log.specs.declared.summary.Summary.{Summary}
 use Rattle.trace_log.specs.Answers.{Answers, TellsOutcome}
 use Rattle.trace_canon.specs.Sessions.{GivesMeaning}
 use Rattle.trace_log.specs.Failing.{FailedIf}
-use Rattle.trace_canon.specs.InMemory.{IsOfMemory, HasBytes, IsRefused, IsUnread, IsCanonicalLogWith, IsToldWith, NeedsMemoryForCanonicalLog, NeedsMemoryForPlacing, MeansInMemory, ComparesInMemory, ComparesWithCounts, counted_comparison, fault_in_memory}
+use Rattle.trace_canon.specs.InMemory.{IsOfMemory, HasBytes, IsRefused, IsUnread, IsCanonicalLogWith, IsToldWith, NeedsMemoryForCanonicalLog, NeedsMemoryForPlacing, MeansInMemory, ComparesWithCounts, counted_comparison, fault_in_memory}
 use Rattle.trace_log.specs.CanonicalLog.{canonical_log_of_lines}
 use Rattle.trace_log.specs.Outcome.{Accepted, IsOutcome}
 use Rattle.trace_canon.specs.Keeping.{HasTextOf, NeedsMemoryToCollect, NeedsMemoryToOrder}
@@ -173,13 +172,3 @@ comparison_in_memory limit settings one other (Err (Left fault)) left right writ
     (is, record { no_read = λ read. reads_well left (ap (λ f. Err (Left f)) read); no_write = written; memory = λ why. left_refused (ap (λ f. Err (Left f)) why) })
 comparison_in_memory limit settings one other (Err (Right fault)) left right written left_refused right_refused is =
     (is, record { no_read = λ read. reads_well right (ap (λ f. Err (Right f)) read); no_write = written; memory = λ why. right_refused (ap (λ f. Err (Right f)) why) })
-
--- the same without the counts
-abbrev pub comparison_in : Result CountedComparison CompareFault → Result Comparison CompareFault
-comparison_in (Ok counted) = Ok counted.comparison
-comparison_in (Err fault) = Err fault
-
-pub comparison_alone : (limit : ℕ) (settings : Settings) (one other : List ℕ) (answer : Result CountedComparison CompareFault)
-    → ComparesWithCounts limit settings one other answer → ComparesInMemory limit settings one other (comparison_in answer)
-comparison_alone limit settings one other (Ok counted) (compared, is, counts) = (compared, is, ap (λ c. c.comparison) (sym counts))
-comparison_alone limit settings one other (Err fault) is = is

@@ -1,3 +1,5 @@
+pub mod HandedOn
+pub mod LeftAlone
 pub mod Comparisons
 pub mod Lengths
 pub mod CanonicalWriting
@@ -8,6 +10,7 @@ pub mod SaidFrames
 pub mod CanonicalSayings
 pub mod CanonicalMachines
 pub mod CanonicalScripts
+pub mod Begins
 pub mod MessagePlaces
 pub mod FirstFrames
 pub mod PlacingScripts

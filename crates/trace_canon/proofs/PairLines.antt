@@ -12,8 +12,8 @@ in_order a b c d e f g = simp append_assoc
 
 -- as an object
 pub object_is : (pair : CreditLine) (notation : Notation) (tester unit : List ℕ) → notation ≡ Json → tester ≡ pair.tester.items → unit ≡ pair.unit.items
-    → codes "{\"credits\":" ++ decimal pair.credits.0 ++ codes ",\"tester\":\"" ++ tester ++ codes "\",\"unit\":\"" ++ unit ++ codes "\"}\n"
+    → codes "{\"credits\":" ++ decimal pair.credits ++ codes ",\"tester\":\"" ++ tester ++ codes "\",\"unit\":\"" ++ unit ++ codes "\"}\n"
     ≡ pair_line notation pair
 object_is pair notation tester unit is tester_is unit_is =
-    in_order (codes "{\"credits\":") (decimal pair.credits.0) (codes ",\"tester\":\"") tester (codes "\",\"unit\":\"") unit (codes "\"}\n")
+    in_order (codes "{\"credits\":") (decimal pair.credits) (codes ",\"tester\":\"") tester (codes "\",\"unit\":\"") unit (codes "\"}\n")
     ∙ rw (is, tester_is, unit_is) (sym (line_is (pair_object pair)))

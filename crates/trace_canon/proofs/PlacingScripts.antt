@@ -1,5 +1,5 @@
 -- What a machine that places messages keeps and says of one more frame.
-use Rattle.std.proofs.Common.{◌≡◌, ℕ, None, List, [], ◌∷◌, ◌++◌, refl, ap, sym, subst, ◌∙◌, codes}
+use Rattle.std.proofs.Common.{◌≡◌, ℕ, None, List, [], ◌∷◌, ◌++◌, refl, ap, sym, subst, ◌∙◌, append-nil, append_assoc, codes}
 use Rattle.std.specs.Fmt.{decimal}
 use Rattle.can_log.specs.Frame.{FrameValue}
 use Rattle.direction.specs.Dir.{Message}
@@ -16,7 +16,7 @@ use Rattle.trace_run.proofs.Promises.{CompletesJudged, tells_no_message}
 use Rattle.uds_exchange.specs.Judging.{step_after, number_after}
 use Rattle.uds_exchange.specs.declared.step.Step.{Step}
 use Rattle.trace_canon.specs.proving.Begun.{IsBegunAt}
-use Rattle.trace_canon.specs.Begun.{begun_after, began_at}
+use Rattle.trace_canon.specs.Begun.{begun_after, begun_of, began_at}
 use Rattle.trace_canon.specs.MessageLines.{PlacedMessage, judged_at, place_of, stamp_text, first_frame, placed_members, placed_text, placed_behind, delivered_line}
 use Rattle.trace_text.specs.Words.{role_text}
 use Rattle.trace_text.specs.Json.{object_line}
@@ -47,44 +47,41 @@ begun_by Unit T line micros frame begun tester unit =
 
 first_by : (d : Dir) (T : List Entry) (line micros : ℕ) (frame : FrameValue) (begun : Begun) (first : FramePlace) (whole : List ℕ)
     → IsBegunAt Tester T begun.tester → IsBegunAt Unit T begun.unit → (verdict MESSAGE_LIMIT T (entry_at line micros d frame)).verdict ≡ message whole
-    → (d ≡ Tester → first ≡ began_at d (verdict MESSAGE_LIMIT T (entry_at line micros d frame)) (here_at line micros) begun.tester)
-    → (d ≡ Unit → first ≡ began_at d (verdict MESSAGE_LIMIT T (entry_at line micros d frame)) (here_at line micros) begun.unit)
+    → first ≡ began_at d (verdict MESSAGE_LIMIT T (entry_at line micros d frame)) (here_at line micros) (begun_of begun d)
     → first ≡ place_of (first_frame T (entry_at line micros d frame))
-first_by Tester T line micros frame begun first whole tester unit completes of_tester of_unit =
-    of_tester refl ∙ first_of Tester T line micros frame begun.tester whole tester completes
-first_by Unit T line micros frame begun first whole tester unit completes of_tester of_unit =
-    of_unit refl ∙ first_of Unit T line micros frame begun.unit whole unit completes
+first_by Tester T line micros frame begun first whole tester unit completes first_is =
+    first_is ∙ first_of Tester T line micros frame begun.tester whole tester completes
+first_by Unit T line micros frame begun first whole tester unit completes first_is =
+    first_is ∙ first_of Unit T line micros frame begun.unit whole unit completes
 
 module _ (T : List Entry) (e : Entry) (line micros : ℕ) (d : Dir) (event : EventValue) (line_is : e.line ≡ line) (micros_is : e.micros ≡ micros) (dir_is : e.dir ≡ d)
     (is : event ≡ verdict MESSAGE_LIMIT T e) (begun : Begun) (tester : IsBegunAt Tester T begun.tester) (unit : IsBegunAt Unit T begun.unit) where
   -- what is kept is right with one more frame
-  pub begun_next : (now : Begun) → now.tester ≡ begun_after Tester d event (here_at line micros) begun.tester
-      → now.unit ≡ begun_after Unit d event (here_at line micros) begun.unit → IsBegunAt Tester (T ++ e ∷ []) now.tester × IsBegunAt Unit (T ++ e ∷ []) now.unit
-  begun_next now tester_is unit_is =
+  pub begun_next : (now : Begun) → ((x : Dir) → begun_of now x ≡ begun_after x d event (here_at line micros) (begun_of begun x))
+      → IsBegunAt Tester (T ++ e ∷ []) now.tester × IsBegunAt Unit (T ++ e ∷ []) now.unit
+  begun_next now stands =
       let both = begun_by e.dir T e.line e.micros e.frame begun tester unit in (
         subst (λ b. IsBegunAt Tester (T ++ e ∷ []) b)
-            (sym (tester_is ∙ (λ i. begun_after Tester (sym dir_is i) (is i) (here_at (sym line_is i) (sym micros_is i)) begun.tester))) both.0,
+            (sym (stands Tester ∙ (λ i. begun_after Tester (sym dir_is i) (is i) (here_at (sym line_is i) (sym micros_is i)) begun.tester))) both.0,
         subst (λ b. IsBegunAt Unit (T ++ e ∷ []) b)
-            (sym (unit_is ∙ (λ i. begun_after Unit (sym dir_is i) (is i) (here_at (sym line_is i) (sym micros_is i)) begun.unit))) both.1,
+            (sym (stands Unit ∙ (λ i. begun_after Unit (sym dir_is i) (is i) (here_at (sym line_is i) (sym micros_is i)) begun.unit))) both.1,
       )
 
   -- and a message that it completes begins where that says
   pub begins_at : (whole : List ℕ) (first : FramePlace) → event.verdict ≡ message whole
-      → (d ≡ Tester → first ≡ began_at d event (here_at line micros) begun.tester) → (d ≡ Unit → first ≡ began_at d event (here_at line micros) begun.unit)
-      → first ≡ place_of (first_frame T e)
-  begins_at whole first completes of_tester of_unit =
+      → first ≡ began_at d event (here_at line micros) (begun_of begun d) → first ≡ place_of (first_frame T e)
+  begins_at whole first completes first_is =
       first_by e.dir T e.line e.micros e.frame begun first whole tester unit (sym (ap (λ (x : EventValue). x.verdict) is) ∙ completes)
-      (λ side. of_tester (sym dir_is ∙ side) ∙ (λ i. began_at (sym dir_is i) (is i) (here_at (sym line_is i) (sym micros_is i)) begun.tester))
-      (λ side. of_unit (sym dir_is ∙ side) ∙ (λ i. began_at (sym dir_is i) (is i) (here_at (sym line_is i) (sym micros_is i)) begun.unit))
+      (first_is ∙ (λ i. began_at (sym dir_is i) (is i) (here_at (sym line_is i) (sym micros_is i)) (begun_of begun (sym dir_is i))))
 
   -- so what is said is the line of the message
   pub line_said : (notation kept : Notation) (whole : List ℕ) (number : ℕ) (step : Step) (first : FramePlace) → kept ≡ notation → event.verdict ≡ message whole
       → number ≡ number_after (messages MESSAGE_LIMIT T) (d, whole) → step ≡ step_after (messages MESSAGE_LIMIT T) (d, whole)
-      → (d ≡ Tester → first ≡ began_at d event (here_at line micros) begun.tester) → (d ≡ Unit → first ≡ began_at d event (here_at line micros) begun.unit)
+      → first ≡ began_at d event (here_at line micros) (begun_of begun d)
       → placed_text kept (placed_at number step (d, whole) first (here_at line micros)) ≡ delivered_line notation MESSAGE_LIMIT T e (verdict MESSAGE_LIMIT T e).verdict
-  line_said notation kept whole number step first same completes number_is step_is of_tester of_unit =
+  line_said notation kept whole number step first same completes number_is step_is first_at =
       let told : (verdict MESSAGE_LIMIT T e).verdict ≡ message whole = sym (ap (λ (x : EventValue). x.verdict) is) ∙ completes in
-      let first_is : first ≡ place_of (first_frame T e) = begins_at whole first completes of_tester of_unit in
+      let first_is : first ≡ place_of (first_frame T e) = begins_at whole first completes first_at in
       let words : placed_text kept (placed_at number step (d, whole) first (here_at line micros))
       ≡ placed_text notation (placed_behind (messages MESSAGE_LIMIT T) (d, whole) (first_frame T e) e) =
       (λ i. placed_text (same i) (placed_at (number_is i) (step_is i) (d, whole) (first_is i) (here_at (sym line_is i) (sym micros_is i)))) in
@@ -94,18 +91,16 @@ module _ (T : List Entry) (e : Entry) (line micros : ℕ) (d : Dir) (event : Eve
 -- so it is of what a machine was handed
 pub judged_said : (T : List Entry) (e : Entry) (seen : Seen) (judged : Judged) → IsSeen T e seen → CompletesJudged T e judged
     → (begun : Begun) → IsBegunAt Tester T begun.tester → IsBegunAt Unit T begun.unit → (notation kept : Notation) (first : FramePlace) → kept ≡ notation
-    → (seen.dir ≡ Tester → first ≡ began_at seen.dir (seen_event seen.event) (here_at seen.line seen.micros) begun.tester)
-    → (seen.dir ≡ Unit → first ≡ began_at seen.dir (seen_event seen.event) (here_at seen.line seen.micros) begun.unit)
+    → first ≡ began_at seen.dir (seen_event seen.event) (here_at seen.line seen.micros) (begun_of begun seen.dir)
     → placed_text kept (judged_at judged first (here_at seen.line seen.micros)) ≡ delivered_line notation MESSAGE_LIMIT T e (verdict MESSAGE_LIMIT T e).verdict
-judged_said T e seen judged is completes begun tester unit notation kept first same of_tester of_unit =
+judged_said T e seen judged is completes begun tester unit notation kept first same first_at =
     let at = is.event in
     let event = seen_event seen.event in
     let here = here_at seen.line seen.micros in
     let side : seen.dir ≡ judged.dir = sym at.dir ∙ completes.dir in
     line_said T e seen.line seen.micros judged.dir event at.line at.micros completes.dir at.did begun tester unit notation kept judged.bytes.now judged.item judged.step first same
     (ap (λ (x : EventValue). x.verdict) at.did ∙ completes.did) completes.item completes.step
-    (λ is_tester. of_tester (side ∙ is_tester) ∙ ap (λ d. began_at d event here begun.tester) side)
-    (λ is_unit. of_unit (side ∙ is_unit) ∙ ap (λ d. began_at d event here begun.unit) side)
+    (first_at ∙ ap (λ d. began_at d event here (begun_of begun d)) side)
 
 -- of a frame that completed no message nothing is said
 silent_line : (notation : Notation) (T : List Entry) (e : Entry) (d : Dir) (did : VerdictValue) → told_message d did ≡ [] → delivered_line notation MESSAGE_LIMIT T e did ≡ []
@@ -122,12 +117,22 @@ nothing_said notation T e seen is none = silent_line notation T e e.dir (verdict
 -- the parts of the object of a message
 abbrev object_parts_of : ℕ → List ℕ → List ℕ → List ℕ → FramePlace → FramePlace → List ℕ
 object_parts_of number role side bytes start end =
-    codes "{\"item\":" ++ (decimal number ++ (codes ",\"role\":\"" ++ (role ++ (codes "\",\"direction\":\"" ++ (side
-    ++ (codes "\",\"first_line\":" ++ (decimal start.line ++ (codes ",\"last_line\":" ++ (decimal end.line
-    ++ (codes ",\"start\":\"" ++ (stamp_text start.micros ++ (codes "\",\"end\":\"" ++ (stamp_text end.micros
-    ++ (codes "\",\"message\":\"" ++ (bytes ++ (codes "\"}\n" ++ []))))))))))))))))
+    codes "{\"item\":" ++ decimal number ++ codes ",\"role\":\"" ++ role ++ codes "\",\"direction\":\"" ++ side
+    ++ (codes "\",\"first_line\":" ++ decimal start.line ++ codes ",\"last_line\":" ++ decimal end.line)
+    ++ (codes ",\"start\":\"" ++ stamp_text start.micros ++ codes "\",\"end\":\"" ++ stamp_text end.micros)
+    ++ (codes "\",\"message\":\"" ++ bytes ++ codes "\"}\n")
 
-pub object_parts : (number : ℕ) (step : Step) (sent : Message) (start end : FramePlace) (role : List ℕ) → role ≡ role_text step
-    → object_parts_of number role (direction_text sent.0) (bytes_text sent.1) start end ≡ object_line (placed_members (placed_at number step sent start end))
-object_parts number step sent start end role role_is =
-    rw role_is (sym (line_is (placed_members (placed_at number step sent start end))))
+-- one behind another
+in_order : (a b c d e f g h i j k l m n o p q : List ℕ)
+    → a ++ b ++ c ++ d ++ e ++ f ++ (g ++ h ++ i ++ j) ++ (k ++ l ++ m ++ n) ++ (o ++ p ++ q)
+    ≡ a ++ (b ++ (c ++ (d ++ (e ++ (f ++ (g ++ (h ++ (i ++ (j ++ (k ++ (l ++ (m ++ (n ++ (o ++ (p ++ (q ++ []))))))))))))))))
+in_order a b c d e f g h i j k l m n o p q = simp (append_assoc, append-nil)
+
+pub object_parts : (number : ℕ) (step : Step) (sent : Message) (start end : FramePlace)
+    → object_parts_of number (role_text step) (direction_text sent.0) (bytes_text sent.1) start end ≡ object_line (placed_members (placed_at number step sent start end))
+object_parts number step sent start end =
+    in_order (codes "{\"item\":") (decimal number) (codes ",\"role\":\"") (role_text step) (codes "\",\"direction\":\"") (direction_text sent.0)
+    (codes "\",\"first_line\":") (decimal start.line) (codes ",\"last_line\":") (decimal end.line)
+    (codes ",\"start\":\"") (stamp_text start.micros) (codes "\",\"end\":\"") (stamp_text end.micros)
+    (codes "\",\"message\":\"") (bytes_text sent.1) (codes "\"}\n")
+    ∙ sym (line_is (placed_members (placed_at number step sent start end)))

@@ -1,10 +1,17 @@
 -- Where the receptions that stand began, after a frame.
 use Rattle.std.specs.Prelude.{Bool, true, false, Option, Some, None, unwrap_or, if◌then◌else◌}
 use Rattle.direction.specs.declared.Dir.{Dir}
+use Rattle.direction.specs.declared.Dir.TheVariants.{Tester, Unit}
 use Rattle.isotp_receive.specs.declared.event.Ended.{Ended}
 use Rattle.isotp_receive.specs.Trace.{same_direction}
 use Rattle.isotp_receive.specs.Verdict.{VerdictValue, message, began, stored, flowed, dropped, EventValue}
+use Rattle.trace_canon.specs.declared.begun.Begun.{Begun}
 use Rattle.trace_canon.specs.declared.begun.FramePlace.{FramePlace}
+
+-- where the reception of d began, if one stands
+abbrev pub begun_of : Begun → Dir → Option FramePlace
+begun_of begun Tester = begun.tester
+begun_of begun Unit = begun.unit
 
 -- where a reception of d began, if one stands, after an end
 abbrev pub left_by : Dir → Option Ended → Option FramePlace → Option FramePlace

@@ -62,12 +62,12 @@ NeedsMemoryToFind log = (meanings : List (Option Stamped)) × BeginsWithLines lo
 
 -- the line of a pair in words: its credits, and the options by which other commands take its identifiers
 abbrev pub worded_pair : CreditLine → List ℕ
-worded_pair pair = decimal pair.credits.0 ++ codes " --tester " ++ pair.tester.items ++ codes " --unit " ++ pair.unit.items ++ codes "\n"
+worded_pair pair = decimal pair.credits ++ codes " --tester " ++ pair.tester.items ++ codes " --unit " ++ pair.unit.items ++ codes "\n"
 
 -- as JSON
 abbrev pub pair_object : CreditLine → Members
 pair_object pair =
-    member (codes "credits") (json.number pair.credits.0) (member (codes "tester") (json.string pair.tester.items)
+    member (codes "credits") (json.number pair.credits) (member (codes "tester") (json.string pair.tester.items)
     (member (codes "unit") (json.string pair.unit.items) nothing))
 
 -- its line, as it is written in this notation

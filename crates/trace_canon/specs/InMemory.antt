@@ -3,7 +3,6 @@ use Rattle.std.specs.Prelude.{◌≡◌, ◌≢◌, ◌⊎◌, ◌<◌, ⊤, ℕ
 use Rattle.can_log.specs.declared.frame.Stamped.{Stamped}
 use Rattle.uds_exchange.specs.Meaning.{ItemValue}
 use Rattle.trace_canon.specs.declared.comparing.Compared.{Compared}
-use Rattle.trace_canon.specs.declared.comparing.Comparison.{Comparison}
 use Rattle.trace_canon.specs.declared.counted.CountedComparison.{CountedComparison}
 use Rattle.trace_log.specs.declared.fault.CompareFault.{CompareFault}
 use Rattle.trace_log.specs.declared.fault.CompareFault.TheVariants.{Left, Right}
@@ -72,10 +71,6 @@ IsExplanationWith notation limit = IsToldWith (explain_script notation limit) li
 abbrev pub IsFindingWith : Notation → Settings → List ℕ → List ℕ → Summary → Type 0
 IsFindingWith notation settings log text summary = (pairs : List CreditLine) × IsFoundIn settings log pairs summary × (text ≡ pairs_text notation pairs)
 
--- this is such a text, whatever the counts
-abbrev pub IsText : (List ℕ → Summary → Type 0) → List ℕ → Type 0
-IsText IsTextWith text = (summary : Summary) × IsTextWith text summary
-
 -- there is such a text, of one byte at least
 abbrev pub HasBytes : (List ℕ → Summary → Type 0) → Type 0
 HasBytes IsTextWith = (text : List ℕ) × (summary : Summary) × IsTextWith text summary × (0 < length text)
@@ -119,13 +114,6 @@ counted_comparison compared = record { comparison = compared.comparison; left = 
 abbrev pub ComparesWithCounts : ℕ → Settings → List ℕ → List ℕ → Result CountedComparison CompareFault → Type 0
 ComparesWithCounts limit settings one other (Ok counted) = (compared : Compared) × Compares limit settings one other (Ok compared) × (counted ≡ counted_comparison compared)
 ComparesWithCounts limit settings one other (Err fault) =
-    Compares limit settings one other (Err fault) × IsOfMemory (NeedsMemoryOnSide limit settings one other fault) (fault_in fault)
-
--- how the meanings of the two logs compare, or why one has none
-abbrev pub ComparesInMemory : ℕ → Settings → List ℕ → List ℕ → Result Comparison CompareFault → Type 0
-ComparesInMemory limit settings one other (Ok comparison) =
-    (compared : Compared) × Compares limit settings one other (Ok compared) × (compared.comparison ≡ comparison)
-ComparesInMemory limit settings one other (Err fault) =
     Compares limit settings one other (Err fault) × IsOfMemory (NeedsMemoryOnSide limit settings one other fault) (fault_in fault)
 
 -- the fault of a text that is gathered in memory, where a write fails for want of memory alone

@@ -1,9 +1,9 @@
 //! Where the receptions that stand began.
 ghost use Rattle.std.specs.Prelude.{◌≡◌, None, if◌then◌else◌};
-ghost use Rattle.direction.specs.declared.Dir.TheVariants.{Tester, Unit};
-ghost use Rattle.isotp_receive.specs.EventSeen.{seen_event};
+ghost use Rattle.direction.specs.declared.Dir.{Dir as DirValue};
+ghost use Rattle.isotp_receive.specs.EventSeen.{seen_event, seen_verdict};
 ghost use Rattle.isotp_receive.specs.Trace.{same_direction};
-ghost use Rattle.trace_canon.specs.Begun.{began_at, begun_after, left_by};
+ghost use Rattle.trace_canon.specs.Begun.{began_at, begun_after, begun_of, left_by, moved_by};
 
 use direction::Dir;
 use isotp_receive::{Ended, Event, Verdict};
@@ -25,8 +25,7 @@ pub struct Begun {
 impl Begun {
     /// Before the first frame.
     pub fn start() -> Begun
-        ensures tester { result.tester ≡ None }
-        ensures unit { result.unit ≡ None }
+        ensures { (d : DirValue) → begun_of result d ≡ None }
     {
         Begun {
             tester: None,
@@ -36,8 +35,7 @@ impl Begun {
 
     /// Where the reception of a direction began, if one stands.
     pub fn of(&self, dir: Dir) -> Option<FramePlace>
-        ensures tester { dir ≡ Tester → result ≡ self.now.tester }
-        ensures unit { dir ≡ Unit → result ≡ self.now.unit }
+        ensures { result ≡ begun_of self.now dir }
     {
         match dir {
             Dir::Tester => self.tester,
@@ -49,28 +47,41 @@ impl Begun {
     /// the answer says nothing.
     #[inline(always)]
     pub fn take(&mut self, here: FramePlace, dir: Dir, event: Event<'_>) -> FramePlace
-        ensures tester { self.new.tester ≡ begun_after Tester dir (seen_event event.entry) here self.old.tester }
-        ensures unit { self.new.unit ≡ begun_after Unit dir (seen_event event.entry) here self.old.unit }
-        ensures tester_first { dir ≡ Tester → result ≡ began_at dir (seen_event event.entry) here self.old.tester }
-        ensures unit_first { dir ≡ Unit → result ≡ began_at dir (seen_event event.entry) here self.old.unit }
+        ensures stands { (d : DirValue) → begun_of self.new d ≡ begun_after d dir (seen_event event.entry) here (begun_of self.old d) }
+        ensures first { result ≡ began_at dir (seen_event event.entry) here (begun_of self.old dir) }
     {
-        if let Some(ended) = event.ended {
+        self.end(event.ended);
+        let begun = self.of(dir);
+        self.go_on(here, dir, event.verdict);
+        begun.unwrap_or(here)
+    }
+
+    /// Takes the end of a reception, if one ended.
+    #[inline(always)]
+    fn end(&mut self, ended: Option<Ended>)
+        ensures { (d : DirValue) → begun_of self.new d ≡ left_by d ended (begun_of self.old d) }
+    {
+        if let Some(ended) = ended {
             self.put(ended.dir, None);
         }
-        let begun = self.of(dir);
-        match event.verdict {
+    }
+
+    /// Takes what became of a frame, beside such an end.
+    #[inline(always)]
+    fn go_on(&mut self, here: FramePlace, dir: Dir, verdict: Verdict<'_>)
+        ensures { (d : DirValue) → begun_of self.new d ≡ moved_by (same_direction d dir) (seen_verdict verdict.entry) here (begun_of self.old d) }
+    {
+        match verdict {
             Verdict::Message(_) => self.put(dir, None),
             Verdict::Began => self.put(dir, Some(here)),
             Verdict::Stored | Verdict::Flow | Verdict::Dropped(_) => {}
         }
-        begun.unwrap_or(here)
     }
 
     /// Where the reception of a direction began is this now.
     #[inline(always)]
     fn put(&mut self, dir: Dir, begun: Option<FramePlace>)
-        ensures tester { self.new.tester ≡ (if same_direction Tester dir then begun else self.old.tester) }
-        ensures unit { self.new.unit ≡ (if same_direction Unit dir then begun else self.old.unit) }
+        ensures { (d : DirValue) → begun_of self.new d ≡ (if same_direction d dir then begun else begun_of self.old d) }
     {
         match dir {
             Dir::Tester => self.tester = begun,
@@ -83,18 +94,8 @@ impl Begun {
 pub fn still_begun(dir: Dir, ended: Option<Ended>, begun: Option<FramePlace>) -> Option<FramePlace>
     ensures { result ≡ left_by dir ended begun }
 {
-    match (ended, dir) {
-        (None, _) => begun,
-        (
-            Some(
-                Ended {
-                    dir: Dir::Tester,
-                    ..
-                },
-            ),
-            Dir::Tester,
-        ) => None,
-        (Some(Ended { dir: Dir::Unit, .. }), Dir::Unit) => None,
-        (Some(_), _) => begun,
+    match ended {
+        Some(ended) if ended.dir == dir => None,
+        _ => begun,
     }
 }

@@ -179,7 +179,7 @@ fn lasting_extended_name(number: u32) -> [u8; EXTENDED_NAME]
 }
 
 /// The same by the name of the sender, beside which time and data alone differ from frame to frame. The three are said as they
-/// lie: none is put together first, which would end in a covering load. The frames are moved in and out, so that none of their
+/// lie: none is put together first, to be loaded at once where store-to-load forwarding fails. The frames are moved in and out, so that none of their
 /// parts has to lie in memory meanwhile.
 #[inline(always)]
 fn say_stretch<'a, S: TextSink, const NAME: usize>(

@@ -8,9 +8,9 @@ ghost use Rattle.isotp_receive.specs.declared.TheConstants.{MESSAGE_LIMIT};
 ghost use Rattle.trace_canon.specs.SessionScript.{has_place};
 ghost use Rattle.trace_canon.specs.Sessions.{GivesMeaning, GivesSession, RanToCollect};
 ghost use Rattle.trace_log.specs.Devices.{HasLowCounts};
+ghost use Rattle.trace_log.specs.Settings.{AreSettings};
 
 use crate::length::message_length;
-use direction::Dir;
 use isotp_receive::Pair;
 use std::alloc::{AllocError, Global};
 use trace_io::{Source, TextSink};
@@ -35,13 +35,8 @@ pub fn meaning_of<R: Source>(
     requires reader { HasLowCounts R.Source reader.old }
     ensures ran { RanToCollect R.Source GivesMeaning MESSAGE_LIMIT config.now reader.old result reader.new }
 {
-    match session_of(alloc, config, reader) {
-        Ok(session) => {
-            let Session { meaning, .. } = session;
-            Ok(meaning)
-        }
-        Err(fault) => Err(fault),
-    }
+    let session = session_of(alloc, config, reader)?;
+    Ok(session.meaning)
 }
 
 /// The same, with what was counted in the log.
@@ -52,6 +47,7 @@ pub(crate) fn session_of<R: Source>(
 ) -> Result<Session, Fault>
     requires reader { HasLowCounts R.Source reader.old }
     ensures ran { RanToCollect R.Source GivesSession MESSAGE_LIMIT config.now reader.old result reader.new }
+    ensures configured { AreSettings config.now }
 {
     let machine = Collector {
         alloc,
@@ -74,52 +70,33 @@ pub(crate) struct Collector {
 }
 
 impl Collector {
-    ghost use Rattle.std.specs.Prelude.{◌≡◌, ◌≤◌, ◌+◌, ℕ, List, [], ◌∷◌, ◌++◌, OnOk, true, false};
+    ghost use Rattle.std.specs.Prelude.{◌+◌, ℕ, List, [], ◌∷◌, ◌++◌, OnOk};
     ghost use Rattle.direction.specs.Dir.{Message};
     ghost use Rattle.uds_exchange.specs.Meaning.{meaning, flattened};
     ghost use Rattle.uds_exchange.specs.Judging.{IsJudgedAfter, sent};
-    ghost use Rattle.trace_log.specs.Settings.{AreSettings, Settings};
+    ghost use Rattle.trace_log.specs.Settings.{Settings};
     ghost use Rattle.trace_canon.specs.SessionScript.{Collects};
     ghost use Rattle.trace_canon.specs.proving.Measuring.{HaveLengths};
 
-    /// Takes one more message, while the canonical log is within the limit.
+    /// Takes one more message: what it adds to the length, and the message itself where the canonical log is within the limit.
     fn take(&mut self, message: Judged<'_>) -> Result<(), AllocError>
         ensures { OnOk result ((settings : Settings) (M : List Message) → IsJudgedAfter M message.entry → Collects settings M self.old.pairing self.old.length self.old.config
             → Collects settings (M ++ sent message.entry ∷ []) self.new.pairing self.new.length self.new.config) }
     {
-        if self.is_over(message.dir, message.bytes) {
-            return Ok(());
-        }
         let length = self.length.saturating_add(self.added(message));
         if length > self.config.max_bytes() {
             self.pairing = JudgedPairing::new(self.alloc);
             self.length = length;
             return Ok(());
         }
-        match self.pairing.take(message) {
-            Ok(()) => {
-                self.length = length;
-                Ok(())
-            }
-            Err(refused) => Err(refused),
-        }
-    }
-
-    /// Whether the canonical log is above the limit, and so with this message, too: it is handed in for the contract, which
-    /// speaks of its bytes.
-    #[inline(always)]
-    fn is_over(&self, _dir: Dir, _bytes: &[u8]) -> bool
-        ensures stays { result ≡ true → (settings : Settings) (M : List Message) → Collects settings M self.now.pairing self.now.length self.now.config
-            → Collects settings (M ++ (_dir, _bytes.now) ∷ []) self.now.pairing self.now.length self.now.config }
-        ensures within { result ≡ false → self.now.length ≤ self.now.config.max_bytes }
-        ensures settings { AreSettings self.now.config }
-    {
-        self.length > self.config.max_bytes()
+        self.pairing.take(message)?;
+        self.length = length;
+        Ok(())
     }
 
     /// By how many bytes one more message makes the canonical log longer.
     fn added(&self, message: Judged<'_>) -> u64
-        ensures { (M : List Message) (size : ℕ) → self.now.pairing ≡ meaning M → IsJudgedAfter M message.entry → HaveLengths self.now.config (flattened (meaning M)) size
+        ensures { (M : List Message) (size : ℕ) → IsJudgedAfter M message.entry → HaveLengths self.now.config (flattened (meaning M)) size
             → HaveLengths self.now.config (flattened (meaning (M ++ sent message.entry ∷ []))) (size + result) }
     {
         if has_place(message.step) {
@@ -169,10 +146,7 @@ impl Machine for Collector {
         let Some(message) = seen.message else {
             return Ok(());
         };
-        match self.take(message) {
-            Ok(()) => Ok(()),
-            Err(refused) => Err(refused),
-        }
+        self.take(message)
     }
 
     fn end<S: TextSink>(

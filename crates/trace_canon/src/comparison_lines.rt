@@ -6,10 +6,10 @@ ghost use Rattle.trace_io.specs.Counted.{IsLowCount};
 use crate::compared_items::say_item_at;
 use crate::comparing::{Compared, Comparison};
 use crate::comparison_objects::say_comparison_object;
-use text_parts::say;
+use text_parts::{Part, say};
 use trace_io::{Target, TextSink};
 use trace_log::Fault;
-use trace_run::{Printable, print};
+use trace_run::print;
 use trace_text::say::say_text;
 use trace_text::{Notation, Place};
 
@@ -34,22 +34,22 @@ pub fn write_comparison<W: Target>(
     // Its text was written, or a front of it where writing failed; and what that did with the target.
     ensures printed { Prints W.Target (comparison_text style compared.now) target.old result target.new }
 {
-    print(&InStyle { compared, style }, target)
+    print(InStyle { compared, style }, target)
 }
 
 /// A comparison in a style.
-#[derive(Drop)]
+#[derive(Clone, Copy)]
 struct InStyle<'a> {
     compared: &'a Compared,
     style: ComparisonStyle,
 }
 
-impl<'a> Printable for InStyle<'a> {
+impl<'a> Part for InStyle<'a> {
     ghost use Rattle.trace_canon.specs.ComparisonText.{comparison_text};
 
     ghost text = { λ t. comparison_text t.style t.compared.now };
 
-    fn say<S: TextSink>(&self, out: &mut S) {
+    fn say<S: TextSink>(self, out: &mut S) {
         match self.style.notation {
             Notation::Text => say_lines(self.compared, self.style.shows_items, out),
             Notation::Json => say_comparison_object(self.compared, self.style.shows_items, out),

@@ -104,10 +104,8 @@ pub fn comparison(
 ) -> Result<CountedComparison, CompareFault>
     ensures { ComparesWithCounts MESSAGE_LIMIT config.now left.now right.now result }
 {
-    match compare(alloc, config, &mut Bytes::new(left), &mut Bytes::new(right)) {
-        Ok(compared) => Ok(counted_comparison(&compared)),
-        Err(fault) => Err(fault),
-    }
+    let compared = compare(alloc, config, &mut Bytes::new(left), &mut Bytes::new(right))?;
+    Ok(counted_comparison(&compared))
 }
 
 /// What two logs are to each other, without what they mean.

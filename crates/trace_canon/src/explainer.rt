@@ -5,7 +5,7 @@ ghost use Rattle.isotp_receive.specs.declared.TheConstants.{MESSAGE_LIMIT};
 ghost use Rattle.trace_canon.specs.ExplainScript.{dropped_text, end_text, ended_text, event_text, unfinished_line};
 ghost use Rattle.trace_canon.specs.ExplainScript.{explain_script};
 ghost use Rattle.trace_log.specs.Laws.{Certifies};
-ghost use Rattle.trace_run.specs.Told.{RanLenient, answers_counts, needs_none};
+ghost use Rattle.trace_run.specs.Told.{RanLenient, answers_counts, command, needs_none};
 ghost use Rattle.trace_io.specs.Counted.{IsLowCount};
 ghost use Rattle.trace_log.specs.Devices.{AgreesWith, HasLowCounts};
 
@@ -32,7 +32,7 @@ pub fn explain<R: Source, W: Target>(
     requires writer { IsLowCount (W.failures writer.old) }
 
     // What is answered and written; that it is written before more is read; and what was done with the devices.
-    ensures ran { RanLenient R.Source W.Target (explain_script notation MESSAGE_LIMIT) answers_counts needs_none MESSAGE_LIMIT config.now reader.old writer.old result reader.new writer.new }
+    ensures ran { RanLenient R.Source W.Target (command (explain_script notation MESSAGE_LIMIT) answers_counts needs_none) config.now reader.old writer.old result reader.new writer.new }
 
     // Where nothing was dropped, ended or left unfinished, the log is a recording.
     ensures certificate { (log : List ℕ) → AgreesWith R.Source reader.old reader.new log → IfOk result (Certifies MESSAGE_LIMIT config.now log) }
@@ -95,7 +95,7 @@ impl Machine for Explainer {
 }
 
 /// Says the lines of a frame, which is in this line and was sent by this side. Laid in line, where it is known of most frames
-/// that they have none: a call would end in covering loads of what the frame did.
+/// that they have none: a call would hand over what the frame did in memory, where store-to-load forwarding fails.
 #[inline(always)]
 fn say_event<S: TextSink>(notation: Notation, line: u64, dir: Dir, event: Event<'_>, out: &mut S)
     ensures { S.says out.old (event_text notation line dir (seen_event event.entry)) out.new }

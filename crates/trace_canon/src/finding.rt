@@ -7,9 +7,10 @@ ghost use Rattle.trace_log.specs.Devices.{HasLowCounts};
 use crate::hearing::found_in;
 use crate::pair_lines::say_pairs;
 use std::alloc::Global;
+use text_parts::Part;
 use trace_io::{Source, Target, TextSink};
 use trace_log::{Config, Fault, Summary};
-use trace_run::{Printable, print};
+use trace_run::print;
 use trace_text::Notation;
 use uds_find::CreditLine;
 
@@ -29,34 +30,28 @@ pub fn find<R: Source, W: Target>(
 
     ensures ran { RanToFind R.Source W.Target notation config.now reader.old writer.old result reader.new writer.new }
 {
-    match found_in(alloc, config, reader) {
-        Ok(found) => {
-            let pairs = Pairs {
-                pairs: &found.pairs,
-                notation,
-            };
-            match print(&pairs, writer) {
-                Ok(()) => Ok(found.summary),
-                Err(_failed) => Err(Fault::Write),
-            }
-        }
-        Err(fault) => Err(fault),
-    }
+    let found = found_in(alloc, config, reader)?;
+    let pairs = Pairs {
+        pairs: &found.pairs,
+        notation,
+    };
+    print(pairs, writer)?;
+    Ok(found.summary)
 }
 
 /// The lines of all pairs, in order, in a notation.
-#[derive(Drop)]
+#[derive(Clone, Copy)]
 struct Pairs<'a> {
     pairs: &'a Vec<CreditLine>,
     notation: Notation,
 }
 
-impl<'a> Printable for Pairs<'a> {
+impl<'a> Part for Pairs<'a> {
     ghost use Rattle.trace_canon.specs.Found.{pairs_text};
 
     ghost text = { λ lines. pairs_text lines.notation lines.pairs.now.items };
 
-    fn say<S: TextSink>(&self, out: &mut S) {
+    fn say<S: TextSink>(self, out: &mut S) {
         say_pairs(self.pairs, self.notation, out);
     }
 }

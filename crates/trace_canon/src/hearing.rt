@@ -33,10 +33,8 @@ pub(crate) fn found_in<R: Source>(
     ensures ran { RanToRead R.Source (GivesFound config.now) HasNoBadPlaceWithin NeedsMemoryToFind config.now.max_bytes reader.old result reader.new }
 {
     let mut hearing = start(alloc);
-    match feed_lines(config.max_bytes(), reader, &mut hearing, &mut ()) {
-        Ok(ended) => finish(alloc, hearing, ended),
-        Err(fault) => Err(fault),
-    }
+    let ended = feed_lines(config.max_bytes(), reader, &mut hearing, &mut ())?;
+    finish(alloc, hearing, ended)
 }
 
 /// Before the first line.
@@ -57,13 +55,11 @@ fn finish(alloc: Global, hearing: Hearing, ended: bool) -> Result<Found, Fault>
     ensures needs { IfErr result (λ fault. (meanings : List (Option StampedValue)) → HasHeard meanings hearing.finder hearing.lines → HasCredit (frames_in meanings)) }
 {
     let Hearing { finder, lines } = hearing;
-    match finder.finish(alloc) {
-        Ok(pairs) => Ok(Found {
-            pairs,
-            summary: summary(lines, ended),
-        }),
-        Err(_refused) => Err(Fault::Memory),
-    }
+    let pairs = finder.finish(alloc)?;
+    Ok(Found {
+        pairs,
+        summary: summary(lines, ended),
+    })
 }
 
 /// What is counted in a log of so many lines. Where nobody told the identifiers, no frame is of a side.
@@ -120,10 +116,7 @@ impl LineTaker for Hearing {
     fn take(&mut self, _device: &mut (), line: u64, what: &Option<Stamped>) -> Result<(), Fault> {
         self.lines = line;
         match what {
-            Some(stamped) => match self.finder.take(&stamped.frame) {
-                Ok(()) => Ok(()),
-                Err(_refused) => Err(Fault::Memory),
-            },
+            Some(stamped) => Ok(self.finder.take(&stamped.frame)?),
             None => Ok(()),
         }
     }

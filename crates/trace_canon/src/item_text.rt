@@ -7,13 +7,14 @@ ghost use Rattle.trace_log.specs.Devices.{HasLowCounts};
 
 use crate::collector::session_of;
 use std::alloc::Global;
+use text_parts::Part;
 use trace_io::{Source, Target, TextSink};
 use trace_log::{Config, Fault, Summary};
-use trace_run::{Printable, print};
+use trace_run::print;
 use uds_exchange::Meaning;
 
 /// A text of items.
-pub trait ItemText {
+pub trait ItemText: Copy {
     ghost use Rattle.std.specs.Prelude.{List, ℕ};
     ghost use Rattle.uds_exchange.specs.Meaning.{ItemValue};
 
@@ -39,29 +40,23 @@ pub fn write_items<T: ItemText, R: Source, W: Target>(
     requires writer { IsLowCount (W.failures writer.old) }
     ensures ran { RanOverItems R.Source W.Target (T.text text.now) MESSAGE_LIMIT config.now reader.old writer.old result reader.new writer.new }
 {
-    match session_of(alloc, config, reader) {
-        Ok(session) => {
-            let items = &session.meaning;
-            match print(&OfItems { text, items }, writer) {
-                Ok(()) => Ok(session.summary),
-                Err(_failed) => Err(Fault::Write),
-            }
-        }
-        Err(fault) => Err(fault),
-    }
+    let session = session_of(alloc, config, reader)?;
+    let items = &session.meaning;
+    print(OfItems { text, items }, writer)?;
+    Ok(session.summary)
 }
 
 /// A text of these items.
-#[derive(Drop)]
+#[derive(Clone, Copy)]
 struct OfItems<'a, T> {
     text: &'a T,
     items: &'a Meaning,
 }
 
-impl<'a, T: ItemText> Printable for OfItems<'a, T> {
+impl<'a, T: ItemText> Part for OfItems<'a, T> {
     ghost text = { λ of. T.text of.text.now of.items.now };
 
-    fn say<S: TextSink>(&self, out: &mut S) {
+    fn say<S: TextSink>(self, out: &mut S) {
         self.text.say(self.items, out);
     }
 }

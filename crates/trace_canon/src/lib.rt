@@ -31,8 +31,7 @@
 //! [`meaning_of`], [`compare`] (`comparing`), and each text of the items (`item_text`), as that of [`list`] (`lister`).
 //!
 //! [`find`] (`finding`) is none: it hears every frame, whatever its identifier (`hearing`), and has no receiver.
-//! [`counted`] answers of a log in memory with a text and the counts, and [`in_memory`] with a text, a meaning or a
-//! comparison alone.
+//! [`counted`] answers of a log in memory with a text and the counts, and [`in_memory`] with its meaning.
 #![tactic(auto)]
 
 pub mod begun;
@@ -52,11 +51,11 @@ pub mod laws;
 mod length;
 mod lister;
 mod message_objects;
+mod message_parts;
 mod normaliser;
 mod pair_lines;
 mod placer;
 mod progress;
-mod stamp;
 mod watcher;
 
 pub use collector::{Session, meaning_of};

@@ -113,16 +113,13 @@ impl Machine for Normaliser {
         let Some(message) = seen.message else {
             return Ok(());
         };
-        match order_to(
+        order_to(
             &mut self.orderer,
             &self.config,
             &mut self.progress,
             out,
             message,
-        ) {
-            Ok(()) => Ok(()),
-            Err(refused) => Err(refused),
-        }
+        )
     }
 
     fn end<S: TextSink>(

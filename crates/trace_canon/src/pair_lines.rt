@@ -23,7 +23,7 @@ fn say_pair<S: TextSink>(pair: &CreditLine, notation: Notation, out: &mut S)
         Notation::Text => say(
             out,
             (
-                Number(pair.credits.0),
+                Number(pair.credits),
                 " --tester ",
                 Spelled(pair.tester.as_slice()),
                 " --unit ",
@@ -35,7 +35,7 @@ fn say_pair<S: TextSink>(pair: &CreditLine, notation: Notation, out: &mut S)
             out,
             (
                 "{\"credits\":",
-                Number(pair.credits.0),
+                Number(pair.credits),
                 ",\"tester\":\"",
                 Spelled(pair.tester.as_slice()),
                 "\",\"unit\":\"",

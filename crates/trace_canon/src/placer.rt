@@ -1,21 +1,20 @@
 //! `messages`: a machine that says each message with its place in the log, as it is delivered.
 ghost use Rattle.isotp_receive.specs.declared.TheConstants.{MESSAGE_LIMIT};
-ghost use Rattle.trace_canon.specs.MessageLines.{extent_text, judged_at, placed_line, placed_text, placing_script};
-ghost use Rattle.trace_run.specs.Told.{RanLenient, answers_counts, needs_none};
+ghost use Rattle.trace_canon.specs.MessageLines.{judged_at, placed_line, placed_text, placing_script};
+ghost use Rattle.trace_run.specs.Told.{RanLenient, answers_counts, command, needs_none};
 ghost use Rattle.trace_io.specs.Counted.{IsLowCount};
 ghost use Rattle.trace_log.specs.Devices.{HasLowCounts};
 
 use crate::begun::{Begun, FramePlace};
 use crate::message_objects::say_message_object;
-use crate::stamp::say_stamp;
+use crate::message_parts::{Extent, Role};
 use isotp_receive::Pair;
 use std::alloc::{AllocError, Global};
+use text_parts::say;
 use trace_io::{Source, Target, TextSink};
 use trace_log::{Config, Fault, Summary};
 use trace_run::{Glimpse, Machine, Seen, Stop, run_lenient};
-use trace_text::Notation;
-use trace_text::names::role_name;
-use trace_text::say::{say_bytes, say_direction, say_number, say_text};
+use trace_text::{Bytes, Notation, Number, Sender};
 use uds_exchange::Judged;
 
 /// Reads a log and writes a line for each message that is delivered, as it comes, in words or as an object of JSON: the
@@ -34,7 +33,7 @@ pub fn messages<R: Source, W: Target>(
     requires writer { IsLowCount (W.failures writer.old) }
 
     // What is answered and written; that it is written before more is read; and what was done with the devices.
-    ensures ran { RanLenient R.Source W.Target (placing_script notation MESSAGE_LIMIT) answers_counts needs_none MESSAGE_LIMIT config.now reader.old writer.old result reader.new writer.new }
+    ensures ran { RanLenient R.Source W.Target (command (placing_script notation MESSAGE_LIMIT) answers_counts needs_none) config.now reader.old writer.old result reader.new writer.new }
 {
     let machine = Placer {
         notation,
@@ -129,27 +128,18 @@ fn say_message_line<S: TextSink>(
 )
     ensures { S.says out.old (placed_line (judged_at message.now first last)) out.new }
 {
-    say_number(out, message.item);
-    say_text(out, " ");
-    say_text(out, role_name(message.step));
-    say_text(out, " ");
-    say_direction(out, message.dir);
-    say_extent(out, first, last);
-    say_text(out, " ");
-    say_bytes(out, message.bytes);
-    say_text(out, "\n");
-}
-
-/// Says the lines and the stamps of the first frame of a message and of its last one.
-fn say_extent<S: TextSink>(out: &mut S, first: FramePlace, last: FramePlace)
-    ensures { S.says out.old (extent_text first last) out.new }
-{
-    say_text(out, " lines ");
-    say_number(out, first.line);
-    say_text(out, " to ");
-    say_number(out, last.line);
-    say_text(out, " at ");
-    say_stamp(out, first.micros);
-    say_text(out, " to ");
-    say_stamp(out, last.micros);
+    say(
+        out,
+        (
+            Number(message.item),
+            " ",
+            Role(message.step),
+            " ",
+            Sender(message.dir),
+            Extent { first, last },
+            " ",
+            Bytes(message.bytes),
+            "\n",
+        ),
+    );
 }

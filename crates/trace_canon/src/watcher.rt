@@ -6,7 +6,7 @@ ghost use Rattle.uds_exchange.specs.Judging.{IsJudgedAfter, sent};
 ghost use Rattle.uds_exchange.specs.Decided.{undecided};
 ghost use Rattle.uds_exchange.specs.Decider.{decides_after, IsKept};
 ghost use Rattle.trace_canon.specs.Keeping.{CompletesKept};
-ghost use Rattle.trace_run.specs.Told.{RanLenient, answers_counts};
+ghost use Rattle.trace_run.specs.Told.{RanLenient, answers_counts, command};
 ghost use Rattle.trace_canon.specs.WatchScript.{watching_script, WritesTheList};
 ghost use Rattle.trace_canon.specs.proving.Watching.{SaysDecided, SaysLines};
 ghost use Rattle.trace_io.specs.Counted.{IsLowCount};
@@ -35,7 +35,7 @@ pub fn watch<R: Source, W: Target>(
     requires writer { IsLowCount (W.failures writer.old) }
 
     // What is answered and written; that it is written before more is read; and what was done with the devices.
-    ensures ran { RanLenient R.Source W.Target (watching_script style) answers_counts (CompletesKept MESSAGE_LIMIT) MESSAGE_LIMIT config.now reader.old writer.old result reader.new writer.new }
+    ensures ran { RanLenient R.Source W.Target (command (watching_script style) answers_counts (CompletesKept MESSAGE_LIMIT)) config.now reader.old writer.old result reader.new writer.new }
 
     // At the end of the log that is the list of its meaning.
     ensures whole { (log : List ℕ) → AgreesWith R.Source reader.old reader.new log
@@ -87,16 +87,13 @@ impl Machine for Watcher {
         let Some(message) = seen.message else {
             return Ok(());
         };
-        match decide_to(
+        decide_to(
             &mut self.decider,
             self.style,
             &mut self.number,
             out,
             message,
-        ) {
-            Ok(()) => Ok(()),
-            Err(refused) => Err(refused),
-        }
+        )
     }
 
     fn end<S: TextSink>(
@@ -160,10 +157,7 @@ fn decide_to<S: TextSink>(
     ensures quiet { OnErr result (S.says out.old [] out.new) }
 {
     let mut sink = LineSink { out, number, style };
-    match decider.take(message, &mut sink) {
-        Ok(()) => Ok(()),
-        Err(refused) => Err(refused),
-    }
+    decider.take(message, &mut sink)
 }
 
 /// Says the lines of the items that are not decided.

@@ -18,7 +18,7 @@ use Rattle.trace_report.specs.Held.{HoldsOne, HasOwnFrame}
 use Rattle.trace_report.specs.Page.{first_time, last_time}
 use Rattle.trace_report.specs.Session.{SessionValue, session_of}
 use Rattle.trace_report.specs.declared.keeper.Heard.{Heard}
-use Rattle.trace_report.specs.declared.reporter.Span.{Span}
+use Rattle.trace_report.specs.declared.span.Span.{Span}
 use Rattle.trace_report.specs.proving.Following.{rows_in, times_of}
 use Rattle.trace_report.specs.proving.Heard.{IsHeardOf, answers_heard, quiet_script}
 use Rattle.trace_report.specs.proving.Lending.{first_of_span, last_of_span}

@@ -110,9 +110,13 @@ folded_data front rest =
 abbrev pub cut_data : List ℕ → ℕ → List ℕ
 cut_data front more = codes "<code>" ++ bytes_apart front ++ codes "</code> <i>" ++ decimal more ++ codes " bytes more, not shown</i>"
 
+-- so many bytes more, in words behind their number
+abbrev pub more_words : ℕ → List ℕ
+more_words more = if more == 1 then codes " byte more" else codes " bytes more"
+
 -- the first bytes of a message, and how many others it has, for a brief row
 abbrev pub brief_cut : List ℕ → ℕ → List ℕ
-brief_cut front more = bytes_apart front ++ codes " and " ++ decimal more ++ codes " bytes more"
+brief_cut front more = bytes_apart front ++ codes " and " ++ decimal more ++ more_words more
 
 -- the bytes of a message, as far as a brief row shows them
 abbrev pub brief_data : List ℕ → List ℕ

@@ -98,22 +98,35 @@ pub(crate) fn is_brief(blocks: Blocks) -> bool
 
 /// What begins before a row, where these blocks stand: a block, and a body of the table with each exchange.
 #[derive(Clone, Copy)]
-pub(crate) struct Opening<'a>(pub u64, pub Blocks, pub Row<'a>);
+pub(crate) struct Opening<'a> {
+    pub origin: u64,
+    pub blocks: Blocks,
+    pub row: Row<'a>,
+}
 
 impl<'a> Part for Opening<'a> {
     ghost use Rattle.trace_report.specs.Blocks.{opening_text};
     ghost use Rattle.trace_report.specs.proving.Pages.{row_of};
 
-    ghost text = { λ opening. opening_text opening.0 opening.1 (row_of opening.2) };
+    ghost text = { λ opening. opening_text opening.origin opening.blocks (row_of opening.row) };
 
     fn say<S: TextSink>(self, out: &mut S) {
-        let Opening(origin, blocks, row) = self;
+        let Opening {
+            origin,
+            blocks,
+            row,
+        } = self;
         let exchange = begins_exchange(row);
         let block = begins_block(exchange, blocks);
+        let front = BlockFront {
+            origin,
+            before: blocks.count,
+            row,
+        };
         say(
             out,
             (
-                When(block, BlockFront(origin, blocks.count, row)),
+                When(block, front),
                 When(begins_body(block, exchange), "<tbody>\n"),
             ),
         );
@@ -122,16 +135,24 @@ impl<'a> Part for Opening<'a> {
 
 /// What stands before a row that begins a block, where so many blocks stand before it.
 #[derive(Clone, Copy)]
-struct BlockFront<'a>(u64, u64, Row<'a>);
+struct BlockFront<'a> {
+    origin: u64,
+    before: u64,
+    row: Row<'a>,
+}
 
 impl<'a> Part for BlockFront<'a> {
     ghost use Rattle.trace_report.specs.Blocks.{block_front};
     ghost use Rattle.trace_report.specs.proving.Pages.{row_of};
 
-    ghost text = { λ front. block_front front.0 front.1 (row_of front.2) };
+    ghost text = { λ front. block_front front.origin front.before (row_of front.row) };
 
     fn say<S: TextSink>(self, out: &mut S) {
-        let BlockFront(origin, before, row) = self;
+        let BlockFront {
+            origin,
+            before,
+            row,
+        } = self;
         say(
             out,
             (

@@ -46,6 +46,11 @@ fn say_brief_message<S: TextSink>(
     if needs_look(role) {
         say_message_row(origin, role, dir, place, message, out);
     } else {
+        let words = BriefWords {
+            role,
+            first: place.first.micros,
+            message,
+        };
         say(
             out,
             (
@@ -53,7 +58,7 @@ fn say_brief_message<S: TextSink>(
                 "<td class=\"",
                 Side(dir),
                 "\">",
-                BriefWords(role, place.first.micros, message),
+                words,
                 "\n",
             ),
         );
@@ -75,15 +80,23 @@ fn needs_look(role: MessageRole) -> bool
 
 /// The words of a brief row, of a message that needs no look.
 #[derive(Clone, Copy)]
-struct BriefWords<'a>(MessageRole, u64, &'a [u8]);
+struct BriefWords<'a> {
+    role: MessageRole,
+    first: u64,
+    message: &'a [u8],
+}
 
 impl<'a> Part for BriefWords<'a> {
     ghost use Rattle.trace_report.specs.Rows.{brief_words};
 
-    ghost text = { λ words. brief_words words.0 words.1 words.2.now };
+    ghost text = { λ words. brief_words words.role words.first words.message.now };
 
     fn say<S: TextSink>(self, out: &mut S) {
-        let BriefWords(role, first, message) = self;
+        let BriefWords {
+            role,
+            first,
+            message,
+        } = self;
         let data = BriefData(message);
         match role {
             MessageRole::Request => say(

@@ -146,10 +146,8 @@ impl Follower {
 fn waiting_row<'a>(waits: Option<u64>, silent: bool) -> Option<Row<'a>>
     ensures { (M : List Message) → IsWaiting M waits → IsSilent M silent → row_if result ≡ closing_rows M }
 {
-    match waits {
-        Some(number) => Some(Row::NoAnswer { number, silent }),
-        None => None,
-    }
+    let number = waits?;
+    Some(Row::NoAnswer { number, silent })
 }
 
 /// Where a frame stands.
@@ -183,10 +181,8 @@ fn dropped_row<'a>(here: FramePlace, dir: Dir, event: Event<'_>) -> Option<Row<'
 fn ended_row<'a>(here: FramePlace, ended: Option<Ended>) -> Option<Row<'a>>
     ensures { (e : Entry) → here ≡ place_of e → row_if result ≡ ended_rows e ended }
 {
-    match ended {
-        Some(ended) => Some(Row::Ended { place: here, ended }),
-        None => None,
-    }
+    let ended = ended?;
+    Some(Row::Ended { place: here, ended })
 }
 
 /// The row of a reception that stands at the end, if one does: the line of its first frame, and the bytes that this
@@ -194,8 +190,6 @@ fn ended_row<'a>(here: FramePlace, ended: Option<Ended>) -> Option<Row<'a>>
 fn unfinished_row<'a>(dir: Dir, begun: Option<(u64, u32)>) -> Option<Row<'a>>
     ensures { row_if result ≡ unfinished_if dir begun }
 {
-    match begun {
-        Some((line, len)) => Some(Row::Unfinished { dir, line, len }),
-        None => None,
-    }
+    let (line, len) = begun?;
+    Some(Row::Unfinished { dir, line, len })
 }

@@ -1,8 +1,9 @@
 //! The front of a report: what stands before its rows.
 use crate::log_names::Name;
-use can_log::{Id, identifier_text};
+use can_log::Id;
 use text_parts::{Part, say};
 use trace_io::TextSink;
+use trace_text::Identifier;
 
 /// What a page is made for: its style, the name of the log, the identifiers, and the limit of the log.
 #[derive(Clone, Copy)]
@@ -164,20 +165,6 @@ impl Part for Identifiers {
                 "</span></p>\n",
             ),
         );
-    }
-}
-
-/// An identifier.
-#[derive(Clone, Copy)]
-struct Identifier(Id);
-
-impl Part for Identifier {
-    ghost use Rattle.can_log.specs.Canonical.{identifier_text};
-
-    ghost text = { λ id. identifier_text id.0 };
-
-    fn say<S: TextSink>(self, out: &mut S) {
-        out.put(identifier_text(self.0).as_slice());
     }
 }
 

@@ -8,16 +8,16 @@ ghost use Rattle.trace_log.specs.declared.fault.Fault.{Fault as FaultValue};
 ghost use Rattle.trace_log.specs.Devices.{AgreesWith, bytes_given, ReadFrom, HasLowCounts};
 ghost use Rattle.trace_log.specs.Refusal.{HasNoBadPlaceWithin};
 ghost use Rattle.trace_report.specs.Held.{HoldsOne, HasOwnFrame, HoldsTwo};
-ghost use Rattle.trace_report.specs.proving.Following.{row_if, rows_in, times_of};
+ghost use Rattle.trace_report.specs.proving.Following.{row_if, rows_in};
 ghost use Rattle.trace_report.specs.Session.{session_of};
 ghost use Rattle.trace_report.specs.proving.Heard.{IsHeardOf};
 ghost use Rattle.trace_log.specs.declared.summary.Summary.{Summary as SummaryValue};
 
 use crate::follower::{Follower, NewRows};
 use crate::kept_rows::KeptRows;
-use crate::reporter::Span;
 use crate::row::Row;
 use crate::session::Session;
+use crate::span::{Span, span_with};
 use crate::two::Two;
 use isotp_receive::Pair;
 use std::alloc::{AllocError, Global};
@@ -142,22 +142,6 @@ fn keep_row_if(rows: &mut KeptRows, row: Option<Row<'_>>) -> Result<(), AllocErr
     match row {
         Some(row) => rows.keep(row),
         None => Ok(()),
-    }
-}
-
-/// The times of the first frame and the last one, with one more frame.
-fn span_with(span: Option<Span>, micros: u64) -> Span
-    ensures { (T : List Entry) (e : Entry) → span ≡ times_of T → e.micros ≡ micros → Some result ≡ times_of (T ++ e ∷ []) }
-{
-    match span {
-        Some(span) => Span {
-            first: span.first,
-            last: micros,
-        },
-        None => Span {
-            first: micros,
-            last: micros,
-        },
     }
 }
 

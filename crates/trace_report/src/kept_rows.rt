@@ -311,10 +311,8 @@ fn item_at<'a>(messages: &'a Messages, rows: &'a [KeptRow], item: KeptItem) -> O
     requires { AreLaid messages.now rows.now }
     ensures { option_map item_of result ≡ Keeping.placed_at (rows_at messages.now rows.now) item }
 {
-    match message_at(messages, rows, item.begin) {
-        Some(begin) => item_with(messages, rows, begin, item.answer),
-        None => None,
-    }
+    let begin = message_at(messages, rows, item.begin)?;
+    item_with(messages, rows, begin, item.answer)
 }
 
 /// The item that begins with this message, and whose answer stands there, if it has one.
@@ -333,13 +331,13 @@ fn item_with<'a>(
             begin,
             answer: None,
         }),
-        Some(at) => match message_at(messages, rows, at) {
-            Some(reply) => Some(LentItem {
+        Some(at) => {
+            let reply = message_at(messages, rows, at)?;
+            Some(LentItem {
                 begin,
                 answer: Some(reply),
-            }),
-            None => None,
-        },
+            })
+        }
     }
 }
 

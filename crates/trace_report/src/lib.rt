@@ -67,6 +67,7 @@ mod row;
 mod rows;
 mod session;
 mod sorts;
+mod span;
 mod style;
 mod tally;
 mod two;

@@ -20,20 +20,26 @@ pub(crate) enum Link {
 
 /// What needs a look for one reason, in these words, where something does: how many do, and links to the first.
 #[derive(Clone, Copy)]
-pub(crate) struct LookLine<'a>(
-    pub &'static str,
-    pub Link,
-    pub u64,
-    pub &'a ArrayVec<u64, 10>,
-);
+pub(crate) struct LookLine<'a> {
+    pub words: &'static str,
+    pub link: Link,
+    pub count: u64,
+    pub first: &'a ArrayVec<u64, 10>,
+}
 
 impl<'a> Part for LookLine<'a> {
     ghost use Rattle.trace_report.specs.Links.{look_line};
 
-    ghost text = { λ line. look_line line.0.now line.1 line.2 line.3.now.items };
+    ghost text = { λ line. look_line line.words.now line.link line.count line.first.now.items };
 
     fn say<S: TextSink>(self, out: &mut S) {
-        let LookLine(words, link, count, first) = self;
+        let LookLine {
+            words,
+            link,
+            count,
+            first,
+        } = self;
+        let targets = first.as_slice();
         if count > 0 {
             say(
                 out,
@@ -43,7 +49,7 @@ impl<'a> Part for LookLine<'a> {
                     " <b>",
                     Number(count),
                     "</b>: ",
-                    Links(link, first.as_slice()),
+                    Links { link, targets },
                     More(count),
                     "\n",
                 ),
@@ -54,49 +60,66 @@ impl<'a> Part for LookLine<'a> {
 
 /// Links with commas between.
 #[derive(Clone, Copy)]
-struct Links<'a>(Link, &'a [u64]);
+struct Links<'a> {
+    link: Link,
+    targets: &'a [u64],
+}
 
 impl<'a> Part for Links<'a> {
     ghost use Rattle.trace_report.specs.Links.{links_text};
 
-    ghost text = { λ links. links_text links.0 links.1.now };
+    ghost text = { λ links. links_text links.link links.targets.now };
 
     fn say<S: TextSink>(self, out: &mut S) {
-        let Links(link, targets) = self;
-        if let Some((first, rest)) = targets.split_first() {
-            say(out, (LinkTo(link, *first), LinksBehind(link, rest)));
+        let link = self.link;
+        if let Some((first, targets)) = self.targets.split_first() {
+            let to_first = LinkTo {
+                link,
+                target: *first,
+            };
+            say(out, (to_first, LinksBehind { link, targets }));
         }
     }
 }
 
 /// Links behind another one.
 #[derive(Clone, Copy)]
-struct LinksBehind<'a>(Link, &'a [u64]);
+struct LinksBehind<'a> {
+    link: Link,
+    targets: &'a [u64],
+}
 
 impl<'a> Part for LinksBehind<'a> {
     ghost use Rattle.trace_report.specs.Links.{links_behind};
 
-    ghost text = { λ links. links_behind links.0 links.1.now };
+    ghost text = { λ links. links_behind links.link links.targets.now };
 
     fn say<S: TextSink>(self, out: &mut S) {
-        let LinksBehind(link, targets) = self;
-        'targets: for target in targets {
-            say(out, (", ", LinkTo(link, *target)));
+        let link = self.link;
+        'targets: for target in self.targets {
+            let another = LinkTo {
+                link,
+                target: *target,
+            };
+            say(out, (", ", another));
         }
     }
 }
 
 /// A link.
 #[derive(Clone, Copy)]
-struct LinkTo(Link, u64);
+struct LinkTo {
+    link: Link,
+    target: u64,
+}
 
 impl Part for LinkTo {
     ghost use Rattle.trace_report.specs.Links.{link_text};
 
-    ghost text = { λ link. link_text link.0 link.1 };
+    ghost text = { λ link. link_text link.link link.target };
 
     fn say<S: TextSink>(self, out: &mut S) {
-        let LinkTo(link, target) = self;
+        let LinkTo { link, target } = self;
         let number = Number(target);
         match link {
             Link::Item => say(out, ("<a href=\"#i", number, "\">item ", number, "</a>")),

@@ -1,7 +1,7 @@
 //! The names of logs, as a page may hold them.
 use text_parts::{Part, say};
 use trace_io::TextSink;
-use trace_text::say::say_byte;
+use trace_text::Byte;
 
 /// The name of a log.
 #[derive(Clone, Copy)]
@@ -29,19 +29,13 @@ impl Part for NameByte {
     ghost text = { λ byte. name_byte byte.0 };
 
     fn say<S: TextSink>(self, out: &mut S) {
-        let byte = self.0;
-        if byte == b'&' {
-            say(out, "&amp;");
-        } else if byte == b'<' {
-            say(out, "&lt;");
-        } else if byte == b'>' {
-            say(out, "&gt;");
-        } else if byte == b'"' {
-            say(out, "&quot;");
-        } else if byte == b'\'' {
-            say(out, "&#39;");
-        } else {
-            say(out, PlainByte(byte));
+        match self.0 {
+            b'&' => say(out, "&amp;"),
+            b'<' => say(out, "&lt;"),
+            b'>' => say(out, "&gt;"),
+            b'"' => say(out, "&quot;"),
+            b'\'' => say(out, "&#39;"),
+            byte => say(out, PlainByte(byte)),
         }
     }
 }
@@ -60,21 +54,7 @@ impl Part for PlainByte {
         if b' ' <= byte && byte <= b'~' {
             out.put(&[byte]);
         } else {
-            say(out, ("%", TwoDigits(byte)));
+            say(out, ("%", Byte(byte)));
         }
-    }
-}
-
-/// A byte as two hexadecimal digits.
-#[derive(Clone, Copy)]
-struct TwoDigits(u8);
-
-impl Part for TwoDigits {
-    ghost use Rattle.can_log.specs.Digits.{hexadecimal};
-
-    ghost text = { λ byte. hexadecimal 2 byte.0 };
-
-    fn say<S: TextSink>(self, out: &mut S) {
-        say_byte(out, self.0);
     }
 }

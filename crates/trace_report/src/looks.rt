@@ -251,5 +251,5 @@ fn begins(bytes: &[u8], front: &[u8]) -> bool
 fn has_at(bytes: &[u8], place: usize, byte: u8) -> bool
     ensures { result ≡ has_at bytes.now place byte }
 {
-    place < bytes.len() && bytes[place] == byte
+    bytes.get(place) == Some(&byte)
 }

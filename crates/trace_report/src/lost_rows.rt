@@ -10,8 +10,7 @@ use isotp_receive::{Cause, Ended, Reason};
 use text_parts::{Part, When, say};
 use trace_canon::begun::FramePlace;
 use trace_io::TextSink;
-use trace_text::say::{say_cause, say_layout_fault};
-use trace_text::{Digit, Number, Sender};
+use trace_text::{DropReason, EndCause, Length, Number, Sender};
 
 /// Says the row of an item without an answer: it asked for no positive one, or did not.
 pub(crate) fn say_no_answer_row<S: TextSink>(number: u64, silent: bool, out: &mut S)
@@ -51,15 +50,23 @@ pub(crate) fn say_no_answer_row<S: TextSink>(number: u64, silent: bool, out: &mu
 
 /// Where a frame stands: links lead to its line, unless they lead to the row before.
 #[derive(Clone, Copy)]
-struct FrameFront(u64, bool, FramePlace);
+struct FrameFront {
+    origin: u64,
+    named: bool,
+    place: FramePlace,
+}
 
 impl Part for FrameFront {
     ghost use Rattle.trace_report.specs.Rows.{frame_front};
 
-    ghost text = { λ front. frame_front front.0 front.1 front.2 };
+    ghost text = { λ front. frame_front front.origin front.named front.place };
 
     fn say<S: TextSink>(self, out: &mut S) {
-        let FrameFront(origin, named, place) = self;
+        let FrameFront {
+            origin,
+            named,
+            place,
+        } = self;
         let line = Number(place.line);
         say(
             out,
@@ -89,12 +96,16 @@ pub(crate) fn say_dropped_row<S: TextSink>(
     say(
         out,
         (
-            FrameFront(origin, named, place),
+            FrameFront {
+                origin,
+                named,
+                place,
+            },
             CellFront(dir),
             "<b>dropped</b> <i>",
             Sender(dir),
             " frame:</i> <em>",
-            WhyDropped(reason),
+            DropReason(reason),
             "</em>",
             WhyDroppedInWords(reason),
             CellEnd(dir, Arrow::Crossed),
@@ -102,41 +113,7 @@ pub(crate) fn say_dropped_row<S: TextSink>(
     );
 }
 
-/// Why a frame was dropped, as `explain` tells it.
-#[derive(Clone, Copy)]
-struct WhyDropped(Reason);
-
-impl Part for WhyDropped {
-    ghost use Rattle.trace_text.specs.ExplainText.{reason_text};
-
-    ghost text = { λ why. reason_text why.0 };
-
-    fn say<S: TextSink>(self, out: &mut S) {
-        match self.0 {
-            Reason::Pdu(fault) => say_layout_fault(out, fault),
-            Reason::FlowUnexpected => say(out, "flow control unexpected"),
-            Reason::NextUnexpected => say(out, "consecutive frame unexpected"),
-            Reason::NextLate => say(out, "consecutive frame late"),
-            Reason::NextSequence { expected, found } => say(
-                out,
-                (
-                    "sequence number ",
-                    Digit(expected),
-                    " expected, ",
-                    Digit(found),
-                    " found",
-                ),
-            ),
-            Reason::NextLength => say(out, "consecutive frame length"),
-            Reason::TooLong { announced } => say(
-                out,
-                (Number(u64::from(announced)), " bytes announced"),
-            ),
-        }
-    }
-}
-
-/// The same for a reader who knows no ISO 15765-2.
+/// Why a frame was dropped, for a reader who knows no ISO 15765-2.
 #[derive(Clone, Copy)]
 struct WhyDroppedInWords(Reason);
 
@@ -197,23 +174,26 @@ fn say_layout_fault_words<S: TextSink>(fault: PduFault, out: &mut S)
 
 /// A message that is not whole: where it began, and how many bytes were announced.
 #[derive(Clone, Copy)]
-struct PartOfMessage(Dir, u64, u32);
+struct PartOfMessage {
+    dir: Dir,
+    line: u64,
+    len: u32,
+}
 
 impl Part for PartOfMessage {
     ghost use Rattle.trace_report.specs.Rows.{partial_text};
 
-    ghost text = { λ part. partial_text part.0 part.1 part.2 };
+    ghost text = { λ part. partial_text part.dir part.line part.len };
 
     fn say<S: TextSink>(self, out: &mut S) {
-        let PartOfMessage(dir, line, len) = self;
         say(
             out,
             (
-                Sender(dir),
+                Sender(self.dir),
                 " message from line ",
-                Number(line),
+                Number(self.line),
                 ", ",
-                Number(u64::from(len)),
+                Length(self.len),
                 " bytes announced:",
             ),
         );
@@ -230,15 +210,24 @@ pub(crate) fn say_ended_row<S: TextSink>(
 )
     ensures { S.says out.old (ended_row linked origin place ended) out.new }
 {
+    let part = PartOfMessage {
+        dir: ended.dir,
+        line: ended.begun_line,
+        len: ended.len,
+    };
     say(
         out,
         (
-            FrameFront(origin, !linked, place),
+            FrameFront {
+                origin,
+                named: !linked,
+                place,
+            },
             CellFront(ended.dir),
             "<b>ended</b> <i>",
-            PartOfMessage(ended.dir, ended.begun_line, ended.len),
+            part,
             "</i> <em>",
-            WhyEnded(ended.cause),
+            EndCause(ended.cause),
             "</em> <i>",
             WhyEndedInWords(ended.cause),
             "</i>",
@@ -247,21 +236,7 @@ pub(crate) fn say_ended_row<S: TextSink>(
     );
 }
 
-/// Why a reception ended, as `explain` tells it.
-#[derive(Clone, Copy)]
-struct WhyEnded(Cause);
-
-impl Part for WhyEnded {
-    ghost use Rattle.trace_text.specs.ExplainText.{cause_text};
-
-    ghost text = { λ why. cause_text why.0 };
-
-    fn say<S: TextSink>(self, out: &mut S) {
-        say_cause(out, self.0);
-    }
-}
-
-/// The same for a reader who knows no ISO 15765-2.
+/// Why a reception ended, for a reader who knows no ISO 15765-2.
 #[derive(Clone, Copy)]
 struct WhyEndedInWords(Cause);
 
@@ -302,7 +277,7 @@ pub(crate) fn say_unfinished_row<S: TextSink>(
             "><td><td><td>",
             CellFront(dir),
             "<b>unfinished</b> <i>",
-            PartOfMessage(dir, line, len),
+            PartOfMessage { dir, line, len },
             " the log ends before its last frame</i>",
             CellEnd(dir, Arrow::Barred),
         ),

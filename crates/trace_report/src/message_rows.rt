@@ -47,12 +47,17 @@ impl Part for MessageFront {
 
     fn say<S: TextSink>(self, out: &mut S) {
         let MessageFront(linked, origin, role, place) = self;
+        let item = ItemCell {
+            linked,
+            role,
+            number: place.item,
+        };
         say(
             out,
             (
                 "<tr class=\"",
                 RoleClass(role),
-                ItemCell(linked, role, place.item),
+                item,
                 "<td>",
                 Lines(place.first.line, place.last.line),
                 "<td>",
@@ -96,19 +101,22 @@ pub(crate) fn begins_item(role: MessageRole) -> bool
 
 /// The number of an item: the header of its row, to which links lead or not, or repeated.
 #[derive(Clone, Copy)]
-struct ItemCell(bool, MessageRole, u64);
+struct ItemCell {
+    linked: bool,
+    role: MessageRole,
+    number: u64,
+}
 
 impl Part for ItemCell {
     ghost use Rattle.trace_report.specs.Rows.{item_cell};
 
-    ghost text = { λ cell. item_cell cell.0 cell.1 cell.2 };
+    ghost text = { λ cell. item_cell cell.linked cell.role cell.number };
 
     fn say<S: TextSink>(self, out: &mut S) {
-        let ItemCell(linked, role, number) = self;
-        let number = Number(number);
-        if !begins_item(role) {
+        let number = Number(self.number);
+        if !begins_item(self.role) {
             say(out, ("\"><td>", number));
-        } else if linked {
+        } else if self.linked {
             say(out, ("\" id=\"i", number, "\"><th scope=\"row\">", number));
         } else {
             say(out, ("\"><th scope=\"row\">", number));

@@ -18,10 +18,10 @@ use crate::pair_verdict::{look_exchanged_in, say_pair_verdict, say_sessions};
 use crate::refusal::Refusal;
 use crate::two::Two;
 use can_log::Id;
-use text_parts::say;
+use text_parts::{Part, say};
 use trace_io::{Target, TextSink};
 use trace_log::{CompareFault, Fault};
-use trace_run::{Printable, print};
+use trace_run::print;
 use trace_text::say::say_text;
 
 /// What a page of two logs is made for: its style, the names of the logs, and the identifiers.
@@ -54,24 +54,24 @@ pub fn write_pair_page<W: Target>(
         answer,
         cause,
     };
-    print(&page, target)
+    print(page, target)
 }
 
 /// A page of two logs.
-#[derive(Drop)]
+#[derive(Clone, Copy)]
 struct PairPage<'a> {
     title: &'a PairTitle<'a>,
     answer: &'a Result<Two, CompareFault>,
     cause: Option<Cause>,
 }
 
-impl<'a> Printable for PairPage<'a> {
+impl<'a> Part for PairPage<'a> {
     ghost use Rattle.trace_report.specs.PairPage.{pair_page};
     ghost use Rattle.trace_report.specs.PairPage.{pair_title_of};
 
     ghost text = { λ t. pair_page (pair_title_of t.title.now) t.answer.now t.cause };
 
-    fn say<S: TextSink>(&self, out: &mut S) {
+    fn say<S: TextSink>(self, out: &mut S) {
         match self.answer {
             Ok(two) => say_held_page(self.title, two, out),
             Err(CompareFault::Left(why)) => say_unread_page(

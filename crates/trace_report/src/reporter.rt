@@ -2,10 +2,10 @@
 ghost use Rattle.std.specs.Prelude.{◌≡◌, List, [], ◌∷◌, ◌++◌, Option};
 ghost use Rattle.isotp_receive.specs.declared.TheConstants.{MESSAGE_LIMIT};
 ghost use Rattle.isotp_receive.specs.Trace.{Entry};
-ghost use Rattle.trace_run.specs.Told.{RanLenient, answers_counts, glimpse_of, needs_none};
+ghost use Rattle.trace_run.specs.Told.{RanLenient, answers_counts, command, glimpse_of, needs_none};
 ghost use Rattle.trace_io.specs.Counted.{IsLowCount};
 ghost use Rattle.trace_report.specs.Front.{page_title};
-ghost use Rattle.trace_report.specs.Page.{first_time, front_before, last_time, report_script};
+ghost use Rattle.trace_report.specs.Page.{first_time, front_before, report_script};
 ghost use Rattle.trace_report.specs.proving.Following.{times_of};
 ghost use Rattle.trace_report.specs.proving.Pages.{title_of};
 ghost use Rattle.trace_log.specs.Devices.{HasLowCounts};
@@ -17,6 +17,7 @@ use crate::follower::Follower;
 use crate::front::{Front, Title};
 use crate::help::Help;
 use crate::refusal::StopLine;
+use crate::span::Span;
 use crate::verdict::{RefusedVerdict, Verdict};
 use isotp_receive::Pair;
 use std::alloc::{AllocError, Global};
@@ -41,7 +42,7 @@ pub fn report<R: Source, W: Target>(
     requires writer { IsLowCount (W.failures writer.old) }
 
     // What is answered and written; that it is written before more is read; and what was done with the devices.
-    ensures ran { RanLenient R.Source W.Target (report_script (page_title style.now name.now config.now) MESSAGE_LIMIT (glimpse_of R.Source reader.new)) answers_counts needs_none MESSAGE_LIMIT config.now reader.old writer.old result reader.new writer.new }
+    ensures ran { RanLenient R.Source W.Target (command (report_script (page_title style.now name.now config.now) MESSAGE_LIMIT (glimpse_of R.Source reader.new)) answers_counts needs_none) config.now reader.old writer.old result reader.new writer.new }
 {
     let machine = Reporter {
         title: Title {
@@ -56,13 +57,6 @@ pub fn report<R: Source, W: Target>(
         chart: Chart::start(),
     };
     run_lenient(alloc, config, machine, reader, writer)
-}
-
-/// The times of the first frame of a trace, and of its last one.
-#[derive(Clone, Copy, Debug)]
-pub(crate) struct Span {
-    pub first: u64,
-    pub last: u64,
 }
 
 /// Says a page. It keeps no message, and no row.
@@ -125,7 +119,12 @@ impl<'a> Machine for Reporter<'a> {
         } = self;
         let origin = say_front_before(&title, span, 0, out);
         chart.say_rows(origin, follower.end(pair), out);
-        say(out, PageEnd(&chart, summary, origin, last_of(span)));
+        let closing = PageEnd {
+            chart: &chart,
+            summary,
+            span,
+        };
+        say(out, closing);
         Ok(*summary)
     }
 
@@ -136,12 +135,15 @@ impl<'a> Machine for Reporter<'a> {
             follower: _,
             chart,
         } = self;
-        let origin = say_front_before(&title, span, 0, out);
-        let cause = cause_of(why, title.most, source);
-        say(
-            out,
-            RefusedEnd(why, cause, &chart, summary, origin, last_of(span)),
-        );
+        say_front_before(&title, span, 0, out);
+        let closing = RefusedEnd {
+            why,
+            cause: cause_of(why, title.most, source),
+            chart: &chart,
+            summary,
+            span,
+        };
+        say(out, closing);
     }
 }
 
@@ -165,33 +167,32 @@ fn say_front_before<S: TextSink>(
     }
 }
 
-/// The time of the last frame, 0 where there is none.
-fn last_of(span: Option<Span>) -> u64
-    ensures { (T : List Entry) → span ≡ times_of T → result ≡ last_time 0 T }
-{
-    match span {
-        Some(span) => span.last,
-        None => 0,
-    }
-}
-
-/// What stands behind all rows, in a page whose first frame and last one have these times.
+/// What stands behind all rows.
 #[derive(Clone, Copy)]
-struct PageEnd<'a>(&'a Chart, &'a Summary, u64, u64);
+struct PageEnd<'a> {
+    chart: &'a Chart,
+    summary: &'a Summary,
+    span: Option<Span>,
+}
 
 impl<'a> Part for PageEnd<'a> {
     ghost use Rattle.trace_report.specs.Page.{page_end};
+    ghost use Rattle.trace_report.specs.proving.Lending.{first_of_span, last_of_span};
 
-    ghost text = { λ end. page_end end.0.now.blocks end.0.now.tally end.1.now end.2 end.3 };
+    ghost text = { λ end. page_end end.chart.now.blocks end.chart.now.tally end.summary.now (first_of_span end.span) (last_of_span end.span) };
 
     fn say<S: TextSink>(self, out: &mut S) {
-        let PageEnd(chart, summary, first, last) = self;
+        let verdict = Verdict {
+            tally: &self.chart.tally,
+            summary: self.summary,
+            span: self.span,
+        };
         say(
             out,
             (
-                BlockEnd(chart.blocks.count),
+                BlockEnd(self.chart.blocks.count),
                 "</main>\n",
-                Verdict(&chart.tally, summary, first, last),
+                verdict,
                 Help,
             ),
         );
@@ -200,22 +201,35 @@ impl<'a> Part for PageEnd<'a> {
 
 /// The same of the page of a log that is refused.
 #[derive(Clone, Copy)]
-struct RefusedEnd<'a>(Fault, Option<Cause>, &'a Chart, &'a Summary, u64, u64);
+struct RefusedEnd<'a> {
+    why: Fault,
+    cause: Option<Cause>,
+    chart: &'a Chart,
+    summary: &'a Summary,
+    span: Option<Span>,
+}
 
 impl<'a> Part for RefusedEnd<'a> {
     ghost use Rattle.trace_report.specs.Page.{refused_end};
+    ghost use Rattle.trace_report.specs.proving.Lending.{first_of_span, last_of_span};
 
-    ghost text = { λ end. refused_end end.0 end.1 end.2.now.blocks end.2.now.tally end.3.now end.4 end.5 };
+    ghost text = { λ end. refused_end end.why end.cause end.chart.now.blocks end.chart.now.tally end.summary.now (first_of_span end.span) (last_of_span end.span) };
 
     fn say<S: TextSink>(self, out: &mut S) {
-        let RefusedEnd(why, cause, chart, summary, first, last) = self;
+        let verdict = RefusedVerdict {
+            why: self.why,
+            cause: self.cause,
+            tally: &self.chart.tally,
+            summary: self.summary,
+            span: self.span,
+        };
         say(
             out,
             (
-                BlockEnd(chart.blocks.count),
-                StopLine(why),
+                BlockEnd(self.chart.blocks.count),
+                StopLine(self.why),
                 "</main>\n",
-                RefusedVerdict(why, cause, &chart.tally, summary, first, last),
+                verdict,
                 Help,
             ),
         );

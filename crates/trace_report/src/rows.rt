@@ -16,7 +16,12 @@ pub(crate) fn say_next_row<S: TextSink>(origin: u64, blocks: &mut Blocks, row: R
     ensures says { blocks.old.count < 2 ^ 64 - 1 → blocks.old.rows < 2 ^ 64 - 1 → S.says out.old (rows_text origin blocks.old (row_of row.entry ∷ [])) out.new }
     ensures stands { blocks.old.count < 2 ^ 64 - 1 → blocks.old.rows < 2 ^ 64 - 1 → blocks.new ≡ blocks_behind blocks.old (row_of row.entry ∷ []) }
 {
-    say(out, Opening(origin, *blocks, row));
+    let opening = Opening {
+        origin,
+        blocks: *blocks,
+        row,
+    };
+    say(out, opening);
     *blocks = one_more_row(begins_exchange(row), *blocks);
     say_row(is_brief(*blocks), origin, row, out);
 }

@@ -3,7 +3,7 @@ ghost use Rattle.std.specs.Prelude.{◌≡◌};
 ghost use Rattle.trace_report.specs.proving.Lending.{first_of_span, last_of_span};
 
 use crate::kept_rows::KeptRows;
-use crate::reporter::Span;
+use crate::span::{Span, first_of, last_of};
 use std::marker::Model;
 use trace_log::Summary;
 
@@ -57,19 +57,13 @@ impl Session {
     pub(crate) fn first(&self) -> u64
         ensures { result ≡ self.now.first }
     {
-        match self.span {
-            Some(span) => span.first,
-            None => 0,
-        }
+        first_of(self.span)
     }
 
     /// The time of its last frame; 0 where it has none.
     pub(crate) fn last(&self) -> u64
         ensures { result ≡ self.now.last }
     {
-        match self.span {
-            Some(span) => span.last,
-            None => 0,
-        }
+        last_of(self.span)
     }
 }

@@ -166,10 +166,7 @@ fn difference_at<'a>(left: &'a KeptRows, right: &'a KeptRows, at: usize) -> Opti
     if at >= numbers_of(left, right) {
         return None;
     }
-    match pair_at(left, right, at) {
-        Some(pair) => difference_of(at, pair),
-        None => None,
-    }
+    difference_of(at, pair_at(left, right, at)?)
 }
 
 /// How the items at a place differ, if they do.
@@ -177,12 +174,10 @@ fn difference_of<'a>(at: usize, pair: LentPair<'a>) -> Option<Difference<'a>>
     ensures found { option_map contrast_found result ≡ contrast_at at (Some (pair_of pair.entry)) }
     ensures before { IfSome result (λ found. found.before ≡ at) }
 {
-    match contrast_of(pair) {
-        Some(how) => Some(Difference {
-            before: at,
-            pair,
-            how,
-        }),
-        None => None,
-    }
+    let how = contrast_of(pair)?;
+    Some(Difference {
+        before: at,
+        pair,
+        how,
+    })
 }

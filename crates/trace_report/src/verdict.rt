@@ -9,30 +9,44 @@ use crate::counts::{AnswersOf, Counts, SortCounts};
 use crate::links::{Link, LookLine};
 use crate::reasons::UncleanReasons;
 use crate::refusal::RefusedHeading;
+use crate::span::{Span, first_of, last_of};
 use crate::tally::Tally;
 use crate::words::{Seconds, Stamp};
 use text_parts::{Either, Part, say};
 use trace_io::TextSink;
 use trace_log::{Fault, Summary};
 
-/// The verdict of a log, whose first frame and last one have these times.
+/// The verdict of a log.
 #[derive(Clone, Copy)]
-pub(crate) struct Verdict<'a>(pub &'a Tally, pub &'a Summary, pub u64, pub u64);
+pub(crate) struct Verdict<'a> {
+    pub tally: &'a Tally,
+    pub summary: &'a Summary,
+    pub span: Option<Span>,
+}
 
 impl<'a> Part for Verdict<'a> {
     ghost use Rattle.trace_report.specs.Verdict.{verdict_text};
+    ghost use Rattle.trace_report.specs.proving.Lending.{first_of_span, last_of_span};
 
-    ghost text = { λ verdict. verdict_text verdict.0.now verdict.1.now verdict.2 verdict.3 };
+    ghost text = { λ verdict. verdict_text verdict.tally.now verdict.summary.now (first_of_span verdict.span) (last_of_span verdict.span) };
 
     fn say<S: TextSink>(self, out: &mut S) {
-        let Verdict(tally, summary, first, last) = self;
+        let Verdict {
+            tally,
+            summary,
+            span,
+        } = self;
         say(
             out,
             (
                 Heading(summary),
                 AnswersOf(&tally.counts),
                 "</p>\n",
-                Findings(tally, summary, first, last),
+                Findings {
+                    tally,
+                    summary,
+                    span,
+                },
             ),
         );
     }
@@ -40,49 +54,56 @@ impl<'a> Part for Verdict<'a> {
 
 /// The verdict of a log that is refused, with the cause, if one is known, by what the lines before say.
 #[derive(Clone, Copy)]
-pub(crate) struct RefusedVerdict<'a>(
-    pub Fault,
-    pub Option<Cause>,
-    pub &'a Tally,
-    pub &'a Summary,
-    pub u64,
-    pub u64,
-);
+pub(crate) struct RefusedVerdict<'a> {
+    pub why: Fault,
+    pub cause: Option<Cause>,
+    pub tally: &'a Tally,
+    pub summary: &'a Summary,
+    pub span: Option<Span>,
+}
 
 impl<'a> Part for RefusedVerdict<'a> {
     ghost use Rattle.trace_report.specs.Verdict.{refused_verdict};
+    ghost use Rattle.trace_report.specs.proving.Lending.{first_of_span, last_of_span};
 
-    ghost text = { λ verdict. refused_verdict verdict.0 verdict.1 verdict.2.now verdict.3.now verdict.4 verdict.5 };
+    ghost text = { λ verdict. refused_verdict verdict.why verdict.cause verdict.tally.now verdict.summary.now (first_of_span verdict.span) (last_of_span verdict.span) };
 
     fn say<S: TextSink>(self, out: &mut S) {
-        let RefusedVerdict(why, cause, tally, summary, first, last) = self;
-        say(
-            out,
-            (
-                RefusedHeading(why, cause),
-                Findings(tally, summary, first, last),
-            ),
-        );
+        let findings = Findings {
+            tally: self.tally,
+            summary: self.summary,
+            span: self.span,
+        };
+        say(out, (RefusedHeading(self.why, self.cause), findings));
     }
 }
 
-/// What was found of a log, whose first frame and last one have these times.
+/// What was found of a log.
 #[derive(Clone, Copy)]
-struct Findings<'a>(&'a Tally, &'a Summary, u64, u64);
+struct Findings<'a> {
+    tally: &'a Tally,
+    summary: &'a Summary,
+    span: Option<Span>,
+}
 
 impl<'a> Part for Findings<'a> {
     ghost use Rattle.trace_report.specs.Verdict.{findings_text};
+    ghost use Rattle.trace_report.specs.proving.Lending.{first_of_span, last_of_span};
 
-    ghost text = { λ found. findings_text found.0.now found.1.now found.2 found.3 };
+    ghost text = { λ found. findings_text found.tally.now found.summary.now (first_of_span found.span) (last_of_span found.span) };
 
     fn say<S: TextSink>(self, out: &mut S) {
-        let Findings(tally, summary, first, last) = self;
+        let Findings {
+            tally,
+            summary,
+            span,
+        } = self;
         say(
             out,
             (
                 Looks(tally),
                 Counts(&tally.counts, summary),
-                SpanOf(summary.frames, first, last),
+                SpanOf(summary.frames, first_of(span), last_of(span)),
                 "</section>\n",
             ),
         );
@@ -101,33 +122,53 @@ impl<'a> Part for Looks<'a> {
     fn say<S: TextSink>(self, out: &mut S) {
         let counts = &self.0.counts;
         let first = &self.0.first;
-        if !needs_no_look(counts) {
-            say(
-                out,
-                (
-                    "<ul class=\"look\">\n",
-                    (
-                        LookLine("dropped frames", Link::Line, counts.drops, &first.drops),
-                        LookLine("ended early", Link::Line, counts.ends, &first.ends),
-                        LookLine("unfinished", Link::Side, counts.partials, &first.partials),
-                        LookLine(
-                            "negative answers",
-                            Link::Item,
-                            counts.negatives,
-                            &first.negatives,
-                        ),
-                        LookLine(
-                            "without an answer",
-                            Link::Item,
-                            counts.unanswered,
-                            &first.unanswered,
-                        ),
-                        LookLine("strays", Link::Item, counts.strays, &first.strays),
-                    ),
-                    "</ul>\n",
-                ),
-            );
+        if needs_no_look(counts) {
+            return;
         }
+        let dropped = LookLine {
+            words: "dropped frames",
+            link: Link::Line,
+            count: counts.drops,
+            first: &first.drops,
+        };
+        let ended = LookLine {
+            words: "ended early",
+            link: Link::Line,
+            count: counts.ends,
+            first: &first.ends,
+        };
+        let unfinished = LookLine {
+            words: "unfinished",
+            link: Link::Side,
+            count: counts.partials,
+            first: &first.partials,
+        };
+        let negative = LookLine {
+            words: "negative answers",
+            link: Link::Item,
+            count: counts.negatives,
+            first: &first.negatives,
+        };
+        let unanswered = LookLine {
+            words: "without an answer",
+            link: Link::Item,
+            count: counts.unanswered,
+            first: &first.unanswered,
+        };
+        let strays = LookLine {
+            words: "strays",
+            link: Link::Item,
+            count: counts.strays,
+            first: &first.strays,
+        };
+        say(
+            out,
+            (
+                "<ul class=\"look\">\n",
+                (dropped, ended, unfinished, negative, unanswered, strays),
+                "</ul>\n",
+            ),
+        );
     }
 }
 

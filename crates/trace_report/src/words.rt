@@ -1,14 +1,13 @@
 //! The words of a report: times, and the bytes of messages.
 ghost use Rattle.std.specs.Prelude.{◌≡◌, ◌<◌, ◌≤◌, length, take};
-ghost use Rattle.trace_report.specs.Words.{bytes_apart, bytes_behind, letter_text, letters};
+ghost use Rattle.trace_report.specs.Words.{bytes_behind, letter_text, letters};
 ghost use Rattle.trace_report.specs.Words as Spec;
 
 use can_log::digits_of_bytes;
 use std::simd::prelude::*;
-use text_parts::{Part, When, say};
+use text_parts::{Either, Part, When, say};
 use trace_io::TextSink;
-use trace_text::say::say_byte;
-use trace_text::{Number, SixDecimals, ThreeDecimals};
+use trace_text::{Byte, Number, SixDecimals, ThreeDecimals};
 
 /// Up to so many bytes, all of a message are shown.
 pub(crate) const MOST_SHOWN: usize = 64;
@@ -75,16 +74,6 @@ impl Part for Milliseconds {
     }
 }
 
-/// Says two digits for each byte, and a blank between.
-fn say_bytes_apart<S: TextSink>(bytes: &[u8], out: &mut S)
-    ensures { S.says out.old (bytes_apart bytes.now) out.new }
-{
-    if let Some((first, rest)) = bytes.split_first() {
-        say_byte(out, *first);
-        say_bytes_behind(rest, out);
-    }
-}
-
 /// Says a blank and two digits for each byte: of eight bytes at once, as long as there are eight.
 pub(crate) fn say_bytes_behind<S: TextSink>(bytes: &[u8], out: &mut S)
     ensures { S.says out.old (bytes_behind bytes.now) out.new }
@@ -147,16 +136,14 @@ fn eight_behind(bytes: &[u8; 8]) -> [u8; 24]
 fn is_letter(byte: u8) -> bool
     ensures { result ≡ Spec.is_letter byte }
 {
-    (b'0' <= byte && byte <= b'9')
-        || (b'A' <= byte && byte <= b'Z')
-        || (b'a' <= byte && byte <= b'z')
+    matches!(byte, b'0'..=b'9' | b'A'..=b'Z' | b'a'..=b'z')
 }
 
 /// Whether it is one of the signs that are shown.
 fn is_sign(byte: u8) -> bool
     ensures { result ≡ Spec.is_sign byte }
 {
-    byte == b'-' || byte == b'.' || byte == b'/' || byte == b':' || byte == b'_'
+    matches!(byte, b'-' | b'.' | b'/' | b':' | b'_')
 }
 
 /// Whether it is shown as it is, and is no blank.
@@ -206,19 +193,7 @@ fn say_letter<S: TextSink>(byte: u8, out: &mut S)
     out.put(&[shown_byte(byte)]);
 }
 
-/// Says what is shown for each byte: for eight bytes at once, as long as there are eight.
-fn say_letters<S: TextSink>(bytes: &[u8], out: &mut S)
-    ensures { S.says out.old (letters bytes.now) out.new }
-{
-    let mut rest = bytes;
-    'eights: while let Some((eight, behind)) = rest.split_first_chunk::<8>() {
-        out.put(&eight_letters(eight));
-        rest = behind;
-    }
-    say_few_letters(rest, out);
-}
-
-/// Says it byte by byte.
+/// Says what is shown for each byte, byte by byte.
 fn say_few_letters<S: TextSink>(bytes: &[u8], out: &mut S)
     ensures { S.says out.old (letters bytes.now) out.new }
 {
@@ -261,7 +236,7 @@ impl<'a> Part for LettersText<'a> {
     }
 }
 
-/// What is shown for each byte.
+/// What is shown for each byte: for eight bytes at once, as long as there are eight.
 #[derive(Clone, Copy)]
 struct Letters<'a>(&'a [u8]);
 
@@ -270,9 +245,13 @@ impl<'a> Part for Letters<'a> {
 
     ghost text = { λ bytes. letters bytes.0.now };
 
-    #[inline(always)]
     fn say<S: TextSink>(self, out: &mut S) {
-        say_letters(self.0, out);
+        let mut rest = self.0;
+        'eights: while let Some((eight, behind)) = rest.split_first_chunk::<8>() {
+            out.put(&eight_letters(eight));
+            rest = behind;
+        }
+        say_few_letters(rest, out);
     }
 }
 
@@ -285,9 +264,11 @@ impl<'a> Part for BytesApart<'a> {
 
     ghost text = { λ bytes. bytes_apart bytes.0.now };
 
-    #[inline(always)]
     fn say<S: TextSink>(self, out: &mut S) {
-        say_bytes_apart(self.0, out);
+        if let Some((first, rest)) = self.0.split_first() {
+            say(out, Byte(*first));
+            say_bytes_behind(rest, out);
+        }
     }
 }
 
@@ -356,13 +337,14 @@ impl<'a> Part for BriefData<'a> {
             say(out, BytesApart(bytes));
         } else {
             let (front, rest) = bytes.split_at(SHOWN_FIRST);
+            let more = rest.len() as u64;
             say(
                 out,
                 (
                     BytesApart(front),
                     " and ",
-                    Number(rest.len() as u64),
-                    " bytes more",
+                    Number(more),
+                    Either(more == 1, " byte more", " bytes more"),
                 ),
             );
         }

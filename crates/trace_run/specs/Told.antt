@@ -3,6 +3,7 @@
 use Rattle.std.specs.Prelude.{◌≡◌, ◌≢◌, ℕ, ◌-◌, ◌≤◌, List, [], ◌∷◌, ◌++◌, Option, Result, Ok, Err, IfErr, length, true, ◌⊎◌, ◌<◌, Bool, false, ⊤}
 use Rattle.can_log.specs.declared.frame.Stamped.{Stamped}
 use Rattle.isotp_receive.specs.Trace.{Entry}
+use Rattle.isotp_receive.specs.declared.TheConstants.{MESSAGE_LIMIT}
 use Rattle.trace_io.specs.Written.{HasFront}
 use Rattle.trace_io.specs.declared.device.Source.{Ghosts as SourceGhosts}
 use Rattle.trace_io.specs.declared.device.Target.{Ghosts as TargetGhosts}
@@ -13,7 +14,7 @@ use Rattle.trace_run.specs.declared.machine.Stop.TheVariants as stop
 use Rattle.trace_log.specs.declared.summary.Summary.{Summary}
 use Rattle.trace_log.specs.Answers.{piece_length, ReadsWhile, TellsOutcome}
 use Rattle.trace_log.specs.Outcome.{IsReadWhole}
-use Rattle.trace_log.specs.Settings.{Settings}
+use Rattle.trace_log.specs.Settings.{AreSettings, Settings}
 use Rattle.trace_log.specs.Trace.{trace}
 use Rattle.trace_log.specs.Summing.{summary_of}
 use Rattle.trace_log.specs.LinesRead.{AreReadBefore, WritesTextOfRead, WritesFrontOfRead}
@@ -146,6 +147,24 @@ Answering A = List Entry → Summary → Result A Stop → Type 0
 abbrev pub answers_counts : Answering Summary
 answers_counts T summary result = result ≡ Ok summary
 
+-- for which frame memory may be refused, by the frames before it
+abbrev pub Needing : Type 1
+Needing = List Entry → Entry → Type 0
+
+-- for none
+abbrev pub needs_none : Needing
+needs_none T e = ⊥
+
+-- What a run knows of a command: what it tells, what it may answer, and for which frames it may be refused memory.
+pub record Command (A : Type 0) : Type 1 where
+  pub script : Script
+  pub answers : Answering A
+  pub needs : Needing
+
+-- the command of this script, these answers and these needs
+abbrev pub command : {A : Type 0} → Script → Answering A → Needing → Command A
+command script answers needs = record { script = script; answers = answers; needs = needs }
+
 -- the log can be read to its end, this is answered there, and all that is told of it was written
 abbrev pub EndsWith : {A : Type 0} → Script → Answering A → ℕ → Settings → List ℕ → ℕ → Result A Stop → List ℕ → List ℕ → Type 0
 EndsWith script answers limit settings log given result old new =
@@ -205,40 +224,38 @@ pub record TellsEagerly (script : Script) (limit : ℕ) (settings : Settings) (l
   pub more : List ℕ
   pub wrote : new ≡ old ++ (told_of_lines script settings meanings ++ more)
 
--- A run from a source to a target: all that a caller knows of it.
-pub record Ran {R W A : Type 0} (source : SourceGhosts R) (target : TargetGhosts W) (script : Script) (answers : Answering A) (needs : List Entry → Entry → Type 0) (limit : ℕ) (settings : Settings) (before : R) (old : W)
-    (result : Result A Fault) (after : R) (new : W) : Type 0 where
+-- A run of a command from a source to a target: all that a caller knows of it.
+pub record Ran {R W A : Type 0} (source : SourceGhosts R) (target : TargetGhosts W) (of : Command A) (settings : Settings)
+    (before : R) (old : W) (result : Result A Fault) (after : R) (new : W) : Type 0 where
   -- what is answered and written, for each log with which the bytes that were read agree
   pub answer : (log : List ℕ) → AgreesWith source before after log
-      → AnswersTold script answers limit settings log (bytes_given source before after) result (target.taken old) (target.taken new)
+      → AnswersTold of.script of.answers MESSAGE_LIMIT settings log (bytes_given source before after) result (target.taken old) (target.taken new)
   -- before each read what was told was written
   pub eager : (log : List ℕ) → AgreesWith source before after log
-      → TellsEagerly script limit settings log (bytes_given source before after) (target.taken old) (target.taken new)
+      → TellsEagerly of.script MESSAGE_LIMIT settings log (bytes_given source before after) (target.taken old) (target.taken new)
   -- memory is refused only for a log that needs it: for a message of several frames, or for a frame for which the
-  -- machine needs some
+  -- command needs some
   pub memory : (log : List ℕ) → AgreesWith source before after log
-      → result ≡ Err Memory → HasFrame (λ T e. IsKeptForMessage limit T e ⊎ needs T e) settings log
+      → result ≡ Err Memory → HasFrame (λ T e. IsKeptForMessage MESSAGE_LIMIT T e ⊎ of.needs T e) settings log
   -- reading stops within one piece
   pub near : (log : List ℕ) → AgreesWith source before after log
-      → ReadsWhile (StopsNothingWithin script.strict limit settings log) (bytes_given source before after) (source.failures before) (source.failures after)
+      → ReadsWhile (StopsNothingWithin of.script.strict MESSAGE_LIMIT settings log) (bytes_given source before after) (source.failures before) (source.failures after)
+  -- the settings are those of a configuration
+  pub configured : AreSettings settings
   -- what it did with its devices
   pub read : ReadFrom source Read settings.max_bytes result before after
   pub wrote : WroteTo target Write result old new
 
--- a machine may be refused memory for no frame
-abbrev pub needs_none : List Entry → Entry → Type 0
-needs_none T e = ⊥
-
--- The same of a script that is not strict, where there is an answer at the end of each log.
-pub record RanLenient {R W A : Type 0} (source : SourceGhosts R) (target : TargetGhosts W) (script : Script) (answers : Answering A) (needs : List Entry → Entry → Type 0) (limit : ℕ) (settings : Settings) (before : R) (old : W)
-    (result : Result A Fault) (after : R) (new : W) : Type 0 where
-  pub run : Ran source target script answers needs limit settings before old result after new
+-- The same of a command that is not strict, and has an answer at the end of each log.
+pub record RanLenient {R W A : Type 0} (source : SourceGhosts R) (target : TargetGhosts W) (of : Command A) (settings : Settings)
+    (before : R) (old : W) (result : Result A Fault) (after : R) (new : W) : Type 0 where
+  pub run : Ran source target of settings before old result after new
   -- reading stops within one piece of a refused place
   pub near : (log : List ℕ) → AgreesWith source before after log
       → ReadsWhile (HasNoBadPlaceWithin log) (bytes_given source before after) (source.failures before) (source.failures after)
   -- no announced length refuses a log, and no canonical log
   pub never_oversize : IfErr result (λ fault. (line announced : ℕ) → fault ≢ Oversize line announced)
   pub never_output_limit : IfErr result (λ fault. fault ≢ OutputLimit)
-  -- where the machine needs no memory, it is refused only for a message of several frames
-  pub memory : ((T : List Entry) (e : Entry) → needs T e → ⊥) → (log : List ℕ) → AgreesWith source before after log
-      → result ≡ Err Memory → NeedsMemoryToReceive limit settings log
+  -- where the command needs no memory, it is refused only for a message of several frames
+  pub memory : ((T : List Entry) (e : Entry) → of.needs T e → ⊥) → (log : List ℕ) → AgreesWith source before after log
+      → result ≡ Err Memory → NeedsMemoryToReceive MESSAGE_LIMIT settings log

@@ -66,6 +66,7 @@ impl Block {
     }
 
     /// How many bytes more it has room for.
+    #[inline(always)]
     fn room(&self) -> usize
         ensures { result + length self.now ≡ BLOCK }
     {
@@ -92,7 +93,7 @@ impl Block {
         ensures took { result ≡ true → self.new ≡ self.old ++ (first.now ++ second.now ++ third.now) }
         ensures full { result ≡ false → self.new ≡ self.old }
     {
-        let room = BLOCK - self.len;
+        let room = self.room();
         let two = first.len() + second.len();
         if two > room || third.len() > room - two {
             return false;

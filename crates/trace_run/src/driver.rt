@@ -1,7 +1,6 @@
 //! A log told by a machine: where a run reads, writes and fails.
 ghost use Rattle.std.specs.Prelude.{◌≡◌, ℕ, List, [], length, Err, Option, false};
 ghost use Rattle.can_log.specs.declared.frame.Stamped.{Stamped as StampedValue};
-ghost use Rattle.isotp_receive.specs.declared.TheConstants.{MESSAGE_LIMIT};
 ghost use Rattle.isotp_receive.specs.Trace.{Entry};
 ghost use Rattle.trace_io.specs.Counted.{IsLowCount};
 ghost use Rattle.trace_run.specs.proving.Carrying.{Begins, CarriesPage, SettlesPageAs, EndsTelling, GivesUp, RefusesTelling};
@@ -10,14 +9,14 @@ ghost use Rattle.trace_log.specs.proving.Receiving.{Receives};
 ghost use Rattle.trace_log.specs.Settings.{Settings};
 ghost use Rattle.trace_log.specs.Summing.{ends_in_line_feed};
 ghost use Rattle.trace_run.specs.Seen.{glimpse_value};
-ghost use Rattle.trace_run.specs.Told.{Ran, RanLenient, glimpse_of, told_with};
+ghost use Rattle.trace_run.specs.Told.{Ran, RanLenient, command, glimpse_of, told_with};
 ghost use Rattle.trace_log.specs.Trace.{trace};
 ghost use Rattle.trace_run.specs.declared.machine.Stop.TheVariants.{OutputLimit};
 ghost use Rattle.trace_log.specs.declared.summary.Summary.{Summary as SummaryValue};
 ghost use Rattle.trace_log.specs.Devices.{HasLowCounts};
 
-use crate::machine::{Glimpse, Machine, Stop};
-use crate::page::{Page, settle};
+use crate::machine::{Glimpse, Machine};
+use crate::page::Page;
 use crate::receiver::Receiver;
 use crate::summing::sum_up;
 use crate::telling::{Telling, tell_end, tell_refusal};
@@ -39,19 +38,15 @@ pub fn run<M: Machine + Drop, R: Source, W: Target>(
     requires machine { M.stands machine [] machine }
     requires reader { HasLowCounts R.Source reader.old }
     requires writer { IsLowCount (W.failures writer.old) }
-    ensures ran { Ran R.Source W.Target (told_with (M.script machine) (M.refusal machine) (glimpse_of R.Source reader.new)) (M.answers machine) (M.needs machine) MESSAGE_LIMIT config.now reader.old writer.old result reader.new writer.new }
+    ensures ran { Ran R.Source W.Target
+        (command (told_with (M.script machine) (M.refusal machine) (glimpse_of R.Source reader.new)) (M.answers machine) (M.needs machine))
+        config.now reader.old writer.old result reader.new writer.new }
 {
     let pair = Pair::new(alloc);
     let mut receiver = Receiver::start(config, pair, Telling::start(machine));
     match feed_lines(config.max_bytes(), reader, &mut receiver, writer) {
         Ok(ended) => finish(receiver, ended, writer),
-        Err(fault) => {
-            let source = Glimpse {
-                first: reader.first(),
-                is_over: reader.has_ended(),
-            };
-            Err(give_up(fault, source, receiver, writer))
-        }
+        Err(fault) => Err(give_up(fault, Glimpse::of(reader), receiver, writer)),
     }
 }
 
@@ -68,7 +63,9 @@ pub fn run_lenient<M: Machine + Drop, R: Source, W: Target>(
     requires has_answer { (T : List Entry) (summary : SummaryValue) → M.answers machine T summary (Err OutputLimit) → ⊥ }
     requires reader { HasLowCounts R.Source reader.old }
     requires writer { IsLowCount (W.failures writer.old) }
-    ensures ran { RanLenient R.Source W.Target (told_with (M.script machine) (M.refusal machine) (glimpse_of R.Source reader.new)) (M.answers machine) (M.needs machine) MESSAGE_LIMIT config.now reader.old writer.old result reader.new writer.new }
+    ensures ran { RanLenient R.Source W.Target
+        (command (told_with (M.script machine) (M.refusal machine) (glimpse_of R.Source reader.new)) (M.answers machine) (M.needs machine))
+        config.now reader.old writer.old result reader.new writer.new }
 {
     run(alloc, config, machine, reader, writer)
 }
@@ -136,7 +133,7 @@ fn refuse<M: Machine, W: Target>(
 fn settle_before<W: Target>(fault: Fault, target: &mut W, page: &mut Page) -> Fault
     ensures { SettlesPageAs fault W.Target page.old target.old result target.new }
 {
-    if settle(target, page) {
+    if page.settle(target) {
         fault
     } else {
         Fault::Write
@@ -172,11 +169,8 @@ fn finish<M: Machine, W: Target>(
     } = telling;
     let summary = sum_up(&pair, lines, counts, &judge, ended);
     let answer = tell_end(machine, target, &mut page, &pair, &summary);
-    if !settle(target, &mut page) {
+    if !page.settle(target) {
         return Err(Fault::Write);
     }
-    match answer {
-        Ok(value) => Ok(value),
-        Err(Stop::OutputLimit) => Err(Fault::OutputLimit),
-    }
+    Ok(answer?)
 }

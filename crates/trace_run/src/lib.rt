@@ -30,4 +30,4 @@ mod telling;
 pub use driver::{run, run_lenient};
 pub use machine::{Glimpse, Machine, Seen, Stop};
 pub use nowhere::Nowhere;
-pub use printer::{Printable, print};
+pub use printer::print;

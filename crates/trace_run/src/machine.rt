@@ -7,12 +7,13 @@ ghost use Rattle.isotp_receive.specs.Trace.{Entry};
 ghost use Rattle.trace_run.specs.Seen.{IsSeen, glimpse_value};
 ghost use Rattle.trace_run.specs.Told.{Refusal, Script};
 ghost use Rattle.trace_run.specs.declared.machine.Stop.{Stop as StopValue};
+ghost use Rattle.trace_log.specs.declared.fault.Fault.TheVariants.{OutputLimit};
 ghost use Rattle.trace_log.specs.declared.summary.Summary.{Summary as SummaryValue};
 
 use direction::Dir;
 use isotp_receive::{Event, Pair};
 use std::alloc::AllocError;
-use trace_io::TextSink;
+use trace_io::{Source, TextSink};
 use trace_log::{Fault, Summary};
 use uds_exchange::Judged;
 
@@ -21,6 +22,16 @@ use uds_exchange::Judged;
 pub enum Stop {
     /// What it would tell is longer than the limit.
     OutputLimit,
+}
+
+impl From<Stop> for Fault {
+    ghost from_gives = { λ _ fault. fault ≡ OutputLimit };
+
+    fn from(stop: Stop) -> Fault {
+        match stop {
+            Stop::OutputLimit => Fault::OutputLimit,
+        }
+    }
 }
 
 /// What is seen of a frame: what it did, and the message that it completed.
@@ -45,6 +56,22 @@ pub struct Glimpse<'a> {
     pub is_over: bool,
 }
 
+impl<'a> Glimpse<'a> {
+    ghost use Rattle.std.specs.Prelude.{◌≡◌};
+    ghost use Rattle.trace_run.specs.Seen.{glimpse_value};
+    ghost use Rattle.trace_run.specs.Told.{glimpse_of};
+
+    /// What is now seen of a source.
+    pub fn of<R: Source>(source: &'a R) -> Glimpse<'a>
+        ensures { glimpse_value result ≡ glimpse_of R.Source source.now }
+    {
+        Glimpse {
+            first: source.first(),
+            is_over: source.has_ended(),
+        }
+    }
+}
+
 /// A command's machine. It is handed what each frame did ([`Seen`]), in order, and the end or why the log is refused, and says its
 /// text. It sees no source and no target.
 pub trait Machine {
@@ -54,7 +81,8 @@ pub trait Machine {
     /// What it is after a trace, by what it was at the start.
     ghost stands: { Self → List Entry → Self → Type 0 };
 
-    /// What it says, by what it was at the start.
+    /// What it says, by what it was at the start. Of a refusal a run takes what `refusal` says, and not what this has of
+    /// one.
     ghost script: { Self → Script };
 
     /// What it says where the log is refused, by what it was at the start.

@@ -1,7 +1,4 @@
 //! The page that text is gathered on, between a machine and the target.
-ghost use Rattle.std.specs.Prelude.{◌≡◌, ◌<◌, [], ◌++◌, length, true, false};
-ghost use Rattle.trace_run.specs.proving.Carrying.{SaysToPage, WritesPage, KeepsPage};
-
 use crate::block::{Block, gather};
 use trace_io::{MOST_FAILURES, Target, TextSink, write_all};
 
@@ -13,6 +10,9 @@ pub(crate) struct Page {
 }
 
 impl Page {
+    ghost use Rattle.std.specs.Prelude.{◌≡◌, ◌<◌, [], ◌++◌, length, true, false};
+    ghost use Rattle.trace_run.specs.proving.Carrying.{SaysToPage, WritesPage, KeepsPage};
+
     /// A page with nothing on it.
     pub(crate) fn new() -> Page
         ensures well { result.failed ≡ false }
@@ -22,6 +22,106 @@ impl Page {
             block: Block::new(),
             failed: false,
         }
+    }
+
+    /// Puts a text on the page. Most texts find room there: so much stands where a text is said, and what else there is to do
+    /// stands apart.
+    #[inline(always)]
+    fn put<W: Target>(&mut self, target: &mut W, text: &[u8])
+        ensures { SaysToPage W.Target self.old target.old text.now self.new target.new }
+    {
+        if !self.block.take(text) {
+            self.put_anew(target, text);
+        }
+    }
+
+    /// Puts a text on a page that has no room for it: the page is filled with the front of it and written. So what this writes is
+    /// a whole page, or all that stood before a text that is longer than one.
+    #[inline(never)]
+    fn put_anew<W: Target>(&mut self, target: &mut W, text: &[u8])
+        requires { 0 < length text.now }
+        ensures { SaysToPage W.Target self.old target.old text.now self.new target.new }
+    {
+        if self.failed || target.failures() > MOST_FAILURES {
+            return;
+        }
+        if let Err(_fault) = gather(target, &mut self.block, text) {
+            self.failed = true;
+        }
+    }
+
+    /// Puts a text on the page that no write is to end within.
+    #[inline(always)]
+    fn put_whole<W: Target>(&mut self, target: &mut W, text: &[u8])
+        ensures { SaysToPage W.Target self.old target.old text.now self.new target.new }
+    {
+        if !self.block.take(text) {
+            self.put_whole_anew(target, text);
+        }
+    }
+
+    /// Puts such a text on a page that has no room for it: what is on the page is written first.
+    #[inline(never)]
+    fn put_whole_anew<W: Target>(&mut self, target: &mut W, text: &[u8])
+        ensures { SaysToPage W.Target self.old target.old text.now self.new target.new }
+    {
+        // Where this fails, the page knows that, and writes no text.
+        let _ = self.settle(target);
+        self.put(target, text);
+    }
+
+    /// Puts three texts on the page, one after another. Each is laid where it is to lie: put together first, they would be
+    /// stored in pieces and loaded at once, where store-to-load forwarding fails.
+    #[inline(always)]
+    fn put_three<W: Target>(&mut self, target: &mut W, first: &[u8], second: &[u8], third: &[u8])
+        ensures { SaysToPage W.Target self.old target.old (first.now ++ second.now ++ third.now) self.new target.new }
+    {
+        if !self.block.take_three(first, second, third) {
+            self.put_three_anew(target, first, second, third);
+        }
+    }
+
+    /// Puts three texts on a page that has no room for them all: what is on the page is written first, so that the writes end
+    /// where they would if the three were one text. Texts that no page has room for are put one by one.
+    #[inline(never)]
+    fn put_three_anew<W: Target>(
+        &mut self,
+        target: &mut W,
+        first: &[u8],
+        second: &[u8],
+        third: &[u8],
+    )
+        ensures { SaysToPage W.Target self.old target.old (first.now ++ second.now ++ third.now) self.new target.new }
+    {
+        // Where this fails, the page knows that, and writes no text.
+        let _ = self.settle(target);
+        if self.block.take_three(first, second, third) {
+            return;
+        }
+        self.put(target, first);
+        self.put(target, second);
+        self.put(target, third);
+    }
+
+    /// Writes what is on the page. Answers whether all that was said is written.
+    pub(crate) fn settle<W: Target>(&mut self, target: &mut W) -> bool
+        ensures settled { WritesPage W.Target self.old target.old result target.new }
+        ensures well { result ≡ true → self.new.failed ≡ false }
+        ensures blank { result ≡ true → self.new.block ≡ [] }
+        ensures no_more { KeepsPage W.Target self.old target.old self.new target.new }
+    {
+        if self.failed || target.failures() > MOST_FAILURES {
+            return false;
+        }
+        if self.block.is_empty() {
+            return true;
+        }
+        if let Err(_fault) = write_all(target, self.block.as_slice()) {
+            self.failed = true;
+            return false;
+        }
+        self.block.clear();
+        true
     }
 }
 
@@ -51,117 +151,16 @@ impl<'a, W: Target> TextSink for Drain<'a, W> {
 
     #[inline(always)]
     fn put(&mut self, text: &[u8]) {
-        put_text(self.target, self.page, text);
+        self.page.put(self.target, text);
     }
 
     #[inline(always)]
     fn put_whole(&mut self, text: &[u8]) {
-        put_whole(self.target, self.page, text);
+        self.page.put_whole(self.target, text);
     }
 
     #[inline(always)]
     fn put_three(&mut self, first: &[u8], second: &[u8], third: &[u8]) {
-        put_three(self.target, self.page, first, second, third);
+        self.page.put_three(self.target, first, second, third);
     }
-}
-
-/// Puts a text on the page. Most texts find room there: so much stands where a text is said, and what else there is to do
-/// stands apart.
-#[inline(always)]
-fn put_text<W: Target>(target: &mut W, page: &mut Page, text: &[u8])
-    ensures { SaysToPage W.Target page.old target.old text.now page.new target.new }
-{
-    if !page.block.take(text) {
-        put_anew(target, page, text);
-    }
-}
-
-/// Puts a text on a page that has no room for it: the page is filled with the front of it and written. So what this writes is a
-/// whole page, or all that stood before a text that is longer than one.
-#[inline(never)]
-fn put_anew<W: Target>(target: &mut W, page: &mut Page, text: &[u8])
-    requires { 0 < length text.now }
-    ensures { SaysToPage W.Target page.old target.old text.now page.new target.new }
-{
-    if page.failed {
-        return;
-    }
-    if target.failures() > MOST_FAILURES {
-        return;
-    }
-    if let Err(_fault) = gather(target, &mut page.block, text) {
-        page.failed = true;
-    }
-}
-
-/// Puts a text on the page that no write is to end within.
-#[inline(always)]
-fn put_whole<W: Target>(target: &mut W, page: &mut Page, text: &[u8])
-    ensures { SaysToPage W.Target page.old target.old text.now page.new target.new }
-{
-    if !page.block.take(text) {
-        put_whole_anew(target, page, text);
-    }
-}
-
-/// Puts such a text on a page that has no room for it: what is on the page is written first.
-#[inline(never)]
-fn put_whole_anew<W: Target>(target: &mut W, page: &mut Page, text: &[u8])
-    ensures { SaysToPage W.Target page.old target.old text.now page.new target.new }
-{
-    let _ = settle(target, page);
-    put_text(target, page, text);
-}
-
-/// Puts three texts on the page, one after another. Each is laid where it is to lie: put together first, they would be read
-/// by covering loads.
-#[inline(always)]
-fn put_three<W: Target>(target: &mut W, page: &mut Page, first: &[u8], second: &[u8], third: &[u8])
-    ensures { SaysToPage W.Target page.old target.old (first.now ++ second.now ++ third.now) page.new target.new }
-{
-    if !page.block.take_three(first, second, third) {
-        put_three_anew(target, page, first, second, third);
-    }
-}
-
-/// Puts three texts on a page that has no room for them all: what is on the page is written first, so that the writes end
-/// where they would if the three were one text. Texts that no page has room for are put one by one.
-#[inline(never)]
-fn put_three_anew<W: Target>(
-    target: &mut W,
-    page: &mut Page,
-    first: &[u8],
-    second: &[u8],
-    third: &[u8],
-)
-    ensures { SaysToPage W.Target page.old target.old (first.now ++ second.now ++ third.now) page.new target.new }
-{
-    let _ = settle(target, page);
-    if page.block.take_three(first, second, third) {
-        return;
-    }
-    put_text(target, page, first);
-    put_text(target, page, second);
-    put_text(target, page, third);
-}
-
-/// Writes what is on the page. Answers whether all that was said is written.
-pub(crate) fn settle<W: Target>(target: &mut W, page: &mut Page) -> bool
-    ensures settled { WritesPage W.Target page.old target.old result target.new }
-    ensures well { result ≡ true → page.new.failed ≡ false }
-    ensures blank { result ≡ true → page.new.block ≡ [] }
-    ensures no_more { KeepsPage W.Target page.old target.old page.new target.new }
-{
-    if page.failed || target.failures() > MOST_FAILURES {
-        return false;
-    }
-    if page.block.is_empty() {
-        return true;
-    }
-    if let Err(_fault) = write_all(target, page.block.as_slice()) {
-        page.failed = true;
-        return false;
-    }
-    page.block.clear();
-    true
 }

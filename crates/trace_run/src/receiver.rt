@@ -134,23 +134,20 @@ impl<M: Machine, W: Target> Receiver<M, W> {
         ensures told { (T : List Entry) → self.old.pair.receptions ≡ receptions_after MESSAGE_LIMIT T → length T < 2 ^ 62
             → TellsFrame M.stands M.script M.needs W.Target T (entry_at line stamped.now dir) self.old.telling device.old result self.new.telling device.new }
     {
-        match self.pair.accept(line, stamped.micros, dir, &stamped.frame) {
-            Ok(event) => {
-                let frame = FrameEvent {
-                    line,
-                    micros: stamped.micros,
-                    dir,
-                    event,
-                };
-                hand_on(&mut self.counts, &mut self.telling, device, frame)
-            }
-            Err(_refused) => Err(Fault::Memory),
-        }
+        let event = self.pair.accept(line, stamped.micros, dir, &stamped.frame)?;
+        let frame = FrameEvent {
+            line,
+            micros: stamped.micros,
+            dir,
+            event,
+        };
+        hand_on(&mut self.counts, &mut self.telling, device, frame)
     }
 }
 
 /// Has what a frame did counted and told. Most frames complete a message or are stored for one. They go ways of their own: there
-/// the verdict is known when it is compiled, so that no reason is stored and read by a covering load.
+/// the verdict is known when it is compiled, so that no reason is stored in pieces and loaded at once, where store-to-load
+/// forwarding fails.
 #[inline(always)]
 fn hand_on<M: Machine, W: Target>(
     counts: &mut Summary,

@@ -33,9 +33,9 @@ pub(crate) fn sum_up(
         lines,
         frames: counts.tester_frames.saturating_add(counts.unit_frames),
         unfinished: unfinished(pair),
-        pending: judge.removed,
+        pending: judge.removed(),
         ends_in_line_feed: ended,
-        looks_exchanged: judge.sides.look_exchanged(),
+        looks_exchanged: judge.sides().look_exchanged(),
         ..counts
     }
 }

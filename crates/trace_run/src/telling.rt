@@ -13,7 +13,7 @@ ghost use Rattle.trace_run.specs.Seen.{IsSeen, glimpse_value};
 ghost use Rattle.trace_run.specs.proving.Carrying.{SaysToPage, stops_for};
 
 use crate::machine::{Glimpse, Machine, Seen, Stop};
-use crate::page::{Drain, Page, settle};
+use crate::page::{Drain, Page};
 use direction::Dir;
 use isotp_receive::{Event, Pair, Reason, Verdict};
 use std::alloc::AllocError;
@@ -81,7 +81,7 @@ impl<M: Machine, W: Target> Telling<M, W> {
         ensures kept { (start : W) (first : M) (earlier : List Entry) → HasWrittenAtLeast M.script W.Target start first earlier self.old target.old
             → HasWrittenAtLeast M.script W.Target start first earlier self.new target.new }
     {
-        settle(target, &mut self.page)
+        self.page.settle(target)
     }
 
     /// Takes what the next frame of the trace did.
@@ -108,10 +108,7 @@ impl<M: Machine, W: Target> Telling<M, W> {
                     event,
                     message,
                 };
-                match tell(&mut self.machine, target, &mut self.page, seen) {
-                    Ok(()) => Ok(()),
-                    Err(_refused) => Err(Fault::Memory),
-                }
+                Ok(tell(&mut self.machine, target, &mut self.page, seen)?)
             }
         }
     }
@@ -176,10 +173,7 @@ fn tell<M: Machine, W: Target>(
     ensures needs { OnErr result ((start : M) (T : List Entry) (e : Entry) → IsSeen T e seen.entry → M.stands start T machine.old → M.needs start T e) }
 {
     let mut out = Drain { target, page };
-    match machine.event(seen, &mut out) {
-        Ok(()) => Ok(()),
-        Err(refused) => Err(refused),
-    }
+    machine.event(seen, &mut out)
 }
 
 /// Has the machine say what it says at the end, and answer.

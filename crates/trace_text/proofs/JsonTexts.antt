@@ -31,7 +31,7 @@ mutual
   members_are (member key value later) behind =
       member_is key (value_text value) (later_text later) behind (value_then value) (value_is value) (later_then later behind) (later_are later behind)
 
-  later_are : (members : Members) (behind : List ℕ) → later_text members ++ behind ≡ later_then members behind
+  pub later_are : (members : Members) (behind : List ℕ) → later_text members ++ behind ≡ later_then members behind
   later_are nothing behind = refl
   later_are (member key value later) behind =
       ap (λ l. codes "," ++ l) (member_is key (value_text value) (later_text later) behind (value_then value) (value_is value) (later_then later behind) (later_are later behind))

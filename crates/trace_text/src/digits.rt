@@ -77,18 +77,8 @@ pub(crate) fn three_decimals(number: u64) -> [u8; 3]
     ensures { result ≡ decimal 3 number }
 {
     let last = (number % 1_000) as u32;
-    [
-        decimal_digit(last / 100),
-        decimal_digit(last / 10),
-        decimal_digit(last),
-    ]
-}
-
-/// The last decimal digit of a number.
-fn decimal_digit(number: u32) -> u8
-    ensures { result ≡ digit (number % 10) }
-{
-    DIGITS[(number % 10) as usize]
+    let [b, c] = two_decimals(last % 100);
+    [hexadecimal_digit((last / 100) as u8), b, c]
 }
 
 /// The two digits of a byte.

@@ -2,10 +2,12 @@
 ghost use Rattle.uds_exchange.specs.ItemSeen.{item_value};
 ghost use Rattle.trace_text.specs.ListText.{item_line, list_text, worded_line};
 
+use crate::bytes::Bytes;
 use crate::item_objects::say_object_line;
 use crate::item_style::{ItemStyle, Numbering};
+use crate::named::{Code, Sender, Service};
 use crate::notation::Notation;
-use crate::values::{Bytes, Code, Number, Sender, Service};
+use crate::numbers::Number;
 use text_parts::{Part, say};
 use trace_io::TextSink;
 use uds_exchange::{Item, Meaning};

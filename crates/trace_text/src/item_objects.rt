@@ -1,10 +1,13 @@
-//! The items of a meaning as objects of JSON.
+//! The items of a meaning as objects of JSON. What is said at once goes from one value to the next, quotes included, since
+//! each piece more takes longer to say.
 ghost use Rattle.uds_exchange.specs.ItemSeen.{item_value};
 ghost use Rattle.trace_text.specs.Json.{object, object_line, value_text};
 ghost use Rattle.trace_text.specs.ListText.{item_object};
 
+use crate::bytes::Bytes;
 use crate::item_style::Numbering;
-use crate::values::{Bytes, Code, Number, Sender, Service};
+use crate::named::{Code, Sender, Service};
+use crate::numbers::Number;
 use text_parts::{Part, say};
 use trace_io::TextSink;
 use uds_exchange::Item;
@@ -14,7 +17,12 @@ use uds_message::{is_negative_response, is_suppressing, response_code, sid};
 pub fn say_item_object<S: TextSink>(number: u64, numbering: Numbering, item: Item<'_>, out: &mut S)
     ensures { S.says out.old (value_text (object (item_object numbering number (item_value item.entry)))) out.new }
 {
-    say(out, (OpenObject(number, numbering, item), "\"}"));
+    let open = OpenObject {
+        number,
+        numbering,
+        item,
+    };
+    say(out, (open, "\"}"));
 }
 
 /// Says the line of the object.
@@ -26,39 +34,54 @@ pub(crate) fn say_object_line<S: TextSink>(
 )
     ensures { S.says out.old (object_line (item_object numbering number (item_value item.entry))) out.new }
 {
-    say(out, (OpenObject(number, numbering, item), "\"}\n"));
+    let open = OpenObject {
+        number,
+        numbering,
+        item,
+    };
+    say(out, (open, "\"}\n"));
 }
 
 /// The object up to the quote and the brace that end it, whatever the item is.
 #[derive(Clone, Copy)]
-struct OpenObject<'a>(u64, Numbering, Item<'a>);
+struct OpenObject<'a> {
+    number: u64,
+    numbering: Numbering,
+    item: Item<'a>,
+}
 
 impl<'a> Part for OpenObject<'a> {
     ghost use Rattle.uds_exchange.specs.ItemSeen.{item_value};
     ghost use Rattle.trace_text.specs.proving.OpenItems.{open_object};
 
-    ghost text = { λ object. open_object object.1 object.0 (item_value object.2) };
+    ghost text = { λ object. open_object object.numbering object.number (item_value object.item) };
 
     #[inline(never)]
     fn say<S: TextSink>(self, out: &mut S) {
-        let OpenObject(number, numbering, item) = self;
-        say(out, (Front(number, numbering), OpenItem(item)));
+        let front = Front {
+            number: self.number,
+            numbering: self.numbering,
+        };
+        say(out, (front, OpenItem(self.item)));
     }
 }
 
 /// The front of the object, with the number where it is shown, up to the word of its kind.
 #[derive(Clone, Copy)]
-struct Front(u64, Numbering);
+struct Front {
+    number: u64,
+    numbering: Numbering,
+}
 
 impl Part for Front {
     ghost use Rattle.trace_text.specs.proving.OpenItems.{front_of_item};
 
-    ghost text = { λ front. front_of_item front.1 front.0 };
+    ghost text = { λ front. front_of_item front.numbering front.number };
 
     #[inline(always)]
     fn say<S: TextSink>(self, out: &mut S) {
-        match self.1 {
-            Numbering::Shown => say(out, ("{\"item\":", Number(self.0), ",\"kind\":\"")),
+        match self.numbering {
+            Numbering::Shown => say(out, ("{\"item\":", Number(self.number), ",\"kind\":\"")),
             Numbering::Hidden => say(out, "{\"kind\":\""),
         }
     }
@@ -84,7 +107,7 @@ impl<'a> Part for OpenItem<'a> {
                     Service(sid(request)),
                     "\",\"request\":\"",
                     Bytes(request),
-                    OpenOutcome(request, answer),
+                    OpenOutcome { request, answer },
                 ),
             ),
             Item::Stray { dir, bytes } => say(
@@ -102,18 +125,21 @@ impl<'a> Part for OpenItem<'a> {
 
 /// What came of a request, from the quote behind it on.
 #[derive(Clone, Copy)]
-struct OpenOutcome<'a>(&'a [u8], Option<&'a [u8]>);
+struct OpenOutcome<'a> {
+    request: &'a [u8],
+    answer: Option<&'a [u8]>,
+}
 
 impl<'a> Part for OpenOutcome<'a> {
     ghost use Rattle.std.specs.Prelude.{option_map};
     ghost use Rattle.trace_text.specs.proving.OpenItems.{open_outcome};
 
-    ghost text = { λ outcome. open_outcome outcome.0.now (option_map (λ reply. reply.now) outcome.1) };
+    ghost text = { λ outcome. open_outcome outcome.request.now (option_map (λ reply. reply.now) outcome.answer) };
 
     #[inline(always)]
     fn say<S: TextSink>(self, out: &mut S) {
-        match self.1 {
-            None if is_suppressing(self.0) => say(out, "\",\"outcome\":\"silent"),
+        match self.answer {
+            None if is_suppressing(self.request) => say(out, "\",\"outcome\":\"silent"),
             None => say(out, "\",\"outcome\":\"unanswered"),
             Some(reply) => say(out, OpenAnswer(reply)),
         }

@@ -1,18 +1,17 @@
 //! A line that explains a log, in words or as an object.
-ghost use Rattle.std.specs.Prelude.{◌++◌, codes};
-ghost use Rattle.trace_text.specs.ExplainText.{counts_text, reason_line, remark_line, remark_text, summary_line};
+ghost use Rattle.trace_text.specs.ExplainText.{counts_text, remark_line, remark_text, summary_line};
 ghost use Rattle.trace_log.specs.Summing.{seen_counts};
 ghost use Rattle.trace_text.specs.declared.remark.Remark.TheVariants as remark;
 
+use crate::named::{DropReason, EndCause, Sender};
 use crate::notation::Notation;
+use crate::numbers::{Length, Number};
 use crate::remark::Remark;
 use crate::remark_objects::say_remark_object;
-use crate::say::{
-    say_cause, say_counts, say_digit, say_direction, say_layout_fault, say_length, say_number,
-    say_text,
-};
+use crate::say::say_counts;
 use direction::Dir;
 use isotp_receive::{Ended, Reason};
+use text_parts::{Part, say};
 use trace_io::TextSink;
 use trace_log::{Count, Summary};
 
@@ -45,17 +44,23 @@ fn say_remark_line<S: TextSink>(told: Remark, out: &mut S)
 fn say_ended_line<S: TextSink>(line: u64, ended: Ended, out: &mut S)
     ensures { S.says out.old (remark_line (remark.Ended line ended)) out.new }
 {
-    say_text(out, "line ");
-    say_number(out, line);
-    say_text(out, ": ");
-    say_direction(out, ended.dir);
-    say_text(out, " reception from line ");
-    say_number(out, ended.begun_line);
-    say_text(out, " of ");
-    say_length(out, ended.len);
-    say_text(out, " bytes ended: ");
-    say_cause(out, ended.cause);
-    say_text(out, "\n");
+    let reception = Reception {
+        dir: ended.dir,
+        line: ended.begun_line,
+        len: ended.len,
+    };
+    say(
+        out,
+        (
+            "line ",
+            Number(line),
+            ": ",
+            reception,
+            "ended: ",
+            EndCause(ended.cause),
+            "\n",
+        ),
+    );
 }
 
 /// Says the line of a dropped frame.
@@ -63,40 +68,17 @@ fn say_ended_line<S: TextSink>(line: u64, ended: Ended, out: &mut S)
 fn say_dropped_line<S: TextSink>(line: u64, dir: Dir, reason: Reason, out: &mut S)
     ensures { S.says out.old (remark_line (remark.Dropped line dir reason)) out.new }
 {
-    say_text(out, "line ");
-    say_number(out, line);
-    say_text(out, ": ");
-    say_direction(out, dir);
-    say_reason(reason, out);
-}
-
-/// Says that a frame was dropped and why, to the end of its line.
-fn say_reason<S: TextSink>(reason: Reason, out: &mut S)
-    ensures { S.says out.old (codes " frame dropped: " ++ reason_line reason) out.new }
-{
-    match reason {
-        Reason::Pdu(fault) => {
-            say_text(out, " frame dropped: ");
-            say_layout_fault(out, fault);
-            say_text(out, "\n");
-        }
-        Reason::FlowUnexpected => say_text(out, " frame dropped: flow control unexpected\n"),
-        Reason::NextUnexpected => say_text(out, " frame dropped: consecutive frame unexpected\n"),
-        Reason::NextLate => say_text(out, " frame dropped: consecutive frame late\n"),
-        Reason::NextSequence { expected, found } => {
-            say_text(out, " frame dropped: sequence number ");
-            say_digit(out, expected);
-            say_text(out, " expected, ");
-            say_digit(out, found);
-            say_text(out, " found\n");
-        }
-        Reason::NextLength => say_text(out, " frame dropped: consecutive frame length\n"),
-        Reason::TooLong { announced } => {
-            say_text(out, " frame dropped: ");
-            say_length(out, announced);
-            say_text(out, " bytes announced\n");
-        }
-    }
+    say(
+        out,
+        (
+            "line ",
+            Number(line),
+            ": ",
+            Sender(dir),
+            " frame dropped: ",
+            (DropReason(reason), "\n"),
+        ),
+    );
 }
 
 /// Says the line of a reception that stands at the end.
@@ -104,13 +86,35 @@ fn say_reason<S: TextSink>(reason: Reason, out: &mut S)
 fn say_unfinished_line<S: TextSink>(dir: Dir, line: u64, len: u32, out: &mut S)
     ensures { S.says out.old (remark_line (remark.Unfinished dir line len)) out.new }
 {
-    say_text(out, "end: ");
-    say_direction(out, dir);
-    say_text(out, " reception from line ");
-    say_number(out, line);
-    say_text(out, " of ");
-    say_length(out, len);
-    say_text(out, " bytes unfinished\n");
+    say(out, ("end: ", Reception { dir, line, len }, "unfinished\n"));
+}
+
+/// A reception: its direction, the line of its first frame, and the bytes that this announced.
+#[derive(Clone, Copy)]
+struct Reception {
+    dir: Dir,
+    line: u64,
+    len: u32,
+}
+
+impl Part for Reception {
+    ghost use Rattle.trace_text.specs.ExplainText.{reception_text};
+
+    ghost text = { λ told. reception_text told.dir told.line told.len };
+
+    fn say<S: TextSink>(self, out: &mut S) {
+        say(
+            out,
+            (
+                Sender(self.dir),
+                " reception from line ",
+                Number(self.line),
+                " of ",
+                Length(self.len),
+                " bytes ",
+            ),
+        );
+    }
 }
 
 /// Says the line of the counts.
@@ -119,7 +123,7 @@ fn say_summary_line<S: TextSink>(summary: &Summary, out: &mut S)
     ensures { S.says out.old (summary_line summary.now) out.new }
 {
     say_counts_words(&summary.named(), out);
-    say_text(out, "\n");
+    say(out, "\n");
 }
 
 /// Says counts, each but the first behind a space.

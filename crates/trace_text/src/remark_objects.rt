@@ -1,16 +1,15 @@
 //! What explains a log as objects of JSON.
-ghost use Rattle.std.specs.Prelude.{◌++◌, codes};
-ghost use Rattle.trace_text.specs.ExplainText.{reason_members, remark_members};
+ghost use Rattle.trace_text.specs.ExplainText.{remark_members};
 ghost use Rattle.trace_text.specs.Json.{object_line};
 ghost use Rattle.trace_text.specs.declared.remark.Remark.TheVariants as remark;
-ghost use Rattle.trace_text.specs.proving.Spelling.{later_then};
 
+use crate::named::{DropReason, EndCause, Sender};
+use crate::numbers::{Length, Number};
 use crate::remark::Remark;
-use crate::say::{
-    say_cause, say_counts, say_direction, say_layout_fault, say_length, say_number, say_text,
-};
+use crate::say::say_counts;
 use direction::Dir;
 use isotp_receive::{Ended, Reason};
+use text_parts::{Part, say};
 use trace_io::TextSink;
 use trace_log::Summary;
 
@@ -32,17 +31,18 @@ pub(crate) fn say_remark_object<S: TextSink>(told: Remark, out: &mut S)
 fn say_ended_object<S: TextSink>(line: u64, ended: Ended, out: &mut S)
     ensures { S.says out.old (object_line (remark_members (remark.Ended line ended))) out.new }
 {
-    say_text(out, "{\"line\":");
-    say_number(out, line);
-    say_text(out, ",\"event\":\"ended\",\"direction\":\"");
-    say_direction(out, ended.dir);
-    say_text(out, "\",\"begun_line\":");
-    say_number(out, ended.begun_line);
-    say_text(out, ",\"length\":");
-    say_length(out, ended.len);
-    say_text(out, ",\"cause\":\"");
-    say_cause(out, ended.cause);
-    say_text(out, "\"}\n");
+    say(
+        out,
+        (
+            ("{\"line\":", Number(line)),
+            ",\"event\":\"ended\"",
+            (",\"direction\":\"", Sender(ended.dir), "\""),
+            (",\"begun_line\":", Number(ended.begun_line)),
+            (",\"length\":", Length(ended.len)),
+            (",\"cause\":\"", EndCause(ended.cause), "\""),
+            "}\n",
+        ),
+    );
 }
 
 /// Says the object of a dropped frame.
@@ -50,42 +50,50 @@ fn say_ended_object<S: TextSink>(line: u64, ended: Ended, out: &mut S)
 fn say_dropped_object<S: TextSink>(line: u64, dir: Dir, reason: Reason, out: &mut S)
     ensures { S.says out.old (object_line (remark_members (remark.Dropped line dir reason))) out.new }
 {
-    say_text(out, "{\"line\":");
-    say_number(out, line);
-    say_text(out, ",\"event\":\"dropped\",\"direction\":\"");
-    say_direction(out, dir);
-    say_reason_members(reason, out);
+    say(
+        out,
+        (
+            ("{\"line\":", Number(line)),
+            ",\"event\":\"dropped\"",
+            (",\"direction\":\"", Sender(dir), "\""),
+            ReasonMembers(reason),
+            "}\n",
+        ),
+    );
 }
 
-/// Says why a frame was dropped, from the quote behind its direction to the end of its line.
-fn say_reason_members<S: TextSink>(reason: Reason, out: &mut S)
-    ensures { S.says out.old (codes "\"" ++ later_then (reason_members reason) (codes "}\n")) out.new }
-{
-    match reason {
-        Reason::Pdu(fault) => {
-            say_text(out, "\",\"reason\":\"");
-            say_layout_fault(out, fault);
-            say_text(out, "\"}\n");
-        }
-        Reason::FlowUnexpected => {
-            say_text(out, "\",\"reason\":\"flow control unexpected\"}\n");
-        }
-        Reason::NextUnexpected => {
-            say_text(out, "\",\"reason\":\"consecutive frame unexpected\"}\n");
-        }
-        Reason::NextLate => say_text(out, "\",\"reason\":\"consecutive frame late\"}\n"),
-        Reason::NextSequence { expected, found } => {
-            say_text(out, "\",\"reason\":\"sequence number\",\"expected\":");
-            say_number(out, u64::from(expected));
-            say_text(out, ",\"found\":");
-            say_number(out, u64::from(found));
-            say_text(out, "}\n");
-        }
-        Reason::NextLength => say_text(out, "\",\"reason\":\"consecutive frame length\"}\n"),
-        Reason::TooLong { announced } => {
-            say_text(out, "\",\"reason\":\"bytes announced\",\"announced\":");
-            say_length(out, announced);
-            say_text(out, "}\n");
+/// Why a frame was dropped, with the numbers apart from the words.
+#[derive(Clone, Copy)]
+struct ReasonMembers(Reason);
+
+impl Part for ReasonMembers {
+    ghost use Rattle.trace_text.specs.ExplainText.{reason_members};
+    ghost use Rattle.trace_text.specs.Json.{later_text};
+
+    ghost text = { λ why. later_text (reason_members why.0) };
+
+    fn say<S: TextSink>(self, out: &mut S) {
+        match self.0 {
+            Reason::NextSequence { expected, found } => say(
+                out,
+                (
+                    ",\"reason\":\"sequence number\"",
+                    (",\"expected\":", Number(u64::from(expected))),
+                    (",\"found\":", Number(u64::from(found))),
+                ),
+            ),
+            Reason::TooLong { announced } => say(
+                out,
+                (
+                    ",\"reason\":\"bytes announced\"",
+                    (",\"announced\":", Length(announced)),
+                ),
+            ),
+            Reason::Pdu(_)
+            | Reason::FlowUnexpected
+            | Reason::NextUnexpected
+            | Reason::NextLate
+            | Reason::NextLength => say(out, (",\"reason\":\"", DropReason(self.0), "\"")),
         }
     }
 }
@@ -95,13 +103,16 @@ fn say_reason_members<S: TextSink>(reason: Reason, out: &mut S)
 fn say_unfinished_object<S: TextSink>(dir: Dir, line: u64, len: u32, out: &mut S)
     ensures { S.says out.old (object_line (remark_members (remark.Unfinished dir line len))) out.new }
 {
-    say_text(out, "{\"event\":\"unfinished\",\"direction\":\"");
-    say_direction(out, dir);
-    say_text(out, "\",\"begun_line\":");
-    say_number(out, line);
-    say_text(out, ",\"length\":");
-    say_length(out, len);
-    say_text(out, "}\n");
+    say(
+        out,
+        (
+            "{\"event\":\"unfinished\"",
+            (",\"direction\":\"", Sender(dir), "\""),
+            (",\"begun_line\":", Number(line)),
+            (",\"length\":", Length(len)),
+            "}\n",
+        ),
+    );
 }
 
 /// Says the object of the counts.
@@ -109,7 +120,7 @@ fn say_unfinished_object<S: TextSink>(dir: Dir, line: u64, len: u32, out: &mut S
 fn say_summary_object<S: TextSink>(summary: &Summary, out: &mut S)
     ensures { S.says out.old (object_line (remark_members (remark.Counts summary.now))) out.new }
 {
-    say_text(out, "{\"event\":\"counts\"");
+    say(out, "{\"event\":\"counts\"");
     say_counts(out, ",\"", "\":", &summary.named());
-    say_text(out, "}\n");
+    say(out, "}\n");
 }

@@ -6,7 +6,7 @@ use Rattle.std.proofs.lemmas.Bool.{cases_Bool}
 use Rattle.std.proofs.lemmas.Option.{same_Some, none-some}
 use Rattle.direction.specs.Dir.{Message}
 use Rattle.direction.specs.declared.Dir.{Dir}
-use Rattle.uds_exchange.specs.Decided.{decided_in, decided, unanswered_items}
+use Rattle.uds_exchange.specs.Decided.{decided_in, decided, exchange_items}
 use Rattle.uds_exchange.specs.Decider.{DeciderValue, decides_after, AreDecidedBy, IsKept}
 use Rattle.uds_exchange.specs.Laws.{open_with, DecidedThenUndecided, DecidedGrows, UndecidedMustWait}
 use Rattle.uds_exchange.specs.Meaning.{ItemValue, exchange, stray, stray_of, is_tester_request, is_answer_to, is_pending_reply_to, meaning, flattened}
@@ -33,7 +33,7 @@ strays-again (exchange r a ∷ its) none = cc
 strays-again (stray d m ∷ its) none = ap (λ l. stray d m ∷ l) (strays-again its none)
 
 -- what is decided and then what is not are all items
-whole : (its : List ItemValue) → decided_in its ++ unanswered_items (open_request_in its) (held_in its) ≡ its
+whole : (its : List ItemValue) → decided_in its ++ exchange_items (open_request_in its) None (held_in its) ≡ its
 whole [] = refl
 whole (stray d m ∷ its) = ap (λ l. stray d m ∷ l) (whole its)
 whole (exchange r (Some a) ∷ its) = ap (λ l. exchange r (Some a) ∷ l) (whole its)
@@ -58,7 +58,7 @@ one_later-none (Some w) h = cc
 decided-all : (its : List ItemValue) → waiting its ≡ None → decided_in its ≡ its
 decided-all its h =
     let none : open_request_in its ≡ None = open-request-waits its ∙ ap request_of h in
-    sym (append-nil (decided_in its)) ∙ ap (λ o. decided_in its ++ unanswered_items o (held_in its)) (sym none) ∙ whole its
+    sym (append-nil (decided_in its)) ∙ ap (λ o. decided_in its ++ exchange_items o None (held_in its)) (sym none) ∙ whole its
 
 decided-stray : (its : List ItemValue) (d : Dir) (m : List ℕ) → waiting its ≡ None → decided_in (its ++ stray d m ∷ []) ≡ its ++ stray d m ∷ []
 decided-stray [] d m h = refl
@@ -129,7 +129,7 @@ joined its x (Some w) r h =
 more : (its : List ItemValue) (x : Message) → decided_in (join its x) ≡ decided_in its ++ items_by (standing (waiting its) (held_in its)) x
 more its x =
     elim (cases_Bool (is_tester_request x)) [
-      | inl e ↦ rw e (decided-request its x.1 ∙ sym (whole its) ∙ ap (λ o. decided_in its ++ unanswered_items o (held_in its)) (open-request-waits its))
+      | inl e ↦ rw e (decided-request its x.1 ∙ sym (whole its) ∙ ap (λ o. decided_in its ++ exchange_items o None (held_in its)) (open-request-waits its))
       | inr e ↦ (ap decided_in (let by : join its x ≡ join_by (waiting its) its x = rw e refl in by) ∙ joined its x (waiting its) e refl)
     ]
 
@@ -212,6 +212,6 @@ undecided_must_wait M request open_one =
     let closed : open_request (M ++ x ∷ []) ≡ None = open_request_goes_on M x ∙ ap (λ o. open_with o x) open_one ∙ rw answers refl in
     let now : items_by (decides_after M) x ≡ exchange request (Some x.1) ∷ map stray_of (held M) = rw (open_one, answers) refl in
     sym (decided_then_undecided (M ++ x ∷ []))
-    ∙ ap (λ o. decided (M ++ x ∷ []) ++ unanswered_items o (held (M ++ x ∷ []))) closed
+    ∙ ap (λ o. decided (M ++ x ∷ []) ++ exchange_items o None (held (M ++ x ∷ []))) closed
     ∙ append-nil (decided (M ++ x ∷ []))
     ∙ decided-by M x (decides_after M) refl ∙ ap (λ l. decided M ++ l) now

@@ -14,9 +14,10 @@ use Rattle.uds_exchange.specs.WaitingExchange.{waiting, waiting_sid}
 use Rattle.uds_exchange.specs.proving.Pairing.{join_for, join_by, join}
 use Rattle.uds_exchange.specs.OneMessage.{step_of}
 use Rattle.uds_exchange.specs.proving.Steps.{Standing, standing_after, stand_for}
-use Rattle.uds_exchange.specs.Judging.{step_after, number_by, number_after, items_with, waiting_number, waits_with, IsOpenSid, HasJudged, advanced, number_in}
+use Rattle.uds_exchange.specs.Judging.{step_after, number_by, number_after, items_with, waiting_number, waits_with, IsOpenSid, HasJudged}
 use Rattle.uds_exchange.specs.declared.judge.Judge.{Judge}
-use Rattle.uds_exchange.specs.Exchanged.{is_tester_response, is_unit_request, noted, sides_of}
+use Rattle.uds_exchange.specs.Exchanged.{is_tester_response, is_unit_non_response, sides_of}
+use Rattle.uds_exchange.specs.proving.Judging.{advanced, noted, number_in}
 use Rattle.uds_exchange.specs.declared.sides.Sides.{Sides}
 use Rattle.uds_exchange.specs.declared.step.Step.{Step}
 use Rattle.uds_exchange.specs.declared.step.Step.TheVariants as step
@@ -135,7 +136,7 @@ sides-next : (M : List Message) (x : Message) → noted x (sides_of M) ≡ sides
 sides-next M x =
     let any-next : (is_so : Message → Bool) → (list_any is_so M || is_so x) ≡ list_any is_so (M ++ x ∷ []) = λ is_so.
     sym (list_any-append is_so M (x ∷ []) ∙ ap (λ b. list_any is_so M || b) (or-false (is_so x))) in
-    rw (sym (any-next is_tester_request), sym (any-next is_tester_response), sym (any-next is_unit_request)) refl
+    rw (sym (any-next is_tester_request), sym (any-next is_tester_response), sym (any-next is_unit_non_response)) refl
 
 next-by : (s : Step) (M : List Message) (x : Message) (judge : Judge) (seen : Sides) → length M < 2 ^ 62 → HasJudged M judge
     → standing_after (M ++ x ∷ []) ≡ stand_for s (standing_after M) x → length (meaning (M ++ x ∷ [])) ≡ items_with s (length (meaning M))

@@ -1,10 +1,15 @@
 -- Results, by their variants.
-use Rattle.std.proofs.Common.{◌≡◌, Result, Ok, Err, IfErr, OnOk, OnErr, sym, subst, ◌∙◌}
+use Rattle.std.proofs.Common.{◌≡◌, Result, Ok, Err, IfOk, IfErr, OnOk, OnErr, sym, subst, ◌∙◌}
 use Rattle.std.specs.Prelude.{IsErrAnd}
 
 pub if_err_along : {T E : Type 0} (r : Result T E) (P Q : E → Type 0) → ((e : E) → P e → Q e) → IfErr r P → IfErr r Q
 if_err_along (Ok x) P Q f h = tt
 if_err_along (Err e) P Q f h = f e h
+
+-- what follows from two facts of a result that went well
+pub if_ok_by : {T E : Type 0} (r : Result T E) (B : Type 0) (P Q : T → Type 0) → (B → (x : T) → P x → Q x) → OnOk r B → IfOk r P → IfOk r Q
+if_ok_by (Ok x) B P Q f b p = f b x p
+if_ok_by (Err e) B P Q f b p = tt
 
 pub on_ok_along : {T E : Type 0} (r : Result T E) (P Q : Type 0) → (P → Q) → OnOk r P → OnOk r Q
 on_ok_along (Ok x) P Q f h = f h

@@ -15,11 +15,11 @@ decided_in (exchange request None ∷ later) = if has_exchange later then exchan
 abbrev pub decided : List Message → List ItemValue
 decided M = decided_in (meaning M)
 
--- a request that waits for its answer, as an exchange without one, and these messages as strays after it
-abbrev pub unanswered_items : Option (List ℕ) → List Message → List ItemValue
-unanswered_items None holds = []
-unanswered_items (Some request) holds = exchange request None ∷ map stray_of holds
+-- a request that waits for its answer, as an exchange with this one, if there is one, and these messages as strays after it
+abbrev pub exchange_items : Option (List ℕ) → Option (List ℕ) → List Message → List ItemValue
+exchange_items None reply holds = []
+exchange_items (Some request) reply holds = exchange request reply ∷ map stray_of holds
 
 -- the items that are not: the exchange of the open request, and the strays after it
 abbrev pub undecided : List Message → List ItemValue
-undecided M = unanswered_items (open_request M) (held M)
+undecided M = exchange_items (open_request M) None (held M)

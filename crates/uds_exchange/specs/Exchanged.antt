@@ -1,6 +1,6 @@
 -- Whether tester and unit look exchanged, by the messages alone: bit 6 of a service identifier tells those of responses
 -- from those of requests (ISO 14229-1, service identifier values).
-use Rattle.std.specs.Prelude.{Bool, not, ◌&&◌, ◌||◌, List}
+use Rattle.std.specs.Prelude.{Bool, not, ◌&&◌, List}
 use Rattle.std.specs.List.{list_any}
 use Rattle.direction.specs.Dir.{Message}
 use Rattle.uds_message.specs.Message.{is_response_sid, sid}
@@ -12,35 +12,18 @@ abbrev pub is_tester_response : Message → Bool
 is_tester_response message = is_from_tester message.0 && is_response_sid (sid message.1)
 
 -- a message of the unit without one
-abbrev pub is_unit_request : Message → Bool
-is_unit_request message = not (is_from_tester message.0) && not (is_response_sid (sid message.1))
+abbrev pub is_unit_non_response : Message → Bool
+is_unit_non_response message = not (is_from_tester message.0) && not (is_response_sid (sid message.1))
 
 -- Tester and unit look exchanged: there is no request among the messages, and the tester sent a response, and the unit
 -- what is none.
 abbrev pub look_exchanged : List Message → Bool
-look_exchanged M = not (list_any is_tester_request M) && (list_any is_tester_response M && list_any is_unit_request M)
+look_exchanged M = not (list_any is_tester_request M) && (list_any is_tester_response M && list_any is_unit_non_response M)
 
--- Devices of proof: the three facts as they are gathered.
-
--- of these messages
+-- the three facts of these messages
 abbrev pub sides_of : List Message → Sides
 sides_of M = record {
   asked = list_any is_tester_request M;
   tester_responds = list_any is_tester_response M;
-  unit_asks = list_any is_unit_request M;
-}
-
--- with one more message that is no request
-abbrev pub noted_other : Message → Sides → Sides
-noted_other message sides = record sides {
-  tester_responds = sides.tester_responds || is_tester_response message;
-  unit_asks = sides.unit_asks || is_unit_request message;
-}
-
--- with one more message
-abbrev pub noted : Message → Sides → Sides
-noted message sides = record {
-  asked = sides.asked || is_tester_request message;
-  tester_responds = sides.tester_responds || is_tester_response message;
-  unit_asks = sides.unit_asks || is_unit_request message;
+  unit_sends_other = list_any is_unit_non_response M;
 }

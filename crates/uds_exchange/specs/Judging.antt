@@ -87,24 +87,6 @@ abbrev pub IsJudgedOf : List Message → List Message → Option Judged → Type
 IsJudgedOf M told None = told ≡ []
 IsJudgedOf M told (Some judged) = (told ≡ sent judged ∷ []) × IsJudgedAfter M judged × (judged.item ≡ number_after M (sent judged))
 
--- Devices of proof: what the code makes of it with one more message.
-
 -- a count that stays at the largest number of 64 bits
 abbrev pub one_more : ℕ → ℕ
 one_more n = min (n + 1) 18446744073709551615
-
--- what is kept, after a message of which this becomes
-abbrev pub advanced : Step → Judge → Judge
-advanced (step.Request service) judge = record judge { open_sid = Some service; items = one_more judge.items; held_count = 0 }
-advanced step.Answer judge = record judge { open_sid = None; held_count = 0 }
-advanced step.Removed judge = record judge { removed = one_more judge.removed }
-advanced step.Hold judge = record judge { items = one_more judge.items; held_count = one_more judge.held_count }
-advanced step.Pass judge = record judge { items = one_more judge.items }
-
--- the number of its item
-abbrev pub number_in : Step → Judge → ℕ
-number_in (step.Request service) judge = one_more judge.items
-number_in step.Answer judge = judge.items - judge.held_count
-number_in step.Removed judge = judge.items - judge.held_count
-number_in step.Hold judge = one_more judge.items
-number_in step.Pass judge = one_more judge.items

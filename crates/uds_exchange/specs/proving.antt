@@ -1,4 +1,5 @@
 -- Devices of proof, apart from the definitions that the promises are made of.
+pub mod Judging
 pub mod Pairing
 pub mod Steps
 pub mod Deciding

@@ -3,11 +3,11 @@
 ghost use Rattle.std.specs.Prelude.{◌≡◌, ◌++◌, ◌∷◌, [], List, OnOk, OnErr, IfOk, map, option_map};
 ghost use Rattle.direction.specs.Dir.{Message};
 ghost use Rattle.uds_exchange.specs.Meaning.{stray_of};
-ghost use Rattle.uds_exchange.specs.Decided.{undecided, unanswered_items};
+ghost use Rattle.uds_exchange.specs.Decided.{exchange_items, undecided};
 ghost use Rattle.uds_exchange.specs.Decider.{decides_after, PutsDecided, IsKept};
 ghost use Rattle.uds_exchange.specs.ItemSink.{PutsItems};
 ghost use Rattle.uds_exchange.specs.Judging.{IsJudgedAfter, sent};
-ghost use Rattle.uds_exchange.specs.proving.Deciding.{answered_items, items_for, keep_for, Refuses};
+ghost use Rattle.uds_exchange.specs.proving.Deciding.{items_for, keep_for, Refuses};
 
 use crate::held::HeldMessages;
 use crate::item::Item;
@@ -76,7 +76,7 @@ impl Decider {
             request,
             held,
         } = self;
-        put_unanswered(&request, &held, sink);
+        put_exchange(&request, None, &held, sink);
     }
 
     /// Takes one more message, by what becomes of it and what is kept alone.
@@ -91,13 +91,13 @@ impl Decider {
         match message.step {
             Step::Request(_) => {
                 let request = copy(self.alloc, bytes)?;
-                put_unanswered(&self.request, &self.held, sink);
+                put_exchange(&self.request, None, &self.held, sink);
                 self.request = Some(request);
                 self.held.clear();
                 Ok(())
             }
             Step::Answer => {
-                put_answered(&self.request, bytes, &self.held, sink);
+                put_exchange(&self.request, Some(bytes), &self.held, sink);
                 self.request = None;
                 self.held.clear();
                 Ok(())
@@ -112,32 +112,19 @@ impl Decider {
     }
 }
 
-/// Puts the exchange of a request that waits, with its answer, and the strays behind it.
-fn put_answered<S: ItemSink>(
+/// Puts the exchange of a request that waits, with its answer, if it has one, and the strays behind it.
+fn put_exchange<S: ItemSink>(
     request: &Option<Vec<u8>>,
-    answer: &[u8],
+    answer: Option<&[u8]>,
     held: &HeldMessages,
     sink: &mut S,
 )
-    ensures { PutsItems S.takes sink.old (answered_items (option_map (λ bytes. bytes.items) request.now) answer.now held.now) sink.new }
+    ensures { PutsItems S.takes sink.old (exchange_items (option_map (λ bytes. bytes.items) request.now) (option_map (λ bytes. bytes.now) answer.entry) held.now) sink.new }
 {
     if let Some(request) = request {
         sink.put(Item::Exchange {
             request: request.as_slice(),
-            answer: Some(answer),
-        });
-        put_strays(held, sink);
-    }
-}
-
-/// Puts the exchange of a request that waits, without an answer, and the strays behind it.
-fn put_unanswered<S: ItemSink>(request: &Option<Vec<u8>>, held: &HeldMessages, sink: &mut S)
-    ensures { PutsItems S.takes sink.old (unanswered_items (option_map (λ bytes. bytes.items) request.now) held.now) sink.new }
-{
-    if let Some(request) = request {
-        sink.put(Item::Exchange {
-            request: request.as_slice(),
-            answer: None,
+            answer,
         });
         put_strays(held, sink);
     }
@@ -148,9 +135,9 @@ fn put_strays<S: ItemSink>(held: &HeldMessages, sink: &mut S)
     ensures { PutsItems S.takes sink.old (map stray_of held.now) sink.new }
 {
     let mut strays = StraySink { sink };
-    if let Err(_fault) = held.put_all(&mut strays) {
-        // A sink of items takes all that is put.
-        return;
+    match held.put_all(&mut strays) {
+        Ok(()) => {}
+        Err(fault) => match fault {},
     }
 }
 

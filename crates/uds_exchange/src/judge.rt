@@ -3,7 +3,8 @@
 ghost use Rattle.std.specs.Prelude.{◌≡◌, ◌^◌, ◌<◌, ◌++◌, ◌∷◌, [], List, length};
 ghost use Rattle.direction.specs.Dir.{Message};
 ghost use Rattle.uds_exchange.specs.Exchanged.{sides_of};
-ghost use Rattle.uds_exchange.specs.Judging.{HasJudged, IsJudgeOf, IsOpenSid, advanced, number_after, number_in, one_more, sent, step_after};
+ghost use Rattle.uds_exchange.specs.Judging.{HasJudged, IsJudgeOf, IsOpenSid, number_after, one_more, sent, step_after};
+ghost use Rattle.uds_exchange.specs.proving.Judging.{advanced, number_in};
 
 use crate::sides::Sides;
 use crate::step::{Step, step_of};
@@ -25,15 +26,15 @@ pub struct Judged<'a> {
 #[derive(Clone, Copy, Debug)]
 pub struct Judge {
     /// The first byte of the last request, where that waits for its answer.
-    pub open_sid: Option<u8>,
+    pub(crate) open_sid: Option<u8>,
     /// How many items there are.
-    pub items: u64,
+    items: u64,
     /// How many of them are strays behind a request that waits.
-    pub held_count: u64,
+    held_count: u64,
     /// How many replies were left out.
-    pub removed: u64,
+    removed: u64,
     /// What tells whether tester and unit are exchanged.
-    pub sides: Sides,
+    sides: Sides,
 }
 
 impl Judge {
@@ -50,7 +51,8 @@ impl Judge {
         }
     }
 
-    /// Judges one more message. Laid in line: what a call answers in memory is read by covering loads.
+    /// Judges one more message. Laid in line: what a call answers in memory is read by loads wider than its stores, for which
+    /// store-to-load forwarding fails.
     #[inline(always)]
     pub fn take<'a>(&mut self, dir: Dir, message: &'a [u8]) -> Judged<'a>
         ensures next { (M : List Message) → length M < 2 ^ 62 → HasJudged M self.old → HasJudged (M ++ (dir, message.now) ∷ []) self.new }
@@ -69,6 +71,20 @@ impl Judge {
             step,
             item,
         }
+    }
+
+    /// How many replies were left out.
+    pub fn removed(&self) -> u64
+        ensures { result ≡ self.now.removed }
+    {
+        self.removed
+    }
+
+    /// What tells whether tester and unit are exchanged.
+    pub fn sides(&self) -> Sides
+        ensures { result ≡ self.now.sides }
+    {
+        self.sides
     }
 
     /// Counts one more message by what becomes of it, and answers the number of its item.

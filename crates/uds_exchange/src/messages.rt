@@ -2,6 +2,7 @@
 
 ghost use Rattle.std.specs.Prelude.{◌≡◌, ◌<◌, ◌≤◌, ◌+◌, ◌++◌, ◌∷◌, [], ℕ, IsTrue, IfOk, OnOk, OnErr, length};
 ghost use Rattle.uds_exchange.specs.Blocks.{block_at, bytes_at, IsInside, Lays};
+ghost use Rattle.uds_exchange.specs.declared.messages.TheConstants.{LAST_START};
 ghost use Rattle.uds_exchange.specs.proving.Blocks.{block_bytes, IsSpan, MayGoOn};
 
 use std::alloc::{AllocError, Global};
@@ -65,7 +66,8 @@ impl Messages {
         requires { IsInside self.now span }
         ensures { result.now ≡ bytes_at self.now span }
     {
-        bytes_at(&self.first, self.later.as_slice(), span)
+        let start = span.start as usize;
+        &self.block(span.block)[start..start + span.len]
     }
 
     /// Keeps one message more, and answers where it lies. After an `Err` nothing has changed.
@@ -74,7 +76,12 @@ impl Messages {
         ensures laid { IfOk result (λ span. Lays self.old span message.now self.new) }
         ensures err { OnErr result (self.new ≡ self.old) }
     {
-        lay(&mut self.first, &mut self.later, &mut self.filling, message)
+        let number = self.filling;
+        if self.has_room(number, message.len()) {
+            self.lay_behind(number, message)
+        } else {
+            self.lay_anew(message)
+        }
     }
 
     /// Drops all messages, and keeps the memory of the first block.
@@ -85,99 +92,79 @@ impl Messages {
         self.later.clear();
         self.filling = 0;
     }
-}
 
-/// The bytes of a message.
-#[inline(always)]
-fn bytes_at<'a>(first: &'a Vec<u8>, later: &'a [Vec<u8>], span: Span) -> &'a [u8]
-    requires { IsInside (block_bytes (first.now ∷ later.now)) span }
-    ensures { result.now ≡ bytes_at (block_bytes (first.now ∷ later.now)) span }
-{
-    let start = span.start as usize;
-    &block_at(first, later, span.block)[start..start + span.len]
-}
-
-/// The bytes of a block.
-#[inline(always)]
-fn block_at<'a>(first: &'a Vec<u8>, later: &'a [Vec<u8>], number: u32) -> &'a [u8]
-    requires { number < length (block_bytes (first.now ∷ later.now)) }
-    ensures { result.now ≡ block_at (block_bytes (first.now ∷ later.now)) number }
-{
-    if number == 0 {
-        first.as_slice()
-    } else {
-        later[number as usize - 1].as_slice()
-    }
-}
-
-/// Lays a message into the block that is being filled, or where it has no room into a new one, and answers where. After an `Err`
-/// the bytes are as before.
-#[inline(always)]
-fn lay(
-    first: &mut Vec<u8>,
-    later: &mut Vec<Vec<u8>>,
-    filling: &mut u32,
-    message: &[u8],
-) -> Result<Span, AllocError>
-    ensures laid { IfOk result (λ span. Lays (block_bytes (first.old ∷ later.old.items)) span message.now (block_bytes (first.new ∷ later.new.items))) }
-    ensures err { OnErr result (block_bytes (first.new ∷ later.new.items) ≡ block_bytes (first.old ∷ later.old.items)) }
-{
-    if has_room(first, later.as_slice(), *filling, message.len()) {
-        lay_behind(first, later, *filling, message)
-    } else {
-        lay_anew(first, later, filling, message)
-    }
-}
-
-/// Whether the block has room for so many bytes more, so that it need not grow.
-#[inline(always)]
-fn has_room(first: &Vec<u8>, later: &[Vec<u8>], number: u32, len: usize) -> bool
-    ensures { IsTrue result → MayGoOn (block_bytes (first.now ∷ later.now)) number }
-{
-    if number == 0 {
-        fits(first, len)
-    } else {
-        match later.get(number as usize - 1) {
-            Some(block) => fits(block, len),
-            None => false,
+    /// The bytes of a block.
+    #[inline(always)]
+    fn block(&self, number: u32) -> &[u8]
+        requires { number < length self.now }
+        ensures { result.now ≡ block_at self.now number }
+    {
+        if number == 0 {
+            self.first.as_slice()
+        } else {
+            self.later[number as usize - 1].as_slice()
         }
+    }
+
+    /// Whether the block of this number has room for so many bytes more, so that it need not grow.
+    #[inline(always)]
+    fn has_room(&self, number: u32, len: usize) -> bool
+        ensures { IsTrue result → MayGoOn self.now number }
+    {
+        if number == 0 {
+            fits(&self.first, len)
+        } else {
+            match self.later.get(number as usize - 1) {
+                Some(block) => fits(block, len),
+                None => false,
+            }
+        }
+    }
+
+    /// Lays a message behind what is in the block of this number.
+    #[inline(always)]
+    fn lay_behind(&mut self, number: u32, message: &[u8]) -> Result<Span, AllocError>
+        requires { MayGoOn self.old number }
+        ensures laid { IfOk result (λ span. Lays self.old span message.now self.new) }
+        ensures err { OnErr result (self.new ≡ self.old) }
+    {
+        if number == 0 {
+            put(&mut self.first, number, message)
+        } else {
+            let block = &mut self.later[number as usize - 1];
+            put(block, number, message)
+        }
+    }
+
+    /// Lays a message into a new block, which is filled from then on, unless it has the length of a long message.
+    #[inline(never)]
+    fn lay_anew(&mut self, message: &[u8]) -> Result<Span, AllocError>
+        ensures laid { IfOk result (λ span. Lays self.old span message.now self.new) }
+        ensures err { OnErr result (self.new ≡ self.old) }
+    {
+        if self.first.is_empty() {
+            return begin(&mut self.first, message);
+        }
+        let span = push(&mut self.later, message)?;
+        if span.len <= LONG {
+            self.filling = span.block;
+        }
+        Ok(span)
     }
 }
 
 /// Whether so many bytes fit behind those of a block.
 #[inline(always)]
 fn fits(block: &Vec<u8>, len: usize) -> bool
-    ensures { IsTrue result → length block.now.items ≤ 65535 }
+    ensures { IsTrue result → length block.now.items ≤ LAST_START }
 {
     block.len() <= LAST_START && len <= block.capacity() - block.len()
-}
-
-/// Lays a message behind what is in the block.
-#[inline(always)]
-fn lay_behind(
-    first: &mut Vec<u8>,
-    later: &mut Vec<Vec<u8>>,
-    number: u32,
-    message: &[u8],
-) -> Result<Span, AllocError>
-    requires { MayGoOn (block_bytes (first.old ∷ later.old.items)) number }
-    ensures laid { IfOk result (λ span. Lays (block_bytes (first.old ∷ later.old.items)) span message.now (block_bytes (first.new ∷ later.new.items))) }
-    ensures err { OnErr result (block_bytes (first.new ∷ later.new.items) ≡ block_bytes (first.old ∷ later.old.items)) }
-{
-    if number == 0 {
-        let span = put(first, number, message)?;
-        Ok(span)
-    } else {
-        let block = &mut later[number as usize - 1];
-        let span = put(block, number, message)?;
-        Ok(span)
-    }
 }
 
 /// Puts a message behind what is in a block of this number.
 #[inline(always)]
 fn put(block: &mut Vec<u8>, number: u32, message: &[u8]) -> Result<Span, AllocError>
-    requires { length block.old.items ≤ 65535 }
+    requires { length block.old.items ≤ LAST_START }
     ensures bytes { OnOk result (block.new.items ≡ block.old.items ++ message.now) }
     ensures span { IfOk result (λ span. IsSpan span number (length block.old.items) (length message.now)) }
     ensures err { OnErr result (block.new.items ≡ block.old.items) }
@@ -190,31 +177,6 @@ fn put(block: &mut Vec<u8>, number: u32, message: &[u8]) -> Result<Span, AllocEr
         block: number,
         start,
     })
-}
-
-/// Lays a message into a new block, which is filled from then on, unless it has the length of a long message.
-#[inline(never)]
-fn lay_anew(
-    first: &mut Vec<u8>,
-    later: &mut Vec<Vec<u8>>,
-    filling: &mut u32,
-    message: &[u8],
-) -> Result<Span, AllocError>
-    ensures laid { IfOk result (λ span. Lays (block_bytes (first.old ∷ later.old.items)) span message.now (block_bytes (first.new ∷ later.new.items))) }
-    ensures err { OnErr result (block_bytes (first.new ∷ later.new.items) ≡ block_bytes (first.old ∷ later.old.items)) }
-{
-    if first.is_empty() {
-        let span = begin(first, message)?;
-        Ok(span)
-    } else {
-        let span = push(later, message)?;
-        *filling = if span.len > LONG {
-            *filling
-        } else {
-            span.block
-        };
-        Ok(span)
-    }
 }
 
 /// Lays a message into the first block, in new memory.

@@ -2,9 +2,10 @@
 
 ghost use Rattle.std.specs.Prelude.{◌≡◌, [], List, ℕ, Option};
 ghost use Rattle.direction.specs.Dir.{Message};
-ghost use Rattle.uds_exchange.specs.Exchanged.{noted, noted_other, sides_of};
+ghost use Rattle.uds_exchange.specs.Exchanged.{sides_of};
 ghost use Rattle.uds_exchange.specs.Exchanged as Spec;
 ghost use Rattle.uds_exchange.specs.OneMessage.{step_of};
+ghost use Rattle.uds_exchange.specs.proving.Judging.{noted, noted_other};
 
 use crate::step::Step;
 use direction::Dir;
@@ -18,7 +19,7 @@ pub struct Sides {
     /// The tester sent a message with the service identifier of a response.
     pub tester_responds: bool,
     /// The unit sent one without.
-    pub unit_asks: bool,
+    pub unit_sends_other: bool,
 }
 
 impl Sides {
@@ -29,11 +30,11 @@ impl Sides {
         Sides {
             asked: false,
             tester_responds: false,
-            unit_asks: false,
+            unit_sends_other: false,
         }
     }
 
-    /// Notes one more message, of which this becomes.
+    /// Notes one more message, and what becomes of it.
     #[inline(always)]
     pub(crate) fn note(&mut self, step: Step, dir: Dir, message: &[u8])
         ensures { (open_sid : Option ℕ) → step ≡ step_of open_sid (dir, message.now) → self.new ≡ noted (dir, message.now) self.old }
@@ -52,7 +53,7 @@ impl Sides {
         let responds = is_response_sid(sid(message));
         match dir {
             Dir::Tester => self.tester_responds = self.tester_responds || responds,
-            Dir::Unit => self.unit_asks = self.unit_asks || !responds,
+            Dir::Unit => self.unit_sends_other = self.unit_sends_other || !responds,
         }
     }
 
@@ -60,6 +61,6 @@ impl Sides {
     pub fn look_exchanged(&self) -> bool
         ensures { (M : List Message) → self.now ≡ sides_of M → result ≡ Spec.look_exchanged M }
     {
-        !self.asked && self.tester_responds && self.unit_asks
+        !self.asked && self.tester_responds && self.unit_sends_other
     }
 }

@@ -7,7 +7,7 @@ use direction::Dir;
 
 /// No fault: of a sink that takes all that is put.
 #[derive(Clone, Copy, Debug)]
-pub struct NoFault;
+pub enum NoFault {}
 
 /// What takes messages in order. An implementation says by two ghost members which values of the sink may follow an
 /// `Ok` of [`put`](MessageSink::put), and which an `Err`.

@@ -7,9 +7,8 @@ use Rattle.std.specs.Prelude.{slice_index_or, slice_set}
 use Rattle.can_log.specs.Frame.{FrameValue}
 use Rattle.can_log.specs.declared.frame.Id.{Id}
 use Rattle.uds_find.specs.Credit.{credit, credit_by, credit_count, credited_to, credits_after, asker_by, is_of, is_same_pair, waits_for}
-use Rattle.uds_find.specs.Finding.{IsTally, StandsAfter, TellsWaiting}
+use Rattle.uds_find.specs.Finding.{FinderValue, IsTally, StandsAfter, TellsWaiting}
 use Rattle.uds_find.specs.Mention.{mention_of}
-use Rattle.uds_find.specs.declared.finder.Finder.{Finder}
 use Rattle.uds_find.specs.declared.mention.Mention.TheVariants.{Asks, Answers}
 use Rattle.uds_find.specs.declared.pair.Pair.{Pair}
 use Rattle.uds_find.proofs.Orders.{key_order, keys-once}
@@ -30,11 +29,11 @@ nothing-tallied pairs empty ordered = record {
   counts = λ pair. ap (lookup (is_same_pair pair)) empty;
 }
 
-pub stands-silent : (frames : List FrameValue) (frame : FrameValue) (finder : Finder) → mention_of frame ≡ None
+pub stands-silent : (frames : List FrameValue) (frame : FrameValue) (finder : FinderValue) → mention_of frame ≡ None
     → StandsAfter frames finder → StandsAfter (frames ++ frame ∷ []) finder
 stands-silent frames frame finder none stands = record {
   waiting = tells-silent frames frame finder.waiting none stands.waiting;
-  tally = tally-silent frames frame finder.pairs.entries (ap (λ said. credit_by frames said frame.id) none) stands.tally;
+  tally = tally-silent frames frame finder.table (ap (λ said. credit_by frames said frame.id) none) stands.tally;
 }
 
 -- a frame that asks for a service: its identifier waits

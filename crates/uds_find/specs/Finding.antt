@@ -10,7 +10,6 @@ use Rattle.can_log.specs.Canonical.{identifier_text}
 use Rattle.can_log.specs.Frame.{FrameValue}
 use Rattle.can_log.specs.declared.frame.Id.{Id}
 use Rattle.uds_find.specs.Credit.{credit_count, is_same_pair, waits_for}
-use Rattle.uds_find.specs.declared.finder.Finder.{Finder}
 use Rattle.uds_find.specs.declared.pair.CreditLine.{CreditLine}
 use Rattle.uds_find.specs.declared.pair.Pair.{Pair}
 
@@ -28,15 +27,20 @@ pub record TellsWaiting (frames : List FrameValue) (waiting : List (Option Id)) 
   pub places : length waiting ≡ 256
   pub each : (service : ℕ) → service < 256 → slice_index_or waiting service None ≡ waits_for service frames
 
+-- what a finder is seen as: of each service who waits for its answer, and the number of answers of each pair
+pub record FinderValue : Type 0 where
+  pub waiting : List (Option Id)
+  pub table : List (Pair × ℕ)
+
 -- A finder stands after these frames.
-pub record StandsAfter (frames : List FrameValue) (finder : Finder) : Type 0 where
+pub record StandsAfter (frames : List FrameValue) (finder : FinderValue) : Type 0 where
   pub waiting : TellsWaiting frames finder.waiting
-  pub tally : IsTally frames finder.pairs.entries
+  pub tally : IsTally frames finder.table
 
 -- the line of a pair and of the number of its credits
 abbrev pub credit_line : Pair × ℕ → CreditLine
 credit_line entry = record {
-  credits = record { 0 = entry.1 };
+  credits = entry.1;
   tester = record { items = identifier_text entry.0.tester };
   unit = record { items = identifier_text entry.0.unit };
 }
@@ -48,7 +52,7 @@ text_order = slice_cmp nat_cmp
 -- the order of lines: the most credits first, then by the tester's text, then by the unit's
 abbrev pub line_order : CreditLine → CreditLine → Ordering
 line_order one other =
-    ordering_then (nat_cmp other.credits.0 one.credits.0)
+    ordering_then (nat_cmp other.credits one.credits)
     (ordering_then (text_order one.tester.items other.tester.items) (text_order one.unit.items other.unit.items))
 
 -- These are the lines of the pairs that have a credit in these frames, in their order.

@@ -11,19 +11,28 @@ use crate::pair::{CreditLine, Pair};
 use can_log::{Frame, Id};
 use std::alloc::{AllocError, Global};
 use std::collections::BTreeMap;
+use std::marker::Model;
 
-/// What is kept of the frames of a log: of each service who waits for its answer, and the answers of each pair.
+/// What is kept of the frames of a log.
 #[derive(Drop)]
 pub struct Finder {
-    pub waiting: [Option<Id>; 256],
-    pub pairs: BTreeMap<Pair, u64>,
+    /// Of each service who waits for its answer.
+    waiting: [Option<Id>; 256],
+    /// The answers of each pair.
+    pairs: BTreeMap<Pair, u64>,
+}
+
+impl Model for Finder {
+    ghost use Rattle.uds_find.specs.Finding.{FinderValue};
+
+    ghost Value = { FinderValue };
+
+    ghost view = { λ f. record { waiting = f.waiting; table = f.pairs.entries } };
 }
 
 impl Finder {
-    ghost use Rattle.std.specs.Prelude.{◌≡◌, ◌^◌, ◌<◌, [], ◌∷◌, ◌++◌, List, length, OnOk, OnErr};
+    ghost use Rattle.std.specs.Prelude.{◌≡◌, ◌^◌, ◌<◌, [], ◌∷◌, ◌++◌, List, length, OnOk, OnErr, IfOk, Some};
     ghost use Rattle.can_log.specs.Frame.{FrameValue};
-    ghost use Rattle.std.specs.Prelude.{IfOk, Some};
-    ghost use Rattle.std.specs.BTreeMap.{IsUnchanged};
     ghost use Rattle.uds_find.specs.Credit.{HasCredit, IsFirstCredit};
     ghost use Rattle.uds_find.specs.Finding.{AreCreditLines, IsTally, StandsAfter};
     ghost use Rattle.uds_find.specs.Mention.{mention_of};
@@ -33,17 +42,16 @@ impl Finder {
     pub fn new(alloc: Global) -> Finder
         ensures { StandsAfter [] result }
     {
-        let pairs = BTreeMap::new(alloc);
         Finder {
             waiting: [None; 256],
-            pairs,
+            pairs: BTreeMap::new(alloc),
         }
     }
 
-    /// Takes one more frame. Where memory is refused, it stands where it stood.
+    /// Takes one more frame. Where memory is refused, nothing has changed.
     pub fn take(&mut self, frame: &Frame) -> Result<(), AllocError>
         ensures ok { OnOk result ((frames : List FrameValue) → length frames < 2 ^ 62 → StandsAfter frames self.old → StandsAfter (frames ++ frame.now ∷ []) self.new) }
-        ensures err { OnErr result ((frames : List FrameValue) → StandsAfter frames self.old → StandsAfter frames self.new) }
+        ensures err { OnErr result (self.new ≡ self.old) }
         ensures needs { OnErr result ((frames : List FrameValue) → StandsAfter frames self.old → IsFirstCredit frames frame.now) }
     {
         match mention_of(frame) {
@@ -73,19 +81,16 @@ impl Finder {
     /// Credits an answer of the service by this identifier to who waits for it.
     fn credit(&mut self, service: u8, unit: Id) -> Result<(), AllocError>
         ensures ok { OnOk result ((frames : List FrameValue) (frame : FrameValue) → length frames < 2 ^ 62 → mention_of frame ≡ Some (Answers service) → frame.id ≡ unit
-            → StandsAfter frames self.old → IsTally (frames ++ frame ∷ []) self.new.pairs.entries) }
-        ensures err { OnErr result (IsUnchanged self.old.pairs self.new.pairs) }
+            → StandsAfter frames self.old → IsTally (frames ++ frame ∷ []) self.new.table) }
+        ensures err { OnErr result (self.new ≡ self.old) }
         ensures needs { OnErr result ((frames : List FrameValue) (frame : FrameValue) → mention_of frame ≡ Some (Answers service) → frame.id ≡ unit
             → StandsAfter frames self.old → IsFirstCredit frames frame) }
         ensures kept { self.new.waiting ≡ self.old.waiting }
     {
-        match credited_to(self.waiting[service as usize], unit) {
-            None => Ok(()),
-            Some(pair) => {
-                count(&mut self.pairs, pair)?;
-                Ok(())
-            }
+        if let Some(pair) = credited_to(self.waiting[service as usize], unit) {
+            count(&mut self.pairs, pair)?;
         }
+        Ok(())
     }
 }
 
@@ -118,12 +123,10 @@ fn lines_of(alloc: Global, pairs: BTreeMap<Pair, u64>) -> Result<Vec<CreditLine>
 fn credited_to(waiting: Option<Id>, unit: Id) -> Option<Pair>
     ensures { result ≡ Spec.credited_to waiting unit }
 {
-    match waiting {
-        Some(tester) => if tester == unit {
-            None
-        } else {
-            Some(Pair { tester, unit })
-        },
-        None => None,
+    let tester = waiting?;
+    if tester == unit {
+        None
+    } else {
+        Some(Pair { tester, unit })
     }
 }

@@ -28,8 +28,7 @@ pub fn mention_of(frame: &Frame) -> Option<Mention>
         return None;
     }
     match layout_of(frame) {
-        Ok(Pdu::Single(bytes)) => mention_in(bytes),
-        Ok(Pdu::First { bytes, .. }) => mention_in(bytes),
+        Ok(Pdu::Single(bytes)) | Ok(Pdu::First { bytes, .. }) => mention_in(bytes),
         Ok(Pdu::Next { .. }) | Ok(Pdu::Flow(_)) | Err(_) => None,
     }
 }
@@ -60,15 +59,9 @@ fn mention_by_sid(bytes: &[u8]) -> Option<Mention>
 {
     match bytes {
         [] => None,
-        [sid, rest @ ..] => {
-            if is_negative_response(bytes) {
-                mention_in_refusal(rest)
-            } else if is_response_sid(*sid) {
-                Some(Mention::Answers(service_answered(*sid)))
-            } else {
-                Some(Mention::Asks(*sid))
-            }
-        }
+        [_, rest @ ..] if is_negative_response(bytes) => mention_in_refusal(rest),
+        [sid, ..] if is_response_sid(*sid) => Some(Mention::Answers(service_answered(*sid))),
+        [sid, ..] => Some(Mention::Asks(*sid)),
     }
 }
 
@@ -77,13 +70,8 @@ fn mention_in_refusal(rest: &[u8]) -> Option<Mention>
     ensures { result ≡ Spec.mention_in_refusal rest.now }
 {
     match rest {
-        [service, code, ..] => {
-            if is_response_pending(*code) {
-                None
-            } else {
-                Some(Mention::Answers(*service))
-            }
-        }
+        [_, code, ..] if is_response_pending(*code) => None,
+        [service, _, ..] => Some(Mention::Answers(*service)),
         _ => None,
     }
 }

@@ -1,8 +1,14 @@
 //! Two identifiers, one of which answered the other, and the line that tells how often.
 
+ghost use Rattle.std.specs.Cmp.{partial_order_from_own_ties};
+ghost use Rattle.std.specs.Cmp.Lexicographic.{slice_cmp};
+ghost use Rattle.std.specs.Cmp.Rules.{comparing};
+ghost use Rattle.std.specs.Ordering.{as_partial_cmp, flip_args, nat_cmp, on, then_cmp};
+ghost use Rattle.std.proofs.Common.{rules};
+
 use arrayvec::ArrayVec;
 use can_log::{Id, identifier_text};
-use std::cmp::Reverse;
+use std::cmp::Ordering;
 
 /// An identifier that asks, and one that answers it.
 #[derive(Clone, Copy, Debug, PartialEq, Eq, PartialOrd, Ord)]
@@ -13,9 +19,9 @@ pub struct Pair {
 
 /// A pair by the texts of its identifiers, and how many answers it has. Lines are ordered by the most answers, and then by
 /// these texts.
-#[derive(Debug, Drop, PartialEq, Eq, PartialOrd, Ord)]
+#[derive(Debug, Drop, PartialEq, Eq)]
 pub struct CreditLine {
-    pub credits: Reverse<u64>,
+    pub credits: u64,
     pub tester: ArrayVec<u8, 8>,
     pub unit: ArrayVec<u8, 8>,
 }
@@ -29,9 +35,39 @@ impl CreditLine {
         ensures { result ≡ credit_line (pair, credits) }
     {
         CreditLine {
-            credits: Reverse(credits),
+            credits,
             tester: identifier_text(pair.tester),
             unit: identifier_text(pair.unit),
         }
+    }
+}
+
+impl Ord for CreditLine {
+    ghost cmp = { then_cmp (flip_args (on (λ line. line.credits) nat_cmp))
+        (then_cmp (on (λ line. line.tester.items) (slice_cmp nat_cmp)) (on (λ line. line.unit.items) (slice_cmp nat_cmp))) };
+
+    ghost total = { Prim.search (comparing, rules) };
+
+    ghost matches_partial_cmp = { Prim.search (comparing, rules) };
+
+    ghost matches_eq = { Prim.search (comparing, rules) };
+
+    fn cmp(&self, other: &CreditLine) -> Ordering {
+        other
+            .credits
+            .cmp(&self.credits)
+            .then_with(|| self.tester.cmp(&other.tester))
+            .then_with(|| self.unit.cmp(&other.unit))
+    }
+}
+
+impl PartialOrd for CreditLine {
+    ghost partial_cmp = { as_partial_cmp (then_cmp (flip_args (on (λ line. line.credits) nat_cmp))
+        (then_cmp (on (λ line. line.tester.items) (slice_cmp nat_cmp)) (on (λ line. line.unit.items) (slice_cmp nat_cmp)))) };
+
+    ghost laws = { partial_order_from_own_ties (Prim.search (comparing, rules)) (Prim.search (comparing, rules)) };
+
+    fn partial_cmp(&self, other: &CreditLine) -> Option<Ordering> {
+        Some(self.cmp(other))
     }
 }

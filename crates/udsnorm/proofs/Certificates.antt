@@ -99,6 +99,10 @@ of_pair (pair_job.Compare style) left_name right_name left_seen right_seen stric
   is_certified settings one compared.left compares.0 (sym (ap (λ (p : PairAnswer). is_clean p.left) is) ∙ left_clean),
   is_certified settings other compared.right compares.1 (sym (ap (λ (p : PairAnswer). is_clean p.right) is) ∙ right_clean),
 )
+of_pair (pair_job.Diff notation) left_name right_name left_seen right_seen strict settings one other pair text (compared, compares, is, wrote) left_clean right_clean = (
+  is_certified settings one compared.left compares.0 (sym (ap (λ (p : PairAnswer). is_clean p.left) is) ∙ left_clean),
+  is_certified settings other compared.right compares.1 (sym (ap (λ (p : PairAnswer). is_clean p.right) is) ∙ right_clean),
+)
 of_pair pair_job.Report left_name right_name left_seen right_seen strict settings one other pair text (style, held, (left, right), is, wrote) left_clean right_clean = (
   of_held settings one held.left left (sym (ap (λ (p : PairAnswer). is_clean p.left) is) ∙ left_clean),
   of_held settings other held.right right (sym (ap (λ (p : PairAnswer). is_clean p.right) is) ∙ right_clean),

@@ -19,7 +19,7 @@ use Rattle.trace_run.specs.Told.{Glimpse, glimpse_of}
 use Rattle.udsnorm.specs.Commands.{EngineAnswers, PairEngineAnswers}
 use Rattle.udsnorm.specs.declared.commands.Job.TheVariants as job
 use Rattle.udsnorm.specs.declared.pair_jobs.PairJob.TheVariants as pair_job
-use Rattle.udsnorm.specs.Values.{page_name, page_name_beside}
+use Rattle.udsnorm.specs.Values.{page_name, shown_name}
 use Rattle.udsnorm.specs.Run.{RanOne, RanTwo}
 use Rattle.udsnorm.specs.Telling.{WroteText}
 use Rattle.udsnorm.specs.declared.commands.Job.{Job}
@@ -71,6 +71,7 @@ unseen_pair : (job : PairJob) (left_name right_name : List ℕ) (left_seen right
     → PairEngineAnswers job left_name right_name left_seen right_seen strict MESSAGE_LIMIT settings one other (Ok pair) text
     → PairEngineAnswers job left_name right_name nothing_seen nothing_seen strict MESSAGE_LIMIT settings one other (Ok pair) text
 unseen_pair (pair_job.Compare style) left_name right_name left_seen right_seen strict settings one other pair text answers = answers
+unseen_pair (pair_job.Diff notation) left_name right_name left_seen right_seen strict settings one other pair text answers = answers
 unseen_pair pair_job.Report left_name right_name left_seen right_seen strict settings one other pair text answers = answers
 
 -- the logs are the same, and clean where they have to be, and the output took the text of that
@@ -124,7 +125,7 @@ done_by says file source output errors (Ok (Two job strict settings left right))
     let other = file.given found.other_left in
     let engine = ran.engine one other (agrees_from_start (file.given found.one) one (file.is_over found.one_left) found.one_unread.from_start)
     (agrees_from_start (file.given found.other) other (file.is_over found.other_left) found.other_unread.from_start) in
-    let done = same_of_done output job (page_name_beside (string_bytes left) (string_bytes right)) (page_name_beside (string_bytes right) (string_bytes left)) (glimpse_of file found.one_left) (glimpse_of file found.other_left) strict ran.wrote settings one other ran.answer ran.text status old new engine
+    let done = same_of_done output job (shown_name job (string_bytes left) (string_bytes right)) (shown_name job (string_bytes right) (string_bytes left)) (glimpse_of file found.one_left) (glimpse_of file found.other_left) strict ran.wrote settings one other ran.answer ran.text status old new engine
     ran.status_is ran.output_is zero in
     let well = accepted_pair strict ran.wrote ran.answer status ran.status_is (omega (arith, zero)) in (
       one,

@@ -2,29 +2,34 @@
 use Rattle.std.proofs.Common.{◌≡◌, ◌≢◌, ◌≤◌, ◌<◌, ◌+◌, ◌⊎◌, ◌↔◌, inl, inr, ℕ, Bool, true, false, true≢false, List, [], Result, Ok, Err, append-nil, arith, ap, refl, sym, subst, ◌∙◌}
 use Rattle.std.specs.Prelude.{◌&&◌, not, is_ok, IfErr, if◌then◌else◌}
 use Rattle.trace_canon.specs.Compared.{Compares, fault_in}
-use Rattle.trace_canon.specs.ComparisonText.{comparison_text}
+use Rattle.trace_difference.specs.Written.{difference_text, written_rows}
+use Rattle.trace_log.specs.Devices.{ReadFrom}
+use Rattle.trace_text.specs.declared.notation.Notation.{Notation}
+use Rattle.uds_difference.specs.Rows.{is_shortest, rows_of}
+use Rattle.uds_difference.specs.declared.row.Row.{Row}
+use Rattle.uds_exchange.specs.Meaning.{ItemValue}
 use Rattle.trace_log.specs.Failing.{FailedIf}
 use Rattle.trace_run.specs.Printed.{Prints}
 use Rattle.trace_log.specs.Settings.{Settings}
 use Rattle.trace_canon.specs.declared.comparing.Compared.{Compared}
 use Rattle.trace_canon.specs.declared.comparing.Comparison.{Comparison}
 use Rattle.trace_canon.specs.declared.comparing.Comparison.TheVariants.{Same, Different}
-use Rattle.trace_canon.specs.declared.comparison_lines.ComparisonStyle.{ComparisonStyle}
 use Rattle.trace_log.specs.declared.fault.CompareFault.{CompareFault}
 use Rattle.trace_log.specs.declared.fault.CompareFault.TheVariants.{Left, Right}
 use Rattle.trace_log.specs.declared.fault.Fault.{Fault}
 use Rattle.trace_log.specs.declared.fault.Fault.TheVariants as fault
 use Rattle.trace_io.specs.Written.{HasFront}
+use Rattle.trace_io.specs.declared.device.Source.{Ghosts as SourceGhosts}
 use Rattle.trace_io.specs.declared.device.Target.{Ghosts as TargetGhosts}
 use Rattle.trace_report.specs.Held.{HoldsTwo, TwoValue}
 use Rattle.trace_report.specs.PairPage.{pair_page, pair_title}
-use Rattle.udsnorm.specs.Commands.{ComparesPair, PagesPair, has_text, pair_of}
+use Rattle.udsnorm.specs.Commands.{ComparesPair, PagesPair, TextOfCompared, has_text, pair_of}
 use Rattle.udsnorm.specs.Ending.{has_unclean, status_of_comparison, status_of_run_of_two}
 use Rattle.udsnorm.specs.Status.{status_of}
 use Rattle.udsnorm.specs.Telling.{WroteText}
 use Rattle.udsnorm.specs.proving.Flushed.{FlushedIf}
 use Rattle.trace_run.specs.Told.{Glimpse}
-use Rattle.udsnorm.specs.proving.Pairs.{answer_held, answer_of, cause_in, text_of_answer}
+use Rattle.udsnorm.specs.proving.Pairs.{IsAnswered, answer_held, answer_of, cause_in, text_of_answer}
 use Rattle.udsnorm.specs.declared.pair_jobs.PairAnswer.{PairAnswer}
 use Rattle.udsnorm.specs.declared.pair_jobs.PairJob.{PairJob}
 use Rattle.udsnorm.specs.declared.pair_jobs.PairJob.TheVariants as pair_job
@@ -33,10 +38,58 @@ use Rattle.udsnorm.proofs.Statuses.{took_still}
 -- ---- the engine
 
 -- a comparison, without what the logs mean, and its text
-pub compared_pair : (style : ComparisonStyle) (strict : Bool) (limit : ℕ) (settings : Settings) (one other : List ℕ) (answer : Result Compared CompareFault) → Compares limit settings one other answer
-    → ComparesPair style strict limit settings one other (answer_of answer) (text_of_answer strict style answer)
-compared_pair style strict limit settings one other (Ok compared) compares = (compared, compares, refl, refl)
-compared_pair style strict limit settings one other (Err why) compares = (compares, refl)
+pub compared_pair : (text : TextOfCompared) (strict : Bool) (limit : ℕ) (settings : Settings) (one other : List ℕ) (answer : Result Compared CompareFault) → Compares limit settings one other answer
+    → ComparesPair text strict limit settings one other (answer_of answer) (text_of_answer strict text answer)
+compared_pair text strict limit settings one other (Ok compared) compares = (compared, compares, refl, refl)
+compared_pair text strict limit settings one other (Err why) compares = (compares, refl)
+
+-- where both logs were accepted, memory may be refused that their difference needs
+pub refused_pair : (text : TextOfCompared) (strict : Bool) (limit : ℕ) (settings : Settings) (one other : List ℕ) (answer : Result Compared CompareFault) → IsAnswered answer
+    → Compares limit settings one other answer → ComparesPair text strict limit settings one other (Err (Right fault.Memory)) []
+refused_pair text strict limit settings one other (Ok compared) accepted compares = (((compared.left, compares.0), tt), refl)
+refused_pair text strict limit settings one other (Err why) accepted compares = absurd accepted
+
+fault_told : (one other : CompareFault) → ◌≡◌ {A = Result PairAnswer CompareFault} (Err one) (Err other) → one ≡ other
+fault_told one other is = cc
+
+fault_kept : (one other : CompareFault) → ◌≡◌ {A = Result TwoValue CompareFault} (Err one) (Err other) → one ≡ other
+fault_kept one other is = cc
+
+none_told : (pair : PairAnswer) (why : CompareFault) → ◌≡◌ {A = Result PairAnswer CompareFault} (Ok pair) (Err why) → ⊥
+none_told pair why is = cc
+
+none_kept : (held : TwoValue) (why : CompareFault) → ◌≡◌ {A = Result TwoValue CompareFault} (Ok held) (Err why) → ⊥
+none_kept held why is = cc
+
+-- what was read of logs that are held is told of their answer, too
+read_held : {R : Type 0} (source : SourceGhosts R) (why : CompareFault) (max_bytes : ℕ) (answer : Result TwoValue CompareFault) (before after : R)
+    → ReadFrom source why max_bytes answer before after → ReadFrom source why max_bytes (answer_held answer) before after
+read_held source why max_bytes (Ok held) before after read = record {
+  over = read.over;
+  gave = read.gave;
+  ended = read.ended;
+  within = read.within;
+  calls = read.calls;
+  progress = read.progress;
+  failed = record { risen = λ is. absurd (none_told _ why is); same = λ other. read.failed.same (none_kept held why) };
+}
+read_held source why max_bytes (Err fault) before after read = record {
+  over = tt;
+  gave = read.gave;
+  ended = read.ended;
+  within = read.within;
+  calls = read.calls;
+  progress = read.progress;
+  failed = record {
+    risen = λ is. read.failed.risen (ap Err (fault_told fault why is));
+    same = λ other. read.failed.same (λ is. other (ap Err (fault_kept fault why is)));
+  };
+}
+
+pub read_told : {R : Type 0} (source : SourceGhosts R) (why : CompareFault) (max_bytes : ℕ) (answer : Result TwoValue CompareFault) (told : Result PairAnswer CompareFault) (before after : R)
+    → told ≡ answer_held answer → ReadFrom source why max_bytes answer before after → ReadFrom source why max_bytes told before after
+read_told source why max_bytes answer told before after is read =
+    subst (λ (a : Result PairAnswer CompareFault). ReadFrom source why max_bytes a before after) (sym is) (read_held source why max_bytes answer before after read)
 
 -- two logs that are held, without what they say, and their page
 pub pages_pair : (style left_name right_name : List ℕ) (left_seen right_seen : Glimpse) (strict : Bool) (limit : ℕ) (settings : Settings) (one other : List ℕ) (answer : Result TwoValue CompareFault) → HoldsTwo limit settings one other answer
@@ -164,6 +217,7 @@ same_of_zero (Different item) zero = absurd (omega (arith, zero))
 -- such an answer has a text
 has_text_of_pair : (job : PairJob) (strict : Bool) (pair : PairAnswer) → has_unclean strict pair ≡ false → has_text job strict (Ok pair) ≡ true
 has_text_of_pair (pair_job.Compare style) strict pair clean = ap not clean
+has_text_of_pair (pair_job.Diff notation) strict pair clean = ap not clean
 has_text_of_pair pair_job.Report strict pair clean = refl
 
 pub has_text_then : (job : PairJob) (strict wrote : Bool) (answer : Result PairAnswer CompareFault) (status : ℕ) → status ≡ status_of_run_of_two wrote strict answer → status ≤ 1
@@ -196,10 +250,16 @@ wrote_by_print target text old new (Err why) wrote printed is = subst (λ (b : B
 })
 
 -- the text of a comparison of logs of which each is clean that has to be
-pub text_of_clean : (strict : Bool) (style : ComparisonStyle) (compared : Compared) (answer : Result Compared CompareFault) → answer ≡ Ok compared → has_unclean strict (pair_of compared) ≡ false
-    → comparison_text style compared ≡ text_of_answer strict style answer
-text_of_clean strict style compared answer is clean =
-    sym (ap (text_of_answer strict style) is ∙ ap (λ (unclean : Bool). if unclean then [] else comparison_text style compared) clean)
+pub text_of_clean : (strict : Bool) (text : TextOfCompared) (compared : Compared) (answer : Result Compared CompareFault) → answer ≡ Ok compared → has_unclean strict (pair_of compared) ≡ false
+    → text compared ≡ text_of_answer strict text answer
+text_of_clean strict text compared answer is clean =
+    sym (ap (text_of_answer strict text) is ∙ ap (λ (unclean : Bool). if unclean then [] else text compared) clean)
+
+-- the text of a difference, by the rows that were found
+pub difference_is : (notation : Notation) (left_name right_name left_bytes right_bytes : List ℕ) (shortest : Bool) (rows : List Row) (xs ys : List ItemValue) → left_bytes ≡ left_name
+    → right_bytes ≡ right_name → shortest ≡ is_shortest xs ys → rows ≡ rows_of xs ys
+    → written_rows notation left_bytes right_bytes shortest rows xs ys ≡ difference_text notation left_name right_name xs ys
+difference_is notation left_name right_name left_bytes right_bytes shortest rows xs ys left right told found = rw (left, right, told, found) refl
 
 module _ {W : Type 0} (target : TargetGhosts W) where
   pub wrote_and_flushed : (text : List ℕ) (due wrote result : Bool) (first old new : W) → WroteText target text wrote first old → FlushedIf target (due && wrote) wrote old result new

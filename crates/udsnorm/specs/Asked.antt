@@ -21,7 +21,7 @@ use Rattle.udsnorm.specs.Known.{IsKnownBy, IsKnownByTwo, knows_unopened}
 use Rattle.udsnorm.specs.Opening.{Saying, one_stream, opened, refused, two_files}
 use Rattle.udsnorm.specs.Run.{RanOne, RanTwo}
 use Rattle.udsnorm.specs.Telling.{TookText}
-use Rattle.udsnorm.specs.Values.{page_name, page_name_beside}
+use Rattle.udsnorm.specs.Values.{page_name, shown_name}
 use Rattle.udsnorm.specs.Words.{IsPlanned}
 use Rattle.udsnorm.specs.declared.commands.Job.{Job}
 use Rattle.udsnorm.specs.declared.pair_jobs.PairAnswer.{PairAnswer}
@@ -106,7 +106,7 @@ pub record RanFiles {F W E : Type 0} (says : Saying F → Type 0) (file : Source
   pub one_left : CountedReader F
   pub other_left : CountedReader F
   pub written : Option (Result PairAnswer CompareFault)
-  pub ran : RanTwo file file output errors job (page_name_beside left_name right_name) (page_name_beside right_name left_name) strict limit settings one other old unsaid status written one_left other_left new said
+  pub ran : RanTwo file file output errors job (shown_name job left_name right_name) (shown_name job right_name left_name) strict limit settings one other old unsaid status written one_left other_left new said
   pub known_is : IsKnownByTwo settings (file.given one_left) (file.is_over one_left) (file.given other_left) (file.is_over other_left) written known
 
 -- what was done of the file of this name, or of the two of these names
@@ -164,7 +164,7 @@ IsDoneBy says file (Ok (One job strict settings (Some name))) log before after =
 IsDoneBy says file (Ok (Two job strict settings left right)) log before after =
     (one other text : List ℕ) × IsLogOf says file (string_bytes left) one × IsLogOf says file (string_bytes right) other
     × (pair : PairAnswer) × (has_unclean strict pair ≡ false) × (pair.comparison ≡ Same)
-    × PairEngineAnswers job (page_name_beside (string_bytes left) (string_bytes right)) (page_name_beside (string_bytes right) (string_bytes left)) nothing_seen nothing_seen strict MESSAGE_LIMIT settings one other (Ok pair) text
+    × PairEngineAnswers job (shown_name job (string_bytes left) (string_bytes right)) (shown_name job (string_bytes right) (string_bytes left)) nothing_seen nothing_seen strict MESSAGE_LIMIT settings one other (Ok pair) text
     × (after ≡ before ++ text)
 IsDoneBy says file (Err (words.Help text)) log before after = after ≡ before ++ string_bytes text
 IsDoneBy says file (Err (words.Words text)) log before after = ⊥

@@ -21,7 +21,7 @@ use Rattle.trace_log.specs.Needing.{HasFrame, IsKeptForMessage, NeedsMemoryToRec
 use Rattle.trace_canon.specs.Keeping.{CompletesKept, NeedsMemoryToCollect, NeedsMemoryToOrder}
 use Rattle.trace_log.specs.Refusal.{HasNoBadPlaceWithin, IsNotRefusedWithin}
 use Rattle.trace_log.specs.Settings.{Settings}
-use Rattle.trace_run.specs.Told.{Glimpse, Script, AnswersTold, RanLenient, TellsEagerly, answers_counts, needs_none}
+use Rattle.trace_run.specs.Told.{Glimpse, Script, AnswersTold, RanLenient, TellsEagerly, answers_counts, command, needs_none}
 use Rattle.trace_canon.specs.WatchScript.{watching_script}
 use Rattle.trace_canon.specs.declared.comparing.Compared.{Compared}
 use Rattle.trace_canon.specs.declared.comparison_lines.ComparisonStyle.{ComparisonStyle}
@@ -31,8 +31,10 @@ use Rattle.trace_log.specs.declared.fault.Fault.TheVariants.{Memory, Read, Write
 use Rattle.trace_text.specs.declared.notation.Notation.{Notation}
 use Rattle.trace_log.specs.declared.summary.Summary.{Summary}
 use Rattle.isotp_receive.specs.Trace.{Entry}
+use Rattle.isotp_receive.specs.declared.TheConstants.{MESSAGE_LIMIT}
 use Rattle.trace_io.specs.declared.device.Source.{Ghosts as SourceGhosts}
 use Rattle.trace_io.specs.declared.device.Target.{Ghosts as TargetGhosts}
+use Rattle.trace_difference.specs.Written.{difference_text}
 use Rattle.trace_report.specs.Front.{page_title}
 use Rattle.trace_report.specs.Held.{HasOwnFrame, HoldsTwo, TwoValue, comparison_in}
 use Rattle.trace_report.specs.Page.{report_script}
@@ -134,6 +136,7 @@ command_entries =
     ∷ record { name = codes "report"; rules = sides ++ largest_limit ++ one_or_two_logs ++ strictly ++ hinted; task = λ rows. report_task (first_of (codes "OTHER") rows) }
     ∷ record { name = codes "find"; rules = usual_limit ++ one_log ++ as_json ++ hinted; task = λ rows. task.One (job.Find (notation_in rows)) }
     ∷ record { name = codes "compare"; rules = sides ++ usual_limit ++ two_logs ++ showing ++ as_json ++ strictly ++ hinted; task = λ rows. task.Two (pair_job.Compare (comparison_style_in rows)) }
+    ∷ record { name = codes "diff"; rules = sides ++ usual_limit ++ two_logs ++ as_json ++ strictly ++ hinted; task = λ rows. task.Two (pair_job.Diff (notation_in rows)) }
     ∷ []
 
 -- What is known of the call that does a job over one log: it is `normalise`, or writes a text of the items of the
@@ -198,12 +201,12 @@ pub record RanAny {R W : Type 0} (source : SourceGhosts R) (target : TargetGhost
   pub wrote : WroteTo target Write result old new
 
 -- what its call promises of it
-abbrev pub RanBy : {R W : Type 0} → SourceGhosts R → TargetGhosts W → Engine → ℕ → Settings → R → W → Result Summary Fault → R → W → Type 0
-RanBy source target normalises limit settings = RanAny source target normalises limit settings
-RanBy source target (writes text) limit settings = RanOverItems source target text limit settings
-RanBy source target (finds notation) limit settings = RanToFind source target notation settings
-RanBy source target (runs script needs) limit settings = RanLenient source target (script limit) answers_counts (needs limit) limit settings
-RanBy source target (runs_in_style script) limit settings = RanAny source target (runs_in_style script) limit settings
+abbrev pub RanBy : {R W : Type 0} → SourceGhosts R → TargetGhosts W → Engine → Settings → R → W → Result Summary Fault → R → W → Type 0
+RanBy source target normalises settings = RanAny source target normalises MESSAGE_LIMIT settings
+RanBy source target (writes text) settings = RanOverItems source target text MESSAGE_LIMIT settings
+RanBy source target (finds notation) settings = RanToFind source target notation settings
+RanBy source target (runs script needs) settings = RanLenient source target (command (script MESSAGE_LIMIT) answers_counts (needs MESSAGE_LIMIT)) settings
+RanBy source target (runs_in_style script) settings = RanAny source target (runs_in_style script) MESSAGE_LIMIT settings
 
 -- the engine that does this job over one log, which has this name on a page, and of whose source this is seen where it is
 -- refused
@@ -237,11 +240,13 @@ EngineReads job name seen limit settings log = ReadsWhile (unrefused_of (engine_
 -- what the parser calls the left file of this job
 abbrev pub left_file : PairJob → Text
 left_file (pair_job.Compare style) = codes "A"
+left_file (pair_job.Diff notation) = codes "A"
 left_file pair_job.Report = codes "LOG"
 
 -- and the right one
 abbrev pub right_file : PairJob → Text
 right_file (pair_job.Compare style) = codes "B"
+right_file (pair_job.Diff notation) = codes "B"
 right_file pair_job.Report = codes "OTHER"
 
 -- What is known of a call that reads two logs and writes a text: what it answers, where they have to be clean or not,
@@ -256,15 +261,23 @@ pub record PairEngine : Type 1 where
 abbrev pub pair_of : Compared → PairAnswer
 pair_of compared = record { comparison = compared.comparison; left = compared.left.summary; right = compared.right.summary }
 
+-- a text of a comparison
+abbrev pub TextOfCompared : Type 0
+TextOfCompared = Compared → List ℕ
+
+-- where the logs differ, whose files have these names
+abbrev pub text_of_difference : Notation → List ℕ → List ℕ → TextOfCompared
+text_of_difference notation left_name right_name compared = difference_text notation left_name right_name compared.left.meaning compared.right.meaning
+
 -- what is written of a comparison: its text, and nothing where a log has to be clean and is not
-abbrev pub text_of_compared : Bool → ComparisonStyle → Compared → List ℕ
-text_of_compared strict style compared = if has_unclean strict (pair_of compared) then [] else comparison_text style compared
+abbrev pub text_of_compared : Bool → TextOfCompared → Compared → List ℕ
+text_of_compared strict text compared = if has_unclean strict (pair_of compared) then [] else text compared
 
 -- how the logs compare, and what is written of that; nothing is written of a fault
-abbrev pub ComparesPair : ComparisonStyle → Bool → ℕ → Settings → List ℕ → List ℕ → Result PairAnswer CompareFault → List ℕ → Type 0
-ComparesPair style strict limit settings one other (Ok pair) text =
-    (compared : Compared) × Compares limit settings one other (Ok compared) × (pair ≡ pair_of compared) × (text ≡ text_of_compared strict style compared)
-ComparesPair style strict limit settings one other (Err fault) text = Compares limit settings one other (Err fault) × (text ≡ [])
+abbrev pub ComparesPair : TextOfCompared → Bool → ℕ → Settings → List ℕ → List ℕ → Result PairAnswer CompareFault → List ℕ → Type 0
+ComparesPair text strict limit settings one other (Ok pair) written =
+    (compared : Compared) × Compares limit settings one other (Ok compared) × (pair ≡ pair_of compared) × (written ≡ text_of_compared strict text compared)
+ComparesPair text strict limit settings one other (Err fault) written = Compares limit settings one other (Err fault) × (written ≡ [])
 
 -- what two logs that are held are to each other, without what they say
 abbrev pub pair_held : TwoValue → PairAnswer
@@ -285,12 +298,17 @@ PagesPair left_name right_name left_seen right_seen strict limit settings one ot
 abbrev pub has_text : PairJob → Bool → Result PairAnswer CompareFault → Bool
 has_text (pair_job.Compare style) strict (Ok pair) = not (has_unclean strict pair)
 has_text (pair_job.Compare style) strict (Err fault) = false
+has_text (pair_job.Diff notation) strict (Ok pair) = not (has_unclean strict pair)
+has_text (pair_job.Diff notation) strict (Err fault) = false
 has_text pair_job.Report strict (Ok pair) = true
 has_text pair_job.Report strict (Err fault) = is_refusal (fault_in fault)
 
--- the engine that does this job over two logs, which have these names on a page, and of whose sources this is seen
+-- the engine that does this job over two logs, which have these names in its text, and of whose sources this is seen;
+-- where they differ needs memory, whatever a log has
 abbrev pub engine_of_pair : PairJob → List ℕ → List ℕ → Glimpse → Glimpse → PairEngine
-engine_of_pair (pair_job.Compare style) left_name right_name left_seen right_seen = record { answers = ComparesPair style; needs = NeedsMemoryToCollect; unrefused = IsNotRefusedWithin }
+engine_of_pair (pair_job.Compare style) left_name right_name left_seen right_seen = record { answers = ComparesPair (comparison_text style); needs = NeedsMemoryToCollect; unrefused = IsNotRefusedWithin }
+engine_of_pair (pair_job.Diff notation) left_name right_name left_seen right_seen =
+    record { answers = ComparesPair (text_of_difference notation left_name right_name); needs = λ limit settings log. ⊤; unrefused = IsNotRefusedWithin }
 engine_of_pair pair_job.Report left_name right_name left_seen right_seen =
     record { answers = PagesPair left_name right_name left_seen right_seen; needs = λ limit. HasOwnFrame; unrefused = λ limit settings. HasNoBadPlaceWithin }
 

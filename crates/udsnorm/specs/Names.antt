@@ -1,15 +1,9 @@
 -- The names of files as a hint has them.
 use Prim.Native.Char.{code}
-use Rattle.std.specs.Prelude.{ℕ, ◌/◌, ◌%◌, ◌==◌, ◌&&◌, ◌||◌, not, nat_le, Bool, List, [], ◌∷◌, ◌++◌, codes, length, Option, Some, None, if◌then◌else◌}
-use Rattle.std.specs.Char.{is_ascii_alphanumeric}
-use Rattle.std.specs.List.{flat_map, list_all}
+use Rattle.std.specs.Prelude.{ℕ, ◌/◌, ◌%◌, ◌==◌, ◌&&◌, not, nat_le, Bool, List, [], ◌∷◌, ◌++◌, codes, Option, Some, None, if◌then◌else◌}
+use Rattle.std.specs.List.{flat_map}
 use Rattle.can_log.specs.Digits.{digit}
-
--- one of the bytes that stand as they are: letters, digits and `./_-+:@%,=`
-abbrev pub is_plain : ℕ → Bool
-is_plain b =
-    is_ascii_alphanumeric b || b == code "." || b == code "/" || b == code "_" || b == code "-" || b == code "+" || b == code ":" || b == code "@" || b == code "%" || b == code ","
-    || b == code "="
+use Rattle.trace_difference.specs.Labels.{is_plain_name}
 
 -- a printable byte of ASCII, a space among them, but neither `'` nor `\`
 abbrev pub is_printable : ℕ → Bool
@@ -18,10 +12,6 @@ is_printable b = nat_le 32 b && nat_le b 126 && not (b == code "'") && not (b ==
 -- a byte between `$'` and `'`: as it is where it is printable, and else `\xHH`
 abbrev pub quoted_byte : ℕ → List ℕ
 quoted_byte b = if is_printable b then b ∷ [] else code "\\" ∷ code "x" ∷ digit (b / 16) ∷ digit (b % 16) ∷ []
-
--- a name of plain bytes alone, one at least, needs no quotes
-abbrev pub is_plain_name : List ℕ → Bool
-is_plain_name name = not (length name == 0) && list_all is_plain name
 
 -- A name as it is, or as a shell has it between `$'` and `'`: so no name writes a control character.
 abbrev pub quoted : List ℕ → List ℕ

@@ -12,6 +12,8 @@ use Rattle.trace_text.specs.declared.item_style.Numbering.TheVariants.{Shown, Hi
 use Rattle.trace_text.specs.declared.notation.Notation.{Notation}
 use Rattle.trace_text.specs.declared.notation.Notation.TheVariants as notation
 use Rattle.udsnorm.specs.Identifiers.{identifier_of}
+use Rattle.udsnorm.specs.declared.pair_jobs.PairJob.{PairJob}
+use Rattle.udsnorm.specs.declared.pair_jobs.PairJob.TheVariants as pair_job
 
 -- whether an option without a value is given: the parser has the text `true` for it then, and else `false`
 abbrev pub is_given : Text → List Row → Bool
@@ -67,3 +69,10 @@ page_name (Some path) = unwrap_or (path_file_name path) path
 -- what a page of two logs calls the log of this file beside that of the other: its path, where both files have one name
 abbrev pub page_name_beside : Text → Text → List ℕ
 page_name_beside path other = if bytes_eq (page_name (Some path)) (page_name (Some other)) then path else page_name (Some path)
+
+-- what the text of a job over two logs calls the log of this file beside that of the other: a page by its name, and what
+-- else has names by its path
+abbrev pub shown_name : PairJob → Text → Text → List ℕ
+shown_name (pair_job.Compare style) path other = path
+shown_name (pair_job.Diff notation) path other = path
+shown_name pair_job.Report path other = page_name_beside path other

@@ -5,7 +5,7 @@ ghost use Rattle.clap.specs.Words.{app_of, rule_of, with_subcommand};
 ghost use Rattle.udsnorm.specs.Commands.{command_entries, commands, file, flag, limit, option, program};
 ghost use Rattle.udsnorm.specs.proving.Rows.{rules_of_group, rule_of_argument, shape_of_row, with_entries, with_rows, with_rules};
 
-use crate::commands::{Argument, COMMANDS, CommandRow, LIMIT};
+use crate::commands::{Argument, COMMANDS, CommandRow, LIMIT, after_help_of};
 use clap::{Arg, ArgAction, Command, value_parser};
 use std::alloc::{AllocError, Global};
 
@@ -89,7 +89,7 @@ fn command_of_row<'a>(alloc: Global, row: &CommandRow) -> Result<Command<'a>, Al
 {
     let mut command = Command::new(alloc, row.name)
         .about(row.about)
-        .after_help(row.after_help);
+        .after_help(after_help_of(row.name));
     'groups: for group in row.arguments {
         command = with_group(alloc, command, group)?;
     }

@@ -52,8 +52,6 @@ pub enum Task {
 pub(crate) struct CommandRow {
     pub(crate) name: &'static str,
     pub(crate) about: &'static str,
-    /// What follows the options in its help: more about it, its statuses, and last an example.
-    pub(crate) after_help: &'static str,
     /// Its options and files, in groups that other commands have, too.
     pub(crate) arguments: &'static [&'static [Argument]],
 }
@@ -90,13 +88,11 @@ pub(crate) const COMMANDS: &[CommandRow] = &[
     CommandRow {
         name: "normalise",
         about: "Writes the canonical log",
-        after_help: OF_NORMALISE,
         arguments: &[SIDES, USUAL_LIMIT_OF_BOTH, ONE_LOG, STRICTLY, HINTED],
     },
     CommandRow {
         name: "list",
         about: "Writes the exchanges and stray messages",
-        after_help: OF_LIST,
         arguments: &[
             SIDES,
             USUAL_LIMIT_OF_BOTH,
@@ -110,7 +106,6 @@ pub(crate) const COMMANDS: &[CommandRow] = &[
     CommandRow {
         name: "watch",
         about: "Writes the lines of `list` while the session runs",
-        after_help: OF_WATCH,
         arguments: &[
             SIDES,
             LARGEST_LIMIT,
@@ -124,31 +119,26 @@ pub(crate) const COMMANDS: &[CommandRow] = &[
     CommandRow {
         name: "explain",
         about: "Writes which frames were dropped and which receptions ended early, and why",
-        after_help: OF_EXPLAIN,
         arguments: &[SIDES, USUAL_LIMIT, ONE_LOG, AS_JSON, STRICTLY, HINTED],
     },
     CommandRow {
         name: "messages",
         about: "Writes each message with its lines and time stamps",
-        after_help: OF_MESSAGES,
         arguments: &[SIDES, LARGEST_LIMIT, ONE_LOG, AS_JSON, STRICTLY, HINTED],
     },
     CommandRow {
         name: "report",
         about: "Writes the session as a page of HTML, to look at",
-        after_help: OF_REPORT,
         arguments: &[SIDES, LARGEST_LIMIT, ONE_OR_TWO_LOGS, STRICTLY, HINTED],
     },
     CommandRow {
         name: "find",
         about: "Writes which identifiers ask and which answer, for a log whose identifiers nobody told",
-        after_help: OF_FIND,
         arguments: &[USUAL_LIMIT, ONE_LOG, AS_JSON, HINTED],
     },
     CommandRow {
         name: "compare",
         about: "Says whether two logs have the same exchanges and stray messages",
-        after_help: OF_COMPARE,
         arguments: &[
             SIDES,
             USUAL_LIMIT_OF_BOTH,
@@ -159,7 +149,36 @@ pub(crate) const COMMANDS: &[CommandRow] = &[
             HINTED,
         ],
     },
+    CommandRow {
+        name: "diff",
+        about: "Writes where two logs differ, as `diff -u` does",
+        arguments: &[
+            SIDES,
+            USUAL_LIMIT_OF_BOTH,
+            TWO_LOGS,
+            AS_JSON,
+            STRICTLY,
+            HINTED,
+        ],
+    },
 ];
+
+/// What follows the options in the help of a command: more about it, its statuses, and last an example. These texts stand
+/// apart from the table, of which each proof about it would read them all.
+pub(crate) fn after_help_of(command: &str) -> &'static str {
+    match command {
+        "normalise" => OF_NORMALISE,
+        "list" => OF_LIST,
+        "watch" => OF_WATCH,
+        "explain" => OF_EXPLAIN,
+        "messages" => OF_MESSAGES,
+        "report" => OF_REPORT,
+        "find" => OF_FIND,
+        "compare" => OF_COMPARE,
+        "diff" => OF_DIFF,
+        _ => "",
+    }
+}
 
 /// The names of options and files in the parser's matches.
 pub(crate) const TESTER: &str = "tester";
@@ -296,6 +315,7 @@ pub(crate) fn task_named(name: &str, found: &ArgMatches<'_>) -> Task
         "report" => report_task(found),
         "find" => Task::One(Job::Find(notation(found))),
         "compare" => Task::Two(PairJob::Compare(comparison_style(found))),
+        "diff" => Task::Two(PairJob::Diff(notation(found))),
         _ => Task::One(Job::Normalise),
     }
 }
@@ -338,7 +358,7 @@ fn call_engine<R: Source, W: Target>(
 ) -> Result<Summary, Fault>
     requires input { HasLowCounts R.Source input.old }
     requires out { IsLowCount (W.failures out.old) }
-    ensures ran { RanBy R.Source W.Target (engine_of job name.now (glimpse_of R.Source input.new)) MESSAGE_LIMIT config.now input.old out.old result input.new out.new }
+    ensures ran { RanBy R.Source W.Target (engine_of job name.now (glimpse_of R.Source input.new)) config.now input.old out.old result input.new out.new }
 {
     match job {
         Job::Normalise => normalise(alloc, config, input, out),
@@ -455,3 +475,17 @@ Exit status: 0 the logs mean the same, 1 they differ, 2 wrong words, 3 a log is 
 6 with `--strict`: a log is not clean, and nothing is printed.
 
 Example: udsnorm compare --show yesterday.log today.log";
+
+const OF_DIFF: &str = "\
+Writes hunks of the lines of `list --no-numbers`, as `diff -u` does, with the numbers of `list`
+in front of each. An exchange that one log alone has moves no other. Where the logs mean the
+same, nothing is written.
+
+With `--json` each exchange or stray message that was removed, added or changed is an object,
+and the last object has the counts.
+
+Exit status: 0 the logs mean the same, 1 they differ, 2 wrong words, 3 a log is refused,
+4 a file can't be opened, or reading or writing failed, 5 out of memory,
+6 with `--strict`: a log is not clean, and nothing is written.
+
+Example: udsnorm diff yesterday.log today.log";

@@ -5,11 +5,11 @@ ghost use Rattle.udsnorm.specs.Hints.{missing_words};
 
 use crate::ended::Matter;
 use crate::names::{Behind, LogName};
-use can_log::{Id, identifier_text};
+use can_log::Id;
 use text_parts::{Part, say};
 use trace_io::TextSink;
 use trace_report::CauseOf;
-use trace_text::Number;
+use trace_text::{Identifier, Number};
 
 /// What is said of a log in which `find` finds no pair, behind its name.
 const NO_PAIR: &str =
@@ -126,20 +126,6 @@ impl<'a> Part for DroppedLine<'a> {
                 "; udsnorm explain shows where\n",
             ),
         );
-    }
-}
-
-/// An identifier.
-#[derive(Clone, Copy)]
-struct Identifier(Id);
-
-impl Part for Identifier {
-    ghost use Rattle.can_log.specs.Canonical.{identifier_text};
-
-    ghost text = { λ id. identifier_text id.0 };
-
-    fn say<S: TextSink>(self, out: &mut S) {
-        out.put(identifier_text(self.0).as_slice());
     }
 }
 

@@ -57,7 +57,7 @@ use crate::opening::{OpenFault, Opener};
 use crate::pair_jobs::PairJob;
 use crate::run::{run_one, run_two};
 use crate::tell::{tell, tell_fault, tell_one_stream, tell_side};
-use crate::values::{page_name, page_name_beside};
+use crate::values::{page_name, shown_name};
 use crate::words::plan;
 use std::env::Env;
 use std::io::{ErrorKind, Input, IsTerminal, Print, Read};
@@ -405,8 +405,8 @@ fn run_opened<R: AllocGlobal + Opener, W: Target, E: Target>(
     let end = run_two(
         rt.alloc(),
         job,
-        page_name_beside(left_name.as_str(), right_name.as_str()),
-        page_name_beside(right_name.as_str(), left_name.as_str()),
+        shown_name(job, left_name.as_str(), right_name.as_str()),
+        shown_name(job, right_name.as_str(), left_name.as_str()),
         strict,
         config,
         &mut left,

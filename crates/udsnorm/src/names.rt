@@ -1,11 +1,11 @@
 //! The names of files as a hint has them.
 
 ghost use Rattle.std.specs.Prelude.{◌≡◌, ◌<◌};
-ghost use Rattle.std.specs.List.{list_all};
 ghost use Rattle.can_log.specs.Digits.{digit};
-ghost use Rattle.udsnorm.specs.Names.{before_name, is_plain, is_plain_name, is_printable};
+ghost use Rattle.udsnorm.specs.Names.{before_name, is_printable};
 
 use text_parts::{Part, say};
+use trace_difference::is_plain_name;
 use trace_io::TextSink;
 
 /// The name of a log, which has none if it is standard input.
@@ -135,37 +135,6 @@ fn digit(number: u8) -> u8
     } else {
         b'A' + (number - 10)
     }
-}
-
-/// Whether a name needs no quotes.
-fn is_plain_name(name: &[u8]) -> bool
-    ensures { result ≡ is_plain_name name.now }
-{
-    !name.is_empty() && are_plain(name)
-}
-
-/// Whether bytes stand as they are, each of them.
-fn are_plain(bytes: &[u8]) -> bool
-    ensures { result ≡ list_all is_plain bytes.now }
-{
-    bytes.iter().all(|byte| is_plain(*byte))
-}
-
-/// Whether a byte stands as it is in a name without quotes.
-fn is_plain(byte: u8) -> bool
-    ensures { result ≡ is_plain byte }
-{
-    byte.is_ascii_alphanumeric()
-        || byte == b'.'
-        || byte == b'/'
-        || byte == b'_'
-        || byte == b'-'
-        || byte == b'+'
-        || byte == b':'
-        || byte == b'@'
-        || byte == b'%'
-        || byte == b','
-        || byte == b'='
 }
 
 /// Whether a byte stands as it is between quotes.

@@ -1,33 +1,39 @@
 //! What the program does with two logs: the engine of each job, what it answers, and its text.
 
-ghost use Rattle.std.specs.Prelude.{◌≡◌, ◌≢◌, ◌-◌, ℕ, List, Err, IfErr, false, true};
+ghost use Rattle.std.specs.Prelude.{◌≡◌, ◌≢◌, ◌-◌, ℕ, List, [], Ok, Err, IfOk, IfErr, false, true};
 ghost use Rattle.isotp_receive.specs.declared.TheConstants.{MESSAGE_LIMIT};
 ghost use Rattle.trace_canon.specs.Compared.{fault_in};
+ghost use Rattle.trace_canon.specs.ComparisonText.{comparison_text};
 ghost use Rattle.trace_log.specs.Devices.{AgreesWith, bytes_given, ReadFrom, HasLowCounts};
 ghost use Rattle.trace_log.specs.declared.fault.Fault.{Fault as FaultValue};
 ghost use Rattle.trace_io.specs.Counted.{IsLowCount};
 ghost use Rattle.trace_report.specs.PairPage.{pair_page, pair_title};
-ghost use Rattle.udsnorm.specs.Commands.{PairEngineAnswers, PairEngineNeeds, PairEngineReads, has_text, left_file, pair_of, right_file};
+ghost use Rattle.udsnorm.specs.Commands.{PairEngineAnswers, PairEngineNeeds, PairEngineReads, has_text, left_file, pair_of, right_file, text_of_difference};
 ghost use Rattle.udsnorm.specs.Ending.{has_unclean};
 ghost use Rattle.udsnorm.specs.Telling.{WroteText};
-ghost use Rattle.udsnorm.specs.proving.Pairs.{answer_held, answer_of, cause_in, text_of_answer};
+ghost use Rattle.udsnorm.specs.proving.Pairs.{IsAnswered, answer_held, answer_of, cause_in, text_of_answer};
 ghost use Rattle.trace_report.specs.Causes as Causes;
 ghost use Rattle.trace_run.specs.Told.{glimpse_of};
 
 use crate::commands::{LEFT, LOG, OTHER, RIGHT};
 use crate::tell::is_refusal;
-use std::alloc::Global;
+use std::alloc::{AllocError, Global};
 use trace_canon::{Compared, Comparison, ComparisonStyle, compare, write_comparison};
+use trace_difference::{Side, write_difference};
 use trace_io::{Source, Target};
 use trace_log::{CompareFault, Config, Fault, Summary};
 use trace_report::{Cause, PairTitle, Two, cause_of, keep_two, report_style, write_pair_page};
 use trace_run::Glimpse;
+use trace_text::Notation;
+use uds_difference::Difference;
 
 /// What the program does with two logs.
 #[derive(Clone, Copy, PartialEq, Eq)]
 pub enum PairJob {
     /// Says whether they have the same meaning, in this style.
     Compare(ComparisonStyle),
+    /// Writes where they differ, in this notation.
+    Diff(Notation),
     /// Writes where they differ as a page of HTML.
     Report,
 }
@@ -53,7 +59,7 @@ pub(crate) fn left_file(job: PairJob) -> &'static str
     ensures { result.now ≡ left_file job }
 {
     match job {
-        PairJob::Compare(_) => LEFT,
+        PairJob::Compare(_) | PairJob::Diff(_) => LEFT,
         PairJob::Report => LOG,
     }
 }
@@ -63,7 +69,7 @@ pub(crate) fn right_file(job: PairJob) -> &'static str
     ensures { result.now ≡ right_file job }
 {
     match job {
-        PairJob::Compare(_) => RIGHT,
+        PairJob::Compare(_) | PairJob::Diff(_) => RIGHT,
         PairJob::Report => OTHER,
     }
 }
@@ -77,7 +83,7 @@ pub(crate) fn has_text(
     ensures { result ≡ has_text job strict answer.now }
 {
     match job {
-        PairJob::Compare(_) => match answer {
+        PairJob::Compare(_) | PairJob::Diff(_) => match answer {
             Ok(pair) => !has_unclean(strict, pair),
             Err(_) => false,
         },
@@ -104,8 +110,8 @@ pub(crate) fn has_unclean(strict: bool, pair: &PairAnswer) -> bool
     strict && !(pair.left.is_clean() && pair.right.is_clean())
 }
 
-/// What the engine comes to that does the job, over two logs that have these names on a page. The left one is read whole
-/// before the right one, and the text is not flushed.
+/// What the engine comes to that does the job, over two logs that have these names in its text. The left one is read
+/// whole before the right one, and the text is not flushed.
 pub(crate) fn do_pair_job<A: Source, B: Source, W: Target>(
     alloc: Global,
     job: PairJob,
@@ -155,6 +161,21 @@ pub(crate) fn do_pair_job<A: Source, B: Source, W: Target>(
                 wrote: write_answer(&answer, strict, style, out),
             }
         }
+        PairJob::Diff(notation) => {
+            let compared = compare(alloc, config, left, right);
+            match write_diff(
+                alloc, left_name, right_name, &compared, strict, notation, out,
+            ) {
+                Ok(wrote) => PairDone {
+                    answer: answer_of(&compared),
+                    wrote,
+                },
+                Err(_refused) => PairDone {
+                    answer: Err(CompareFault::Right(Fault::Memory)),
+                    wrote: true,
+                },
+            }
+        }
         PairJob::Report => {
             let answer = keep_two(alloc, config, left, right);
             let cause = cause_in(&answer, config.max_bytes(), left, right);
@@ -195,7 +216,7 @@ fn write_answer<W: Target>(
     out: &mut W,
 ) -> bool
     requires { IsLowCount (W.failures out.old) }
-    ensures text { WroteText W.Target (text_of_answer strict style answer.now) result out.old out.new }
+    ensures text { WroteText W.Target (text_of_answer strict (comparison_text style) answer.now) result out.old out.new }
     ensures left_alone { has_text (PairJob.Compare style) strict (answer_of answer.now) ≡ false → (result ≡ true) × (out.new ≡ out.old) }
     ensures flushes { W.flushes out.new ≡ W.flushes out.old }
 {
@@ -205,6 +226,60 @@ fn write_answer<W: Target>(
         }
         _ => true,
     }
+}
+
+/// Writes where two logs differ, which have these names, where each is clean that has to be. Answers whether that did not
+/// fail. Where memory is refused nothing is written.
+fn write_diff<W: Target>(
+    alloc: Global,
+    left_name: &str,
+    right_name: &str,
+    answer: &Result<Compared, CompareFault>,
+    strict: bool,
+    notation: Notation,
+    out: &mut W,
+) -> Result<bool, AllocError>
+    requires { IsLowCount (W.failures out.old) }
+    ensures text { IfOk result (λ wrote. WroteText W.Target (text_of_answer strict (text_of_difference notation left_name.now right_name.now) answer.now) wrote out.old out.new) }
+    ensures left_alone { has_text (PairJob.Diff notation) strict (answer_of answer.now) ≡ false → (result ≡ Ok true) × (out.new ≡ out.old) }
+    ensures flushes { W.flushes out.new ≡ W.flushes out.old }
+    ensures answered { IfErr result (λ refused. IsAnswered answer.now) }
+    ensures nothing { IfErr result (λ refused. WroteText W.Target [] true out.old out.new) }
+    ensures unwritten { IfErr result (λ refused. out.new ≡ out.old) }
+{
+    match answer {
+        Ok(compared) if !has_unclean(strict, &pair_of(compared)) => {
+            write_differing(alloc, left_name, right_name, compared, notation, out)
+        }
+        _ => Ok(true),
+    }
+}
+
+/// The same of two accepted logs.
+fn write_differing<W: Target>(
+    alloc: Global,
+    left_name: &str,
+    right_name: &str,
+    compared: &Compared,
+    notation: Notation,
+    out: &mut W,
+) -> Result<bool, AllocError>
+    requires { IsLowCount (W.failures out.old) }
+    ensures text { IfOk result (λ wrote. WroteText W.Target (text_of_difference notation left_name.now right_name.now compared.now) wrote out.old out.new) }
+    ensures flushes { W.flushes out.new ≡ W.flushes out.old }
+    ensures nothing { IfErr result (λ refused. WroteText W.Target [] true out.old out.new) }
+    ensures unwritten { IfErr result (λ refused. out.new ≡ out.old) }
+{
+    let left = Side {
+        name: left_name.as_bytes(),
+        items: &compared.left.meaning,
+    };
+    let right = Side {
+        name: right_name.as_bytes(),
+        items: &compared.right.meaning,
+    };
+    let difference = Difference::between(alloc, left.items, right.items)?;
+    Ok(write_difference(&difference, left, right, notation, out).is_ok())
 }
 
 /// An answer about two logs that are held, without what they say.

@@ -2,9 +2,10 @@
 
 ghost use Rattle.std.specs.Prelude.{◌≡◌, option_map};
 ghost use Rattle.clap.specs.Words.{first_of, found_of, rows_of};
-ghost use Rattle.udsnorm.specs.Values.{comparison_style_in, is_given, is_strict as strict_in, notation_in, numbering_in, page_name, page_name_beside, style_in};
+ghost use Rattle.udsnorm.specs.Values.{comparison_style_in, is_given, is_strict as strict_in, notation_in, numbering_in, page_name, page_name_beside, shown_name, style_in};
 
 use crate::commands::{JSON, NO_NUMBERS, SHOW, STRICT};
+use crate::pair_jobs::PairJob;
 use clap::ArgMatches;
 use std::path::Path;
 use trace_canon::ComparisonStyle;
@@ -83,8 +84,19 @@ pub(crate) fn page_name(log: Option<&str>) -> &str
     }
 }
 
+/// What the text of a job over two logs calls the log of this file, beside that of the other: a page by its name, and what
+/// else has names by its path.
+pub(crate) fn shown_name<'a>(job: PairJob, path: &'a str, other: &str) -> &'a str
+    ensures { result.now ≡ shown_name job path.now other.now }
+{
+    match job {
+        PairJob::Compare(_) | PairJob::Diff(_) => path,
+        PairJob::Report => page_name_beside(path, other),
+    }
+}
+
 /// What a page of two logs calls the log of this file, beside that of the other.
-pub(crate) fn page_name_beside<'a>(path: &'a str, other: &str) -> &'a str
+fn page_name_beside<'a>(path: &'a str, other: &str) -> &'a str
     ensures { result.now ≡ page_name_beside path.now other.now }
 {
     let name = page_name(Some(path));

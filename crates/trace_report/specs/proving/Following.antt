@@ -25,7 +25,7 @@ use Rattle.trace_report.specs.declared.follower.NewRows.{NewRows}
 use Rattle.trace_report.specs.declared.frames.FrameCounts.{FrameCounts}
 use Rattle.trace_report.specs.declared.places.Places.{Places}
 use Rattle.trace_report.specs.declared.reporter.Reporter.{Reporter}
-use Rattle.trace_report.specs.declared.reporter.Span.{Span}
+use Rattle.trace_report.specs.declared.span.Span.{Span}
 use Rattle.trace_report.specs.declared.row.Row.{Row}
 use Rattle.trace_report.specs.proving.Pages.{row_of, title_of}
 

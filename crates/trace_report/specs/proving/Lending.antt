@@ -7,7 +7,7 @@ use Rattle.trace_report.specs.declared.items.LentItem.{LentItem}
 use Rattle.trace_report.specs.declared.items.LentMessage.{LentMessage}
 use Rattle.trace_report.specs.declared.items.LentPair.{LentPair}
 use Rattle.trace_report.specs.declared.items.LentPair.TheVariants as lent
-use Rattle.trace_report.specs.declared.reporter.Span.{Span}
+use Rattle.trace_report.specs.declared.span.Span.{Span}
 use Rattle.trace_report.specs.declared.two.Difference.{Difference}
 
 -- a message that is lent

@@ -1,23 +1,18 @@
 -- Devices of proof: what a decider does with one more message.
-use Rattle.std.specs.Prelude.{◌≡◌, ◌⊎◌, ℕ, List, [], ◌∷◌, ◌++◌, map, Option, Some, None, option_map}
+use Rattle.std.specs.Prelude.{◌≡◌, ◌⊎◌, ℕ, List, [], ◌∷◌, ◌++◌, Some, None, option_map}
 use Rattle.direction.specs.Dir.{Message}
 use Rattle.uds_message.specs.Message.{sid}
-use Rattle.uds_exchange.specs.Decided.{unanswered_items}
+use Rattle.uds_exchange.specs.Decided.{exchange_items}
 use Rattle.uds_exchange.specs.Decider.{DeciderValue}
-use Rattle.uds_exchange.specs.Meaning.{ItemValue, exchange, stray_of}
+use Rattle.uds_exchange.specs.Meaning.{ItemValue, stray_of}
 use Rattle.uds_exchange.specs.OneMessage.{step_of}
 use Rattle.uds_exchange.specs.declared.step.Step.{Step}
 use Rattle.uds_exchange.specs.declared.step.Step.TheVariants as step
 
--- a request with its answer, where one waits, and these messages as strays after it
-abbrev pub answered_items : Option (List ℕ) → List ℕ → List Message → List ItemValue
-answered_items None reply holds = []
-answered_items (Some request) reply holds = exchange request (Some reply) ∷ map stray_of holds
-
 -- the items that are decided by this step with a message
 abbrev pub items_for : Step → DeciderValue → Message → List ItemValue
-items_for (step.Request service) standing message = unanswered_items standing.request standing.holds
-items_for step.Answer standing message = answered_items standing.request message.1 standing.holds
+items_for (step.Request service) standing message = exchange_items standing.request None standing.holds
+items_for step.Answer standing message = exchange_items standing.request (Some message.1) standing.holds
 items_for step.Removed standing message = []
 items_for step.Hold standing message = []
 items_for step.Pass standing message = stray_of message ∷ []

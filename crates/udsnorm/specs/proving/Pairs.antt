@@ -1,13 +1,12 @@
 -- Devices of proof: an answer of `compare`, what is told of it, and its text.
-use Rattle.std.specs.Prelude.{ℕ, Bool, List, [], Option, None, Result, Ok, Err}
+use Rattle.std.specs.Prelude.{⊤, ℕ, Bool, List, [], Option, None, Result, Ok, Err}
 use Rattle.trace_canon.specs.declared.comparing.Compared.{Compared}
-use Rattle.trace_canon.specs.declared.comparison_lines.ComparisonStyle.{ComparisonStyle}
 use Rattle.trace_log.specs.declared.fault.CompareFault.{CompareFault}
 use Rattle.trace_report.specs.Held.{TwoValue}
 use Rattle.trace_report.specs.PairPage.{cause_of_pair}
 use Rattle.trace_report.specs.declared.cause.Cause.{Cause}
 use Rattle.trace_run.specs.Told.{Glimpse}
-use Rattle.udsnorm.specs.Commands.{pair_held, pair_of, text_of_compared}
+use Rattle.udsnorm.specs.Commands.{TextOfCompared, pair_held, pair_of, text_of_compared}
 use Rattle.udsnorm.specs.declared.pair_jobs.PairAnswer.{PairAnswer}
 
 -- an answer, without what the logs mean
@@ -16,9 +15,14 @@ answer_of (Ok compared) = Ok (pair_of compared)
 answer_of (Err fault) = Err fault
 
 -- what is written of it
-abbrev pub text_of_answer : Bool → ComparisonStyle → Result Compared CompareFault → List ℕ
-text_of_answer strict style (Ok compared) = text_of_compared strict style compared
-text_of_answer strict style (Err fault) = []
+abbrev pub text_of_answer : Bool → TextOfCompared → Result Compared CompareFault → List ℕ
+text_of_answer strict text (Ok compared) = text_of_compared strict text compared
+text_of_answer strict text (Err fault) = []
+
+-- both logs were accepted
+abbrev pub IsAnswered : Result Compared CompareFault → Type 0
+IsAnswered (Ok compared) = ⊤
+IsAnswered (Err fault) = ⊥
 
 -- an answer about logs that are held, without what they say
 abbrev pub answer_held : Result TwoValue CompareFault → Result PairAnswer CompareFault

@@ -22,4 +22,5 @@ returns g c =
         never_write = never_write silent_script silent_tells_nothing (answers_session c.args.config.now) MESSAGE_LIMIT c.args.config.now ran.read.gave.bytes _ _ _ c.run.result
             (ran.answer ran.read.gave.bytes (given_agrees ran.read.gave));
       };
+      configured = ran.configured;
     }

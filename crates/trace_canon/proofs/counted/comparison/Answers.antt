@@ -1,27 +1,27 @@
-use Rattle.std.proofs.Common.{Ok, subst, sym}
+use Rattle.std.proofs.Common.{Ok, Err, subst, sym}
 use Rattle.isotp_receive.specs.declared.TheConstants.{MESSAGE_LIMIT}
 use Rattle.trace_canon.specs.InMemory.{ComparesWithCounts}
 use Rattle.trace_canon.specs.declared.counted.CountedComparison.{CountedComparison}
-use Rattle.trace_canon.proofs.InMemories.{agrees_in_memory, comparison_in_memory, counted_in}
+use Rattle.trace_log.proofs.Promises.{handed_on}
+use Rattle.trace_canon.proofs.InMemories.{agrees_in_memory, comparison_in_memory}
 use Rattle.trace_canon.proofs.counted.comparison.Goals as goal
 
-pub returns-in-Ok : goal.returns-in-Ok
-returns-in-Ok c =
-    let ran = c.compare.ensures in
+pub returns : goal.returns
+returns c =
+    let ran = c.in_ok-compared.ensures in
     let left = agrees_in_memory c.args.left.now c.new.result c.compare.new.left c.new.ensures ran.left_read.gave ran.left_read.ended in
     let right = agrees_in_memory c.args.right.now c.new-2.result c.compare.new.right c.new-2.ensures ran.right_read.gave ran.right_read.ended in
     subst (λ (counted : CountedComparison). ComparesWithCounts MESSAGE_LIMIT c.args.config.now c.args.left.now c.args.right.now (Ok counted)) (sym c.counted_comparison.ensures)
-    (subst (λ answer. ComparesWithCounts MESSAGE_LIMIT c.args.config.now c.args.left.now c.args.right.now (counted_in answer)) c.in-Ok.is
-    (comparison_in_memory MESSAGE_LIMIT c.args.config.now c.args.left.now c.args.right.now c.compare.result ran.left_read.failed ran.right_read.failed ran.never_write
+    (comparison_in_memory MESSAGE_LIMIT c.args.config.now c.args.left.now c.args.right.now (Ok c.in_ok-compared.compared) ran.left_read.failed ran.right_read.failed ran.never_write
     (ran.left_memory c.args.left.now left) (ran.right_memory c.args.right.now right)
-    (ran.answer c.args.left.now c.args.right.now left right)))
+    (ran.answer c.args.left.now c.args.right.now left right))
 
-pub returns-in-Err : goal.returns-in-Err
-returns-in-Err c =
-    let ran = c.compare.ensures in
+pub returns-in_err-compared : goal.returns-in_err-compared
+returns-in_err-compared c =
+    let ran = c.in_err-compared.ensures in
     let left = agrees_in_memory c.args.left.now c.new.result c.compare.new.left c.new.ensures ran.left_read.gave ran.left_read.ended in
     let right = agrees_in_memory c.args.right.now c.new-2.result c.compare.new.right c.new-2.ensures ran.right_read.gave ran.right_read.ended in
-    subst (λ answer. ComparesWithCounts MESSAGE_LIMIT c.args.config.now c.args.left.now c.args.right.now (counted_in answer)) c.in-Err.is
-    (comparison_in_memory MESSAGE_LIMIT c.args.config.now c.args.left.now c.args.right.now c.compare.result ran.left_read.failed ran.right_read.failed ran.never_write
+    rw (handed_on c.from_residual.result _ c.from_residual.ensures.1)
+    (comparison_in_memory MESSAGE_LIMIT c.args.config.now c.args.left.now c.args.right.now (Err c.in_err-compared.field-0.0) ran.left_read.failed ran.right_read.failed ran.never_write
     (ran.left_memory c.args.left.now left) (ran.right_memory c.args.right.now right)
     (ran.answer c.args.left.now c.args.right.now left right))

@@ -1,10 +1,12 @@
-use Rattle.std.proofs.Common.{rules}
+use Rattle.std.proofs.Common.{refl, rules}
+use Rattle.trace_log.proofs.Promises.{handed_on}
+use Rattle.trace_canon.proofs.LeftAlone.{left_alone}
 use Rattle.trace_canon.proofs.finding.find.Goals as goal
 
-pub returns-in-Ok : goal.returns-in-Ok
-returns-in-Ok g c = record {
+pub returns : goal.returns
+returns g c = record {
   ran = record {
-    answer = λ log agrees. (tt, (c.in-Ok.found.pairs.items, c.in-Ok.found.summary, c.in-Ok.ensures.ran.answer log agrees, c.in-Err-print.ensures.some, c.in-Err-print.ensures.written));
+    answer = λ log agrees. (c.in_ok-found.found.pairs.items, c.in_ok-found.ensures.ran.answer log agrees, c.in_ok-print.ensures.written);
     unwritten = search rules;
     near = search rules;
     memory = search rules;
@@ -12,3 +14,27 @@ returns-in-Ok g c = record {
     wrote = search rules;
   };
 }
+
+pub returns-in_err-found : goal.returns-in_err-found
+returns-in_err-found g c = rw (handed_on c.from_residual.result _ c.from_residual.ensures.1) (record {
+  ran = record {
+    answer = λ log agrees. (c.in_err-found.ensures.ran.answer log agrees, left_alone _ _ _ _ c.in_err-found.ensures.ran.never_write);
+    unwritten = λ other. refl;
+    near = search rules;
+    memory = search rules;
+    read = search rules;
+    wrote = search rules;
+  };
+})
+
+pub returns-in_err-print : goal.returns-in_err-print
+returns-in_err-print g c = rw (handed_on c.from_residual-in_err-print.result _ c.from_residual-in_err-print.ensures.1, c.in_err-print.ensures.only) (record {
+  ran = record {
+    answer = λ log agrees. (tt, (c.in_ok-found.found.pairs.items, c.in_ok-found.found.summary, c.in_ok-found.ensures.ran.answer log agrees, c.in_err-print.ensures.some, c.in_err-print.ensures.written));
+    unwritten = λ other. absurd (other refl);
+    near = search rules;
+    memory = search rules;
+    read = search rules;
+    wrote = search rules;
+  };
+})

@@ -1,9 +1,10 @@
-use Rattle.std.proofs.Common.{not, [], subst, ap, ◌∙◌, Ok, Err}
+use Rattle.std.proofs.Common.{not, [], subst, Ok, Err}
 use Rattle.isotp_receive.specs.declared.TheConstants.{MESSAGE_LIMIT}
 use Rattle.trace_run.specs.declared.machine.Stop.TheVariants.{OutputLimit}
 use Rattle.trace_run.specs.proving.Carrying.{Carries}
 use Rattle.trace_run.specs.Told.{whole_of_lines}
 use Rattle.trace_log.specs.Trace.{trace}
+use Rattle.trace_log.proofs.Promises.{handed_on}
 use Rattle.trace_run.proofs.Tellings.{carried_at_the_end, only_stop, only_more}
 use Rattle.trace_run.proofs.driver.finish.Goals as goal
 
@@ -16,27 +17,29 @@ returns-then-not-settle-clause-ends g c = λ start first settings log meanings r
     (carried_at_the_end (g.M.Machine.stands first) W script start settings log meanings _ _ _ _ _ _ _ _ _ c.settle.result c.sum_up-summary.result tells counted
     (c.tell_end-answer.ensures.says first (trace settings meanings) tells.machine_stands received.pair_is received.keeps) c.settle.ensures.settled)
 
-pub returns-in-Ok-clause-ends : goal.returns-in-Ok-clause-ends
-returns-in-Ok-clause-ends g c = λ start first settings log meanings received feed tells.
-    let W = g.W.Target in
-    let M = g.M.Machine in
-    let script = M.script first in
-    let counted = c.sum_up-summary.ensures settings log meanings received feed tells.judged in (
-      subst (λ s. M.answers first (trace settings meanings) s (Ok c.in-Ok.value)) counted
-          (subst (λ r. M.answers first (trace settings meanings) c.sum_up-summary.result r) c.in-Ok.is (c.tell_end-answer.ensures.answered first (trace settings meanings) tells.machine_stands received.pair_is)),
-      subst (λ b. Carries W start (whole_of_lines script MESSAGE_LIMIT settings log meanings) (not b) [] c.settle.new.target) c.if-not-settle.false
-          (carried_at_the_end (M.stands first) W script start settings log meanings _ _ _ _ _ _ _ _ _ c.settle.result c.sum_up-summary.result tells counted
-          (c.tell_end-answer.ensures.says first (trace settings meanings) tells.machine_stands received.pair_is received.keeps) c.settle.ensures.settled),
-    )
-
 pub returns-clause-ends : goal.returns-clause-ends
 returns-clause-ends g c = λ start first settings log meanings received feed tells.
     let W = g.W.Target in
     let M = g.M.Machine in
     let script = M.script first in
     let counted = c.sum_up-summary.ensures settings log meanings received feed tells.judged in (
+      subst (λ s. M.answers first (trace settings meanings) s (Ok c.in_ok-answer.field-0)) counted
+          (c.in_ok-answer.ensures.answered first (trace settings meanings) tells.machine_stands received.pair_is),
+      subst (λ b. Carries W start (whole_of_lines script MESSAGE_LIMIT settings log meanings) (not b) [] c.settle.new.target) c.if-not-settle.false
+          (carried_at_the_end (M.stands first) W script start settings log meanings _ _ _ _ _ _ _ _ _ c.settle.result c.sum_up-summary.result tells counted
+          (c.tell_end-answer.ensures.says first (trace settings meanings) tells.machine_stands received.pair_is received.keeps) c.settle.ensures.settled),
+    )
+
+pub returns-in_err-answer-clause-ends : goal.returns-in_err-answer-clause-ends
+returns-in_err-answer-clause-ends g c = λ start first settings log meanings received feed tells.
+    let W = g.W.Target in
+    let M = g.M.Machine in
+    let script = M.script first in
+    let counted = c.sum_up-summary.ensures settings log meanings received feed tells.judged in
+    rw (handed_on c.from_residual.result _ c.from_residual.ensures.1) (
       subst (λ s. M.answers first (trace settings meanings) s (Err OutputLimit)) counted
-          (subst (λ r. M.answers first (trace settings meanings) c.sum_up-summary.result r) (c.in-Err-OutputLimit.is ∙ ap Err (only_stop c.in-Err-OutputLimit.field-0)) (c.tell_end-answer.ensures.answered first (trace settings meanings) tells.machine_stands received.pair_is)),
+          (subst (λ stop. M.answers first (trace settings meanings) c.sum_up-summary.result (Err stop)) (only_stop c.in_err-answer.field-0.0)
+          (c.in_err-answer.ensures.answered first (trace settings meanings) tells.machine_stands received.pair_is)),
       subst (λ b. Carries W start (whole_of_lines script MESSAGE_LIMIT settings log meanings) (not b) [] c.settle.new.target) c.if-not-settle.false
           (carried_at_the_end (M.stands first) W script start settings log meanings _ _ _ _ _ _ _ _ _ c.settle.result c.sum_up-summary.result tells counted
           (c.tell_end-answer.ensures.says first (trace settings meanings) tells.machine_stands received.pair_is received.keeps) c.settle.ensures.settled),
@@ -47,12 +50,12 @@ returns-then-not-settle-clause-more g c = λ mid said first settings meanings re
     let told = c.tell_end-answer.ensures.says first (trace settings meanings) stands received.pair_is received.keeps in
     only_more (c.settle.ensures.settled mid _ (told mid said carried))
 
-pub returns-in-Ok-clause-more : goal.returns-in-Ok-clause-more
-returns-in-Ok-clause-more g c = λ mid said first settings meanings received stands carried.
+pub returns-clause-more : goal.returns-clause-more
+returns-clause-more g c = λ mid said first settings meanings received stands carried.
     let told = c.tell_end-answer.ensures.says first (trace settings meanings) stands received.pair_is received.keeps in
     only_more (c.settle.ensures.settled mid _ (told mid said carried))
 
-pub returns-clause-more : goal.returns-clause-more
-returns-clause-more g c = λ mid said first settings meanings received stands carried.
+pub returns-in_err-answer-clause-more : goal.returns-in_err-answer-clause-more
+returns-in_err-answer-clause-more g c = λ mid said first settings meanings received stands carried.
     let told = c.tell_end-answer.ensures.says first (trace settings meanings) stands received.pair_is received.keeps in
     only_more (c.settle.ensures.settled mid _ (told mid said carried))

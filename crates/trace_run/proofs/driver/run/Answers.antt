@@ -53,7 +53,7 @@ gives_up : (g : Over) (c : After-give_up g)
 gives_up g c =
     let M = g.M.Machine in
     subst (λ (source : Glimpse). GivesUp M.stands (λ m. told_with (M.script m) (M.refusal m) source) g.W.Target c.in-Err.fault c.feed_lines.new.taker c.feed_lines.new.device c.give_up.result c.give_up.new.target)
-    (cc (c.first.ensures, c.has_ended.ensures)) c.give_up.ensures
+    c.of.ensures c.give_up.ensures
 
 pub returns-in-Err : goal.returns-in-Err
 returns-in-Err g c =
@@ -90,6 +90,7 @@ returns-in-Err g c =
             (length (g.R.Source.given c.feed_lines.new.reader) - length (g.R.Source.given c.args.reader.now)) c.in-Err.fault c.give_up.result c.max_bytes.result c.max_bytes.ensures.value
             (c.in-Err.ensures.lines log agrees (start g at) none) given_up (cc refused));
         near = λ log agrees. near g at log _ _ _ (c.in-Err.ensures.near log agrees (start g at) none);
+        configured = c.max_bytes.ensures.settings;
         read = record {
           over = tt;
           gave = c.in-Err.ensures.gave;
@@ -167,6 +168,7 @@ returns-in-Ok g c =
             (gives M.stands M.script M.needs W settings (start g at) now (begun g at) c.requires.writer lines.0 lines.5).machine_stands carried)));
         memory = λ log agrees refused. absurd (never_memory W script (M.answers c.args.machine) c.args.writer.now c.finish.new.target settings some.0 takes.0 c.finish.result end refused);
         near = λ log agrees. near g at log _ _ _ (c.in-Ok.ensures.near log agrees (start g at) none);
+        configured = c.max_bytes.ensures.settings;
         read = record {
           over = when_ok c.finish.result c.in-Ok.ensures.over;
           gave = c.in-Ok.ensures.gave;

@@ -9,7 +9,7 @@ returns-then-settle g c =
     let W = g.W.Target in
     let old = c.args.target.now in
     let new = c.settle.new.target in
-    let text = g.P.Printable.text c.args.printable.now in
+    let text = g.P.Part.text c.args.part in
     printed W text old new
     (subst (λ b. Carries W old text (not b) [] new) c.if-settle.true
     (settled_text W text old new _ c.new-page.result _ _ c.settle.result c.requires c.new-page.ensures.well c.new-page.ensures.blank c.put.ensures c.settle.ensures.settled))
@@ -19,7 +19,7 @@ returns-else-settle g c =
     let W = g.W.Target in
     let old = c.args.target.now in
     let new = c.settle.new.target in
-    let text = g.P.Printable.text c.args.printable.now in
+    let text = g.P.Part.text c.args.part in
     printed_front W text old new
     (subst (λ b. Carries W old text (not b) [] new) c.if-settle.false
     (settled_text W text old new _ c.new-page.result _ _ c.settle.result c.requires c.new-page.ensures.well c.new-page.ensures.blank c.put.ensures c.settle.ensures.settled))

@@ -1,13 +1,6 @@
-use Rattle.std.proofs.Common.{sym, subst}
-use Rattle.trace_text.specs.ExplainText.{remark_members}
-use Rattle.trace_text.specs.declared.remark.Remark.TheVariants as remark
-use Rattle.trace_text.proofs.JsonTexts.{line_is}
+use Rattle.std.proofs.Common.{subst}
+use Rattle.trace_text.proofs.RemarkObjects.{dropped_object}
 use Rattle.trace_text.proofs.remark_objects.say_dropped_object.Goals as goal
 
 pub returns : goal.returns
-returns g c =
-    subst (λ text. g.S.TextSink.says c.args.out.now text c.say_reason_members.new.out) (sym (line_is (remark_members (remark.Dropped c.args.line c.args.dir c.args.reason))))
-    (g.met.S.TextSink.onward _ _ _ _ _ c.say_text.ensures
-    (g.met.S.TextSink.onward _ _ _ _ _ c.say_number.ensures
-    (g.met.S.TextSink.onward _ _ _ _ _ c.say_text-2.ensures
-    (g.met.S.TextSink.onward _ _ _ _ _ c.say_direction.ensures c.say_reason_members.ensures))))
+returns g c = subst (λ text. g.S.TextSink.says c.args.out.now text c.say.new.out) (dropped_object c.args.line c.args.dir c.args.reason) c.say.ensures

@@ -1,19 +1,6 @@
-use Rattle.std.proofs.Common.{sym, subst}
-use Rattle.trace_text.specs.ExplainText.{remark_members}
-use Rattle.trace_text.specs.declared.remark.Remark.TheVariants as remark
-use Rattle.trace_text.proofs.JsonTexts.{line_is}
+use Rattle.std.proofs.Common.{subst}
+use Rattle.trace_text.proofs.RemarkObjects.{ended_object}
 use Rattle.trace_text.proofs.remark_objects.say_ended_object.Goals as goal
 
 pub returns : goal.returns
-returns g c =
-    subst (λ text. g.S.TextSink.says c.args.out.now text c.say_text-6.new.out) (sym (line_is (remark_members (remark.Ended c.args.line c.args.ended))))
-    (g.met.S.TextSink.onward _ _ _ _ _ c.say_text.ensures
-    (g.met.S.TextSink.onward _ _ _ _ _ c.say_number.ensures
-    (g.met.S.TextSink.onward _ _ _ _ _ c.say_text-2.ensures
-    (g.met.S.TextSink.onward _ _ _ _ _ c.say_direction.ensures
-    (g.met.S.TextSink.onward _ _ _ _ _ c.say_text-3.ensures
-    (g.met.S.TextSink.onward _ _ _ _ _ c.say_number-2.ensures
-    (g.met.S.TextSink.onward _ _ _ _ _ c.say_text-4.ensures
-    (g.met.S.TextSink.onward _ _ _ _ _ c.say_length.ensures
-    (g.met.S.TextSink.onward _ _ _ _ _ c.say_text-5.ensures
-    (g.met.S.TextSink.onward _ _ _ _ _ c.say_cause.ensures c.say_text-6.ensures))))))))))
+returns g c = subst (λ text. g.S.TextSink.says c.args.out.now text c.say.new.out) (ended_object c.args.line c.args.ended) c.say.ensures

@@ -6,5 +6,5 @@ use Rattle.uds_exchange.proofs.decider.put_strays.Goals as goal
 
 pub returns : goal.returns
 returns g c =
-    let all = strays-put g.S.ItemSink.takes c.args.held.now _ c.put_all.new.sink c.in_default.ensures.ok in
+    let all = strays-put g.S.ItemSink.takes c.args.held.now _ c.put_all.new.sink c.in-Ok.ensures.ok in
     subst (λ o. PutsItems g.S.ItemSink.takes c.args.sink.now (map stray_of c.args.held.now) o) (sym (c.sink-1.given.1 (sym all.0))) all.1

@@ -1,18 +1,21 @@
-use Rattle.std.proofs.Common.{◌≡◌, Option, Result, subst, sym, ◌∙◌}
+use Rattle.std.proofs.Common.{◌≡◌, List, [], Option, Result, subst, sym, ◌∙◌}
 use Rattle.isotp_receive.specs.declared.TheConstants.{MESSAGE_LIMIT}
+use Rattle.trace_canon.specs.ComparisonText.{comparison_text}
 use Rattle.trace_log.specs.declared.fault.CompareFault.{CompareFault}
+use Rattle.trace_log.specs.declared.fault.CompareFault.TheVariants.{Left, Right}
+use Rattle.trace_log.specs.declared.fault.Fault.TheVariants as fault
 use Rattle.trace_report.specs.PairPage.{pair_page, pair_title}
-use Rattle.udsnorm.specs.Commands.{ComparesPair, PagesPair}
+use Rattle.udsnorm.specs.Commands.{ComparesPair, PagesPair, text_of_difference}
 use Rattle.udsnorm.specs.proving.Pairs.{answer_held, cause_in, text_of_answer}
 use Rattle.trace_report.specs.declared.cause.Cause.{Cause}
 use Rattle.trace_run.specs.Told.{glimpse_of}
 use Rattle.udsnorm.specs.declared.pair_jobs.PairAnswer.{PairAnswer}
-use Rattle.udsnorm.proofs.Pairs.{compared_pair, fault_compared, fault_held, pages_pair}
+use Rattle.udsnorm.proofs.Pairs.{compared_pair, fault_compared, fault_held, pages_pair, read_told, refused_pair}
 use Rattle.udsnorm.proofs.pair_jobs.do_pair_job.Goals as goal
 
 pub returns-in-Compare-clause-engine : goal.returns-in-Compare-clause-engine
 returns-in-Compare-clause-engine g c =
-    let style = c.in-Compare.style in
+    let style = comparison_text c.in-Compare.style in
     let settings = c.args.config.now in
     let text = text_of_answer c.args.strict style c.compare-answer.result in
     rw c.in-Compare.is (
@@ -36,8 +39,42 @@ returns-in-Compare-clause-left_near g c = λ log agrees. rw c.in-Compare.is (c.c
 pub returns-in-Compare-clause-right_near : goal.returns-in-Compare-clause-right_near
 returns-in-Compare-clause-right_near g c = λ log agrees. rw c.in-Compare.is (c.compare-answer.ensures.right_near log agrees)
 
-pub returns-in-Report-clause-engine : goal.returns-in-Report-clause-engine
-returns-in-Report-clause-engine g c =
+pub returns-in-Ok-clause-engine : goal.returns-in-Ok-clause-engine
+returns-in-Ok-clause-engine g c =
+    let text_of = text_of_difference c.in-Diff.notation c.args.left_name.now c.args.right_name.now in
+    let settings = c.args.config.now in
+    let text = text_of_answer c.args.strict text_of c.compare-compared.result in
+    rw c.in-Diff.is (
+      text,
+      λ one other agrees_one agrees_other. subst (λ (told : Result PairAnswer CompareFault). ComparesPair text_of c.args.strict MESSAGE_LIMIT settings one other told text) (sym c.answer_of-in-Ok.ensures)
+          (compared_pair text_of c.args.strict MESSAGE_LIMIT settings one other c.compare-compared.result (c.compare-compared.ensures.answer one other agrees_one agrees_other)),
+      c.in-Ok.ensures.text,
+    )
+
+pub returns-in-Ok-clause-left_near : goal.returns-in-Ok-clause-left_near
+returns-in-Ok-clause-left_near g c = λ log agrees. rw c.in-Diff.is (c.compare-compared.ensures.left_near log agrees)
+
+pub returns-in-Ok-clause-right_near : goal.returns-in-Ok-clause-right_near
+returns-in-Ok-clause-right_near g c = λ log agrees. rw c.in-Diff.is (c.compare-compared.ensures.right_near log agrees)
+
+pub returns-in-Diff-clause-engine : goal.returns-in-Diff-clause-engine
+returns-in-Diff-clause-engine g c =
+    let text_of = text_of_difference c.in-Diff.notation c.args.left_name.now c.args.right_name.now in
+    rw c.in-Diff.is (
+      [],
+      λ one other agrees_one agrees_other. refused_pair text_of c.args.strict MESSAGE_LIMIT c.args.config.now one other c.compare-compared.result c.in-Err.ensures.answered
+          (c.compare-compared.ensures.answer one other agrees_one agrees_other),
+      c.in-Err.ensures.nothing,
+    )
+
+pub returns-in-Diff-clause-left_near : goal.returns-in-Diff-clause-left_near
+returns-in-Diff-clause-left_near g c = λ log agrees. rw c.in-Diff.is (c.compare-compared.ensures.left_near log agrees)
+
+pub returns-in-Diff-clause-right_near : goal.returns-in-Diff-clause-right_near
+returns-in-Diff-clause-right_near g c = λ log agrees. rw c.in-Diff.is (c.compare-compared.ensures.right_near log agrees)
+
+pub returns-clause-engine : goal.returns-clause-engine
+returns-clause-engine g c =
     let left = c.args.left_name.now in
     let right = c.args.right_name.now in
     let settings = c.args.config.now in
@@ -56,16 +93,24 @@ returns-in-Report-clause-engine g c =
       page.1,
     )
 
-pub returns-in-Report-clause-left_memory : goal.returns-in-Report-clause-left_memory
-returns-in-Report-clause-left_memory g c = λ log agrees is.
+pub returns-clause-left_memory : goal.returns-clause-left_memory
+returns-clause-left_memory g c = λ log agrees is.
     rw c.in-Report.is (c.keep_two-answer.ensures.left_memory log agrees (fault_held c.keep_two-answer.result _ (sym c.answer_held.ensures ∙ is)))
 
-pub returns-in-Report-clause-right_memory : goal.returns-in-Report-clause-right_memory
-returns-in-Report-clause-right_memory g c = λ log agrees is.
+pub returns-clause-right_memory : goal.returns-clause-right_memory
+returns-clause-right_memory g c = λ log agrees is.
     rw c.in-Report.is (c.keep_two-answer.ensures.right_memory log agrees (fault_held c.keep_two-answer.result _ (sym c.answer_held.ensures ∙ is)))
 
-pub returns-in-Report-clause-left_near : goal.returns-in-Report-clause-left_near
-returns-in-Report-clause-left_near g c = λ log agrees. rw c.in-Report.is (c.keep_two-answer.ensures.left_near log agrees)
+pub returns-clause-left_near : goal.returns-clause-left_near
+returns-clause-left_near g c = λ log agrees. rw c.in-Report.is (c.keep_two-answer.ensures.left_near log agrees)
 
-pub returns-in-Report-clause-right_near : goal.returns-in-Report-clause-right_near
-returns-in-Report-clause-right_near g c = λ log agrees. rw c.in-Report.is (c.keep_two-answer.ensures.right_near log agrees)
+pub returns-clause-right_near : goal.returns-clause-right_near
+returns-clause-right_near g c = λ log agrees. rw c.in-Report.is (c.keep_two-answer.ensures.right_near log agrees)
+
+pub returns-clause-left_read : goal.returns-clause-left_read
+returns-clause-left_read g c =
+    read_told g.A.Source (Left fault.Read) c.args.config.now.max_bytes c.keep_two-answer.result c.answer_held.result _ _ c.answer_held.ensures c.keep_two-answer.ensures.left_read
+
+pub returns-clause-right_read : goal.returns-clause-right_read
+returns-clause-right_read g c =
+    read_told g.B.Source (Right fault.Read) c.args.config.now.max_bytes c.keep_two-answer.result c.answer_held.result _ _ c.answer_held.ensures c.keep_two-answer.ensures.right_read

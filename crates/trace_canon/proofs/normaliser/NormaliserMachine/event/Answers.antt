@@ -1,27 +1,29 @@
+use Rattle.std.proofs.lemmas.Result.{on_err_weaker}
 use Rattle.isotp_receive.specs.declared.TheConstants.{MESSAGE_LIMIT}
 use Rattle.isotp_receive.specs.Verdict.{messages}
 use Rattle.uds_exchange.specs.Judging.{sent}
 use Rattle.trace_run.proofs.Promises.{completes_judged, completes_none}
+use Rattle.trace_canon.proofs.HandedOn.{two_ok}
 use Rattle.trace_canon.proofs.CanonicalMachines.{completes_held, says_next, says_nothing_more}
 use Rattle.trace_canon.proofs.normaliser.NormaliserMachine.event.Goals as goal
 
-pub returns-in-Ok-clause-ok : goal.returns-in-Ok-clause-ok
-returns-in-Ok-clause-ok g c = λ start T e seen stood.
+pub returns-clause-ok : goal.returns-clause-ok
+returns-clause-ok g c = two_ok c.order_to.result (λ stands says start T e seen stood.
     let M = messages MESSAGE_LIMIT T in
     let self = c.args.self.now in
     let message = c.in-Some.message in
     let completes = completes_judged T e c.args.seen message seen c.in-Some.is in
     says_next g.S.TextSink.says start.config self.config T e (sent message) self.orderer _ self.progress _ c.args.out.now _ completes.next stood
-    (c.in-Ok.ensures.stands M stood.ordered completes.step) (c.in-Ok.ensures.says M stood.ordered completes.step)
+    (stands M stood.ordered completes.step) (says M stood.ordered completes.step)) c.order_to.ensures.stands c.order_to.ensures.says
 
-pub returns-in-Err-clause-err : goal.returns-in-Err-clause-err
-returns-in-Err-clause-err g c = λ start T stood. c.in-Err.ensures.refused.1
+pub returns-clause-err : goal.returns-clause-err
+returns-clause-err g c = on_err_weaker c.order_to.result (λ refused start T stood. refused.1) c.order_to.ensures.refused
 
-pub returns-in-Err-clause-needs : goal.returns-in-Err-clause-needs
-returns-in-Err-clause-needs g c = λ start T e seen stood.
+pub returns-clause-needs : goal.returns-clause-needs
+returns-clause-needs g c = on_err_weaker c.order_to.result (λ held start T e seen stood.
     let message = c.in-Some.message in
     let completes = completes_judged T e c.args.seen message seen c.in-Some.is in
-    completes_held T e message completes (c.in-Err.ensures.held (messages MESSAGE_LIMIT T) stood.ordered completes.step)
+    completes_held T e message completes (held (messages MESSAGE_LIMIT T) stood.ordered completes.step)) c.order_to.ensures.held
 
 pub returns-in_default-clause-ok : goal.returns-in_default-clause-ok
 returns-in_default-clause-ok g c = λ start T e seen stood.

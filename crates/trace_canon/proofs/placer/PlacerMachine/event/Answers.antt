@@ -9,9 +9,9 @@ returns-in-Some-clause-ok g c = λ start T e seen stood.
     let at = seen.event in
     let what = c.args.seen in
     let begun = begun_next T e what.line what.micros what.dir (seen_event what.event) at.line at.micros at.dir at.did c.args.self.now.begun stood.tester stood.unit c.take-first.new.self
-    c.take-first.ensures.tester c.take-first.ensures.unit in
+    c.take-first.ensures.stands in
     let said = judged_said T e what c.in-Some.message seen (completes_judged T e what c.in-Some.message seen c.in-Some.is) c.args.self.now.begun stood.tester stood.unit
-    start.notation c.args.self.now.notation c.take-first.result stood.same c.take-first.ensures.tester_first c.take-first.ensures.unit_first in (
+    start.notation c.args.self.now.notation c.take-first.result stood.same c.take-first.ensures.first in (
       record { same = stood.same; tester = begun.0; unit = begun.1 },
       subst (λ text. g.S.TextSink.says c.args.out.now text c.say_message.new.out) said c.say_message.ensures,
     )
@@ -21,7 +21,7 @@ returns-in_default-clause-ok g c = λ start T e seen stood.
     let at = seen.event in
     let what = c.args.seen in
     let begun = begun_next T e what.line what.micros what.dir (seen_event what.event) at.line at.micros at.dir at.did c.args.self.now.begun stood.tester stood.unit c.take-first.new.self
-    c.take-first.ensures.tester c.take-first.ensures.unit in (
+    c.take-first.ensures.stands in (
       record { same = stood.same; tester = begun.0; unit = begun.1 },
       subst (λ text. g.S.TextSink.says c.args.out.now text c.args.out.now) (sym (nothing_said start.notation T e what seen c.in_default.is)) (g.met.S.TextSink.nothing c.args.out.now),
     )

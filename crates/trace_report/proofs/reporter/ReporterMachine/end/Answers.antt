@@ -6,6 +6,7 @@ use Rattle.trace_report.specs.Front.{PageTitle}
 use Rattle.trace_report.specs.Page.{front_before, page_end}
 use Rattle.trace_report.specs.Rows.{RowValue}
 use Rattle.trace_report.specs.proving.Following.{IsChartOf}
+use Rattle.trace_report.proofs.Holding.{first_known, last_known}
 use Rattle.trace_report.proofs.Steps.{few_rows}
 use Rattle.trace_report.proofs.reporter.ReporterMachine.end.Goals as goal
 
@@ -16,11 +17,12 @@ returns-clause-says g c = λ start T known stand within.
     let low : length (rows_of MESSAGE_LIMIT T) < 2 ^ 64 - 3 = omega (arith, known.few, few_rows MESSAGE_LIMIT T) in
     let chart = subst (λ (l : List RowValue). IsChartOf l c.say_rows.new.self) (ap (λ l. rows_of MESSAGE_LIMIT T ++ l) rows)
     (c.say_rows.ensures.stands (rows_of MESSAGE_LIMIT T) low known.chart) in
-    let last = c.last_of.ensures T known.span in
+    let first = first_known T c.args.self.span known.span in
+    let last = last_known T c.args.self.span known.span in
     let front = subst (λ (title : PageTitle). g.S.TextSink.says c.args.out.now (front_before title T) c.say_front_before-origin.new.out) known.same
     (c.say_front_before-origin.ensures.says T known.span) in
     g.met.S.TextSink.onward _ _ _ _ _ (g.met.S.TextSink.onward _ _ _ _ _ front
     (subst (λ text. g.S.TextSink.says c.say_front_before-origin.new.out text c.say_rows.new.out)
     (λ i. rows_text (origin i) (blocks_of (rows_of MESSAGE_LIMIT T)) (rows i)) (c.say_rows.ensures.says (rows_of MESSAGE_LIMIT T) low known.chart)))
     (subst (λ text. g.S.TextSink.says c.say_rows.new.out text c.say.new.out)
-    (λ i. page_end (chart.blocks i) (chart.tally i) c.args.summary.now (origin i) (last i)) c.say.ensures)
+    (λ i. page_end (chart.blocks i) (chart.tally i) c.args.summary.now (first i) (last i)) c.say.ensures)

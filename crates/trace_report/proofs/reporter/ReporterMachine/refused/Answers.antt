@@ -1,18 +1,19 @@
-use Rattle.std.proofs.Common.{subst, refl, ap, ◌∙◌}
+use Rattle.std.proofs.Common.{subst, ap, ◌∙◌}
 use Rattle.trace_report.specs.Causes.{cause_of}
 use Rattle.trace_report.specs.Front.{PageTitle}
 use Rattle.trace_report.specs.Page.{front_before, refused_end}
 use Rattle.trace_run.specs.Seen.{glimpse_value}
+use Rattle.trace_report.proofs.Holding.{first_known, last_known}
 use Rattle.trace_report.proofs.reporter.ReporterMachine.refused.Goals as goal
 
 pub returns : goal.returns
 returns g c = record {
   says = λ start T known.
-      let origin = c.say_front_before-origin.ensures.first T known.span refl in
-      let last = c.last_of.ensures T known.span in
-      let front = subst (λ (title : PageTitle). g.S.TextSink.says c.args.out.now (front_before title T) c.say_front_before-origin.new.out) known.same
-      (c.say_front_before-origin.ensures.says T known.span) in
+      let first = first_known T c.args.self.span known.span in
+      let last = last_known T c.args.self.span known.span in
+      let front = subst (λ (title : PageTitle). g.S.TextSink.says c.args.out.now (front_before title T) c.say_front_before.new.out) known.same
+      (c.say_front_before.ensures.says T known.span) in
       g.met.S.TextSink.onward _ _ _ _ _ front
-      (subst (λ text. g.S.TextSink.says c.say_front_before-origin.new.out text c.say.new.out)
-      (λ i. refused_end c.args.why ((c.cause_of-cause.ensures ∙ ap (λ (title : PageTitle). cause_of c.args.why title.most (glimpse_value c.args.source)) known.same) i) (known.chart.blocks i) (known.chart.tally i) c.args.summary.now (origin i) (last i)) c.say.ensures);
+      (subst (λ text. g.S.TextSink.says c.say_front_before.new.out text c.say.new.out)
+      (λ i. refused_end c.args.why ((c.cause_of.ensures ∙ ap (λ (title : PageTitle). cause_of c.args.why title.most (glimpse_value c.args.source)) known.same) i) (known.chart.blocks i) (known.chart.tally i) c.args.summary.now (first i) (last i)) c.say.ensures);
 }

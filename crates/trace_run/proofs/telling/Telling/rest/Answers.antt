@@ -37,7 +37,7 @@ returns-clause-sure g c = λ is start first T tells.
       said = [];
       wrote = wrote_all W start c.settle.new.target text written;
       carried =
-          subst (λ b. Carries W c.settle.new.target [] b c.settle.new.page.block c.settle.new.target) (sym (c.settle.ensures.well is))
+          subst (λ b. Carries W c.settle.new.target [] b c.settle.new.self.block c.settle.new.target) (sym (c.settle.ensures.well is))
           (subst (λ h. Carries W c.settle.new.target [] false h c.settle.new.target) (sym (c.settle.ensures.blank is)) (blank_page W c.settle.new.target (omega (arith, written.failures))));
     }
 

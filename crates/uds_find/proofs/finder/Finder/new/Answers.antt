@@ -3,4 +3,4 @@ use Rattle.uds_find.proofs.Standing.{nobody-waits, nothing-tallied}
 use Rattle.uds_find.proofs.finder.Finder.new.Goals as goal
 
 pub returns : goal.returns
-returns c = record { waiting = nobody-waits; tally = nothing-tallied c.new-pairs.result c.new-pairs.ensures.empty c.new-pairs.ensures.ordered }
+returns c = record { waiting = nobody-waits; tally = nothing-tallied c.new.result c.new.ensures.empty c.new.ensures.ordered }

@@ -1,0 +1,49 @@
+-- Where the receptions that stand began, by what one frame does.
+use Rattle.std.proofs.Common.{◌≡◌, Bool, true, false, List, ℕ, Option, None, Some, refl}
+use Rattle.std.specs.Prelude.{if◌then◌else◌}
+use Rattle.direction.specs.declared.Dir.{Dir}
+use Rattle.direction.specs.declared.Dir.TheVariants.{Tester, Unit}
+use Rattle.isotp_receive.specs.Trace.{same_direction}
+use Rattle.isotp_receive.specs.Verdict.{message, began, stored, flowed, dropped}
+use Rattle.isotp_receive.specs.declared.event.Reason.{Reason}
+use Rattle.trace_canon.specs.Begun.{begun_of, moved_by}
+use Rattle.trace_canon.specs.declared.begun.Begun.{Begun}
+use Rattle.trace_canon.specs.declared.begun.FramePlace.{FramePlace}
+
+-- none stands
+pub none_begun : (d : Dir) → begun_of (record { tester = None; unit = None }) d ≡ None
+none_begun Tester = refl
+none_begun Unit = refl
+
+-- that of one direction is another now
+pub of_tester : (begun : Option FramePlace) (old : Begun) (d : Dir) → begun_of (record { tester = begun; unit = old.unit }) d ≡ (if same_direction d Tester then begun else begun_of old d)
+of_tester begun old Tester = refl
+of_tester begun old Unit = refl
+
+pub of_unit : (begun : Option FramePlace) (old : Begun) (d : Dir) → begun_of (record { tester = old.tester; unit = begun }) d ≡ (if same_direction d Unit then begun else begun_of old d)
+of_unit begun old Tester = refl
+of_unit begun old Unit = refl
+
+module _ (here : FramePlace) (begun : Option FramePlace) where
+  -- it is over with a message
+  pub over : (own : Bool) (bytes : List ℕ) → (if own then None else begun) ≡ moved_by own (message bytes) here begun
+  over true bytes = refl
+  over false bytes = refl
+
+  -- it begins with a first frame
+  pub anew : (own : Bool) → (if own then Some here else begun) ≡ moved_by own began here begun
+  anew true = refl
+  anew false = refl
+
+  -- and else it goes on
+  pub on_stored : (own : Bool) → begun ≡ moved_by own stored here begun
+  on_stored true = refl
+  on_stored false = refl
+
+  pub on_flow : (own : Bool) → begun ≡ moved_by own flowed here begun
+  on_flow true = refl
+  on_flow false = refl
+
+  pub on_drop : (own : Bool) (reason : Reason) → begun ≡ moved_by own (dropped reason) here begun
+  on_drop true reason = refl
+  on_drop false reason = refl

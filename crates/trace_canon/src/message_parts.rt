@@ -1,0 +1,67 @@
+//! The parts of what `messages` says of a message.
+use crate::begun::FramePlace;
+use text_parts::{Part, say};
+use trace_io::TextSink;
+use trace_text::names::role_name;
+use trace_text::{Number, SixDecimals};
+use uds_exchange::Step;
+
+/// What a message is to its item.
+#[derive(Clone, Copy)]
+pub(crate) struct Role(pub Step);
+
+impl Part for Role {
+    ghost use Rattle.trace_text.specs.Words.{role_text};
+
+    ghost text = { λ role. role_text role.0 };
+
+    #[inline(always)]
+    fn say<S: TextSink>(self, out: &mut S) {
+        say(out, role_name(self.0));
+    }
+}
+
+/// The time of a frame, which is so many microseconds: its seconds, a dot, and six digits.
+#[derive(Clone, Copy)]
+pub(crate) struct Stamp(pub u64);
+
+impl Part for Stamp {
+    ghost use Rattle.trace_canon.specs.MessageLines.{stamp_text};
+
+    ghost text = { λ stamp. stamp_text stamp.0 };
+
+    #[inline(always)]
+    fn say<S: TextSink>(self, out: &mut S) {
+        say(out, (Number(self.0 / 1_000_000), ".", SixDecimals(self.0)));
+    }
+}
+
+/// The lines and the times of the first frame of a message and of its last one.
+#[derive(Clone, Copy)]
+pub(crate) struct Extent {
+    pub first: FramePlace,
+    pub last: FramePlace,
+}
+
+impl Part for Extent {
+    ghost use Rattle.trace_canon.specs.MessageLines.{extent_text};
+
+    ghost text = { λ extent. extent_text extent.first extent.last };
+
+    #[inline(always)]
+    fn say<S: TextSink>(self, out: &mut S) {
+        say(
+            out,
+            (
+                " lines ",
+                Number(self.first.line),
+                " to ",
+                Number(self.last.line),
+                " at ",
+                Stamp(self.first.micros),
+                " to ",
+                Stamp(self.last.micros),
+            ),
+        );
+    }
+}

@@ -1,0 +1,12 @@
+pub mod Saying
+pub mod RowSteps
+pub mod LineSteps
+pub mod HunkSteps
+pub mod LineTurns
+pub mod HunkTurns
+pub mod ObjectTexts
+pub mod ObjectTurns
+pub mod Leading
+pub mod EqualSessions
+pub mod Counted
+pub mod Promises

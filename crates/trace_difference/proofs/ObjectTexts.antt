@@ -1,0 +1,55 @@
+-- The objects of rows and of counts, in the parts that are said.
+use Rattle.std.proofs.Common.{◌≡◌, ℕ, ◌+◌, Bool, true, false, List, ◌++◌, codes, refl, sym, ap, ◌∙◌, append_assoc}
+use Rattle.std.specs.Prelude.{if◌then◌else◌}
+use Rattle.std.specs.Fmt.{decimal}
+use Rattle.uds_exchange.specs.Meaning.{ItemValue}
+use Rattle.uds_difference.specs.declared.row.Row.{Row}
+use Rattle.uds_difference.specs.declared.row.Row.TheVariants.{Same, Changed, OnlyLeft, OnlyRight}
+use Rattle.trace_text.specs.Json.{object_line, value_text}
+use Rattle.trace_text.proofs.Promises.{line_is, value_is}
+use Rattle.trace_difference.specs.Hunks.{left_in, right_in}
+use Rattle.trace_difference.specs.proving.RowFront.{row_front}
+use Rattle.trace_difference.specs.Objects.{change_word, count_members, count_of, left_value, right_value, row_members}
+
+in_one : (a b c d e f g h i j k l m : List ℕ)
+    → ((((((a ++ b ++ c ++ d) ++ (e ++ f ++ g ++ h ++ i)) ++ j) ++ k) ++ l) ++ m)
+    ≡ a ++ (b ++ (c ++ (d ++ (e ++ (f ++ (g ++ (h ++ (i ++ (j ++ (k ++ (l ++ m)))))))))))
+in_one a b c d e f g h i j k l m = simp append_assoc
+
+pub row_is : (xs ys : List ItemValue) (place i j : ℕ) (row : Row)
+    → (((row_front place (change_word row) (i + left_in row) (j + right_in row) ++ value_text (left_value xs i row)) ++ codes ",\"right\":") ++ value_text (right_value ys j row)) ++ codes "}\n"
+    ≡ object_line (row_members xs ys place i j row)
+row_is xs ys place i j row =
+    let left = left_value xs i row in
+    let right = right_value ys j row in
+    in_one (codes "{\"place\":") (decimal place) (codes ",\"change\":\"") (change_word row) (codes "\",\"left_item\":") (decimal (i + left_in row)) (codes ",\"right_item\":")
+    (decimal (j + right_in row)) (codes ",\"left\":") (value_text left) (codes ",\"right\":") (value_text right) (codes "}\n")
+    ∙ ap (λ l.
+    codes "{\"place\":" ++ (decimal place ++ (codes ",\"change\":\"" ++ (change_word row ++ (codes "\",\"left_item\":" ++ (decimal (i + left_in row) ++ (codes ",\"right_item\":" ++ (decimal (j + right_in row) ++ (codes ",\"left\":" ++ l)))))))))
+    (ap (λ l. value_text left ++ (codes ",\"right\":" ++ l)) (value_is right (codes "}\n")) ∙ value_is left _)
+    ∙ sym (line_is (row_members xs ys place i j row))
+
+pub front-is : (place i j : ℕ) (row : Row) (left right : ℕ) → left ≡ left_in row → right ≡ right_in row
+    → row_front place (change_word row) (i + left) (j + right) ≡ row_front place (change_word row) (i + left_in row) (j + right_in row)
+front-is place i j row left right a b = rw (a, b) refl
+
+in_ten : (a b c d e f g h i j : List ℕ)
+    → (a ++ b ++ c ++ d ++ e ++ f ++ g ++ h ++ i ++ j) ≡ a ++ (b ++ (c ++ (d ++ (e ++ (f ++ (g ++ (h ++ (i ++ j))))))))
+in_ten a b c d e f g h i j = simp append_assoc
+
+-- the object of the counts, in the parts that are said
+pub counts_are : (shortest : Bool) (rows : List Row) (same removed added changed : ℕ) → same ≡ count_of Same rows → removed ≡ count_of OnlyLeft rows
+    → added ≡ count_of OnlyRight rows → changed ≡ count_of Changed rows
+    → codes "{\"same\":" ++ decimal same ++ codes ",\"removed\":" ++ decimal removed ++ codes ",\"added\":" ++ decimal added ++ codes ",\"changed\":" ++ decimal changed
+    ++ codes ",\"shortest\":" ++ (if shortest then codes "true}\n" else codes "false}\n")
+    ≡ object_line (count_members shortest rows)
+counts_are true rows same removed added changed a b c d =
+    rw (a, b, c, d)
+    (in_ten (codes "{\"same\":") (decimal (count_of Same rows)) (codes ",\"removed\":") (decimal (count_of OnlyLeft rows)) (codes ",\"added\":") (decimal (count_of OnlyRight rows))
+    (codes ",\"changed\":") (decimal (count_of Changed rows)) (codes ",\"shortest\":") (codes "true}\n")
+    ∙ sym (line_is (count_members true rows)))
+counts_are false rows same removed added changed a b c d =
+    rw (a, b, c, d)
+    (in_ten (codes "{\"same\":") (decimal (count_of Same rows)) (codes ",\"removed\":") (decimal (count_of OnlyLeft rows)) (codes ",\"added\":") (decimal (count_of OnlyRight rows))
+    (codes ",\"changed\":") (decimal (count_of Changed rows)) (codes ",\"shortest\":") (codes "false}\n")
+    ∙ sym (line_is (count_members false rows)))

@@ -1,0 +1,15 @@
+use Rattle.std.proofs.Common.{◌+◌, ◌≤◌, drop}
+use Rattle.std.specs.List.{flat_map}
+use Rattle.trace_difference.specs.Lines.{line_text, lines_of}
+use Rattle.trace_difference.proofs.LineSteps.{rest_text}
+use Rattle.trace_difference.proofs.Saying.{IsLeft}
+use Rattle.trace_difference.proofs.hunk_lines.say_lines.Given as goal
+
+abbrev pub invariant-rows : goal.invariant-rows
+invariant-rows g l = record {
+  small : l.i ≤ l.left_before + l.row-index;
+  forward : l.waiting ≤ l.j;
+  below : l.j ≤ l.right_before + l.row-index;
+  left : IsLeft g.S.TextSink.says l.initial.out (rest_text l.left.items.now l.right.items.now l.i l.j l.waiting (drop l.row-index l.rows))
+      (flat_map line_text (lines_of l.left.items.now l.right.items.now l.left_before l.right_before l.rows)) l.out;
+}

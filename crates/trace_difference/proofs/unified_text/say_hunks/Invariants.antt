@@ -1,0 +1,15 @@
+use Rattle.std.proofs.Common.{◌≤◌, drop}
+use Rattle.std.specs.List.{flat_map}
+use Rattle.trace_difference.specs.Hunks.{hunks}
+use Rattle.trace_difference.specs.Unified.{hunk_text}
+use Rattle.trace_difference.proofs.HunkSteps.{hunks_left}
+use Rattle.trace_difference.proofs.Saying.{IsLeft}
+use Rattle.trace_difference.proofs.unified_text.say_hunks.Given as goal
+
+abbrev pub invariant-rows : goal.invariant-rows
+invariant-rows g l = record {
+  i_small : l.i ≤ l.k;
+  j_small : l.j ≤ l.k;
+  left : IsLeft g.S.TextSink.says l.initial.out (hunks_left (hunk_text l.left.items.now l.right.items.now) l.shown l.i l.j (drop l.k l.rows))
+      (flat_map (hunk_text l.left.items.now l.right.items.now) (hunks l.rows)) l.out;
+}

@@ -1,0 +1,8 @@
+pub mod Hunks
+pub mod Lines
+pub mod Labels
+pub mod Unified
+pub mod Objects
+pub mod Written
+pub mod Laws
+pub mod proving

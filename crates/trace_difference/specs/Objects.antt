@@ -1,0 +1,84 @@
+-- A difference as objects of JSON: one for each row that is not the same in both sessions, and one with the counts.
+use Rattle.std.specs.Prelude.{ℕ, ◌+◌, Bool, true, false, not, ◌&&◌, List, [], ◌∷◌, ◌++◌, codes, Option, Some, None, slice_get, if◌then◌else◌}
+use Rattle.uds_exchange.specs.Meaning.{ItemValue}
+use Rattle.uds_difference.specs.declared.row.Row.{Row}
+use Rattle.uds_difference.specs.declared.row.Row.TheVariants.{Same, Changed, OnlyLeft, OnlyRight}
+use Rattle.trace_text.specs.Json.{Value, Members, nothing, member, object_line}
+use Rattle.trace_text.specs.Json as json
+use Rattle.trace_text.specs.ListText.{item_object}
+use Rattle.trace_text.specs.declared.item_style.Numbering.TheVariants.{Hidden}
+use Rattle.trace_difference.specs.Hunks.{is_change, left_in, right_in}
+
+-- what becomes of the item of a row
+abbrev pub change_word : Row → List ℕ
+change_word Same = codes "same"
+change_word Changed = codes "changed"
+change_word OnlyLeft = codes "removed"
+change_word OnlyRight = codes "added"
+
+-- the object that `list` has for an item without numbers, or null
+abbrev pub listed_value : Option ItemValue → Value
+listed_value (Some item) = json.object (item_object Hidden 0 item)
+listed_value None = json.null
+
+-- what a row has of the left list, where it stands at this place of that
+abbrev pub left_value : List ItemValue → ℕ → Row → Value
+left_value xs i Same = listed_value (slice_get xs i)
+left_value xs i Changed = listed_value (slice_get xs i)
+left_value xs i OnlyLeft = listed_value (slice_get xs i)
+left_value xs i OnlyRight = json.null
+
+-- and of the right one
+abbrev pub right_value : List ItemValue → ℕ → Row → Value
+right_value ys j Same = listed_value (slice_get ys j)
+right_value ys j Changed = listed_value (slice_get ys j)
+right_value ys j OnlyLeft = json.null
+right_value ys j OnlyRight = listed_value (slice_get ys j)
+
+-- A row: the number of its place, what becomes of its item, and of both sides the number of its item, or of the one in front
+-- of it where it has none.
+abbrev pub row_members : List ItemValue → List ItemValue → ℕ → ℕ → ℕ → Row → Members
+row_members xs ys place i j row =
+    member (codes "place") (json.number place) (member (codes "change") (json.string (change_word row))
+    (member (codes "left_item") (json.number (i + left_in row)) (member (codes "right_item") (json.number (j + right_in row))
+    (member (codes "left") (left_value xs i row) (member (codes "right") (right_value ys j row) nothing)))))
+
+-- its line, where it is a change
+abbrev pub row_text : List ItemValue → List ItemValue → ℕ → ℕ → ℕ → Row → List ℕ
+row_text xs ys place i j row = if is_change row then object_line (row_members xs ys place i j row) else []
+
+-- the number of the place of a row, by that of the last place in front of it, and whether the row in front is a change: a
+-- place is a longest run of rows that are changes
+abbrev pub place_of : ℕ → Bool → Row → ℕ
+place_of places behind_change row = if is_change row && not behind_change then places + 1 else places
+
+-- the lines of rows, whose first one stands at these places of both lists
+abbrev pub rows_text : List ItemValue → List ItemValue → ℕ → Bool → ℕ → ℕ → List Row → List ℕ
+rows_text xs ys places behind_change i j [] = []
+rows_text xs ys places behind_change i j (row ∷ rows) =
+    row_text xs ys (place_of places behind_change row) i j row
+    ++ rows_text xs ys (place_of places behind_change row) (is_change row) (i + left_in row) (j + right_in row) rows
+
+-- both are of one kind
+abbrev pub same_row : Row → Row → Bool
+same_row Same Same = true
+same_row Changed Changed = true
+same_row OnlyLeft OnlyLeft = true
+same_row OnlyRight OnlyRight = true
+same_row _ _ = false
+
+-- how many rows are of this kind
+abbrev pub count_of : Row → List Row → ℕ
+count_of kind [] = 0
+count_of kind (row ∷ rows) = (if same_row kind row then 1 else 0) + count_of kind rows
+
+-- the counts, and whether the script of equal items is known to be a shortest one
+abbrev pub count_members : Bool → List Row → Members
+count_members shortest rows =
+    member (codes "same") (json.number (count_of Same rows)) (member (codes "removed") (json.number (count_of OnlyLeft rows))
+    (member (codes "added") (json.number (count_of OnlyRight rows)) (member (codes "changed") (json.number (count_of Changed rows))
+    (member (codes "shortest") (json.truth shortest) nothing))))
+
+-- the objects of all rows of two sessions
+abbrev pub objects_text : Bool → List Row → List ItemValue → List ItemValue → List ℕ
+objects_text shortest rows xs ys = rows_text xs ys 0 false 0 0 rows ++ object_line (count_members shortest rows)

@@ -1,0 +1,4 @@
+-- Devices of proof.
+pub mod Waiting
+pub mod HunkOf
+pub mod RowFront

@@ -1,0 +1,10 @@
+-- Devices of proof: the lines of added items that wait for all to be said that is removed at their place.
+use Prim.Native.Nat.{zero, suc}
+use Rattle.std.specs.Prelude.{ℕ, ◌+◌, List, [], ◌∷◌}
+use Rattle.uds_exchange.specs.Meaning.{ItemValue}
+use Rattle.trace_difference.specs.Lines.{Line, added_at}
+
+-- the lines of so many items, from this place on
+abbrev pub added_lines : List ItemValue → ℕ → ℕ → List Line
+added_lines ys from zero = []
+added_lines ys from (suc count) = added_at ys from ∷ added_lines ys (from + 1) count

@@ -1,0 +1,28 @@
+//! The text of a difference: where two sessions differ, in the form that `diff -u` has, or as objects of JSON.
+//!
+//! [`uds_difference`] says what stands beside what in two sessions. Here is what is written of that. In words it is what
+//! `diff -U3` writes of both lists without numbers: hunks of lines, with three lines of what is the same before and behind
+//! each place, so that `patch` makes the right list of the left one. As JSON it is an object for each row that is not the same
+//! in both, and one with the counts.
+//!
+//! ```text
+//! --- one.log
+//! +++ other.log
+//! @@ -1,3 +1,2 @@
+//!  exchange ReadDataByIdentifier 22F190 -> positive 62F19041
+//! -stray tester 3E80
+//! -exchange ReadDataByIdentifier 22F191 -> positive 62F19101
+//! +exchange ReadDataByIdentifier 22F191 -> positive 62F19102
+//! ```
+#![tactic(auto)]
+
+mod hunk_lines;
+mod hunk_rows;
+mod labels;
+pub mod laws;
+mod row_objects;
+mod unified_text;
+mod written;
+
+pub use labels::is_plain_name;
+pub use written::{Side, say_difference, write_difference};

@@ -1,0 +1,200 @@
+//! The rows of a difference as objects of JSON.
+ghost use Rattle.std.specs.Prelude.{◌≡◌, ◌+◌, ◌<◌, ◌≤◌, ◌^◌, false, slice_get};
+ghost use Rattle.trace_text.specs.Json.{object_line, value_text};
+ghost use Rattle.trace_difference.specs.Hunks.{left_in, right_in};
+ghost use Rattle.trace_difference.specs.proving.RowFront.{row_front};
+ghost use Rattle.trace_difference.specs.Objects.{change_word, count_members, count_of, left_value, listed_value, objects_text, place_of, right_value, row_members, row_text, rows_text, same_row};
+
+use crate::hunk_rows::{is_change, left_in, right_in};
+use crate::written::Side;
+use text_parts::{Either, Part, say};
+use trace_io::TextSink;
+use trace_text::say::say_text;
+use trace_text::{Number, Numbering, say_item_object};
+use uds_difference::Row;
+use uds_exchange::Meaning;
+
+/// Says the objects of all rows of two sessions.
+pub(crate) fn say_objects<S: TextSink>(
+    shortest: bool,
+    left: Side<'_>,
+    right: Side<'_>,
+    rows: &[Row],
+    out: &mut S,
+)
+    ensures { S.says out.old (objects_text shortest rows.now left.entry.items.now right.entry.items.now) out.new }
+{
+    say_rows(left, right, rows, out);
+    say_counts(shortest, rows, out);
+}
+
+/// Says an object for each row that is a change.
+fn say_rows<S: TextSink>(left: Side<'_>, right: Side<'_>, rows: &[Row], out: &mut S)
+    ensures { S.says out.old (rows_text left.entry.items.now right.entry.items.now 0 false 0 0 rows.now) out.new }
+{
+    let mut places = 0;
+    let mut behind_change = false;
+    let mut i = 0;
+    let mut j = 0;
+    'rows: for row in rows {
+        places = place_of(places, behind_change, *row);
+        behind_change = is_change(*row);
+        if behind_change {
+            say_row(left.items, right.items, places, i, j, *row, out);
+        }
+        i += left_in(*row);
+        j += right_in(*row);
+    }
+}
+
+/// The number of the place of a row, by that of the last one in front of it, and whether the row in front is a change.
+fn place_of(places: u64, behind_change: bool, row: Row) -> u64
+    requires { places < 2 ^ 63 }
+    ensures value { result ≡ place_of places behind_change row }
+    ensures few { result ≤ places + 1 }
+{
+    if is_change(row) && !behind_change {
+        places + 1
+    } else {
+        places
+    }
+}
+
+/// Says the object of a row.
+fn say_row<S: TextSink>(
+    left: &Meaning,
+    right: &Meaning,
+    place: u64,
+    i: usize,
+    j: usize,
+    row: Row,
+    out: &mut S,
+)
+    requires i_small { i < 2 ^ 63 }
+    requires j_small { j < 2 ^ 63 }
+    ensures { S.says out.old (object_line (row_members left.now right.now place i j row)) out.new }
+{
+    say_row_front(place, i, j, row, out);
+    say_left(left, i, row, out);
+    say_text(out, ",\"right\":");
+    say_right(right, j, row, out);
+    say_text(out, "}\n");
+}
+
+/// Says it up to what both sides have.
+fn say_row_front<S: TextSink>(place: u64, i: usize, j: usize, row: Row, out: &mut S)
+    requires i_small { i < 2 ^ 63 }
+    requires j_small { j < 2 ^ 63 }
+    ensures { S.says out.old (row_front place (change_word row) (i + left_in row) (j + right_in row)) out.new }
+{
+    let left = left_in(row);
+    let right = right_in(row);
+    say(
+        out,
+        ("{\"place\":", Number(place), ",\"change\":\"", Change(row)),
+    );
+    say(
+        out,
+        (
+            "\",\"left_item\":",
+            Number((i + left) as u64),
+            ",\"right_item\":",
+            Number((j + right) as u64),
+            ",\"left\":",
+        ),
+    );
+}
+
+/// What becomes of the item of a row.
+#[derive(Clone, Copy)]
+struct Change(Row);
+
+impl Part for Change {
+    ghost use Rattle.trace_difference.specs.Objects.{change_word};
+
+    ghost text = { λ change. change_word change.0 };
+
+    fn say<S: TextSink>(self, out: &mut S) {
+        match self.0 {
+            Row::Same => say_text(out, "same"),
+            Row::Changed => say_text(out, "changed"),
+            Row::OnlyLeft => say_text(out, "removed"),
+            Row::OnlyRight => say_text(out, "added"),
+        }
+    }
+}
+
+/// Says what a row has of the left session.
+fn say_left<S: TextSink>(items: &Meaning, place: usize, row: Row, out: &mut S)
+    ensures { S.says out.old (value_text (left_value items.now place row)) out.new }
+{
+    match row {
+        Row::Same | Row::Changed | Row::OnlyLeft => say_listed(items, place, out),
+        Row::OnlyRight => say_text(out, "null"),
+    }
+}
+
+/// Says what it has of the right one.
+fn say_right<S: TextSink>(items: &Meaning, place: usize, row: Row, out: &mut S)
+    ensures { S.says out.old (value_text (right_value items.now place row)) out.new }
+{
+    match row {
+        Row::Same | Row::Changed | Row::OnlyRight => say_listed(items, place, out),
+        Row::OnlyLeft => say_text(out, "null"),
+    }
+}
+
+/// Says the object of the item at a place, or that there is none.
+fn say_listed<S: TextSink>(items: &Meaning, place: usize, out: &mut S)
+    ensures { S.says out.old (value_text (listed_value (slice_get items.now place))) out.new }
+{
+    match items.item(place) {
+        Some(item) => say_item_object(0, Numbering::Hidden, item, out),
+        None => say_text(out, "null"),
+    }
+}
+
+/// Says the object of the counts.
+fn say_counts<S: TextSink>(shortest: bool, rows: &[Row], out: &mut S)
+    ensures { S.says out.old (object_line (count_members shortest rows.now)) out.new }
+{
+    let same = count_of(Row::Same, rows);
+    let removed = count_of(Row::OnlyLeft, rows);
+    let added = count_of(Row::OnlyRight, rows);
+    let changed = count_of(Row::Changed, rows);
+    say(
+        out,
+        (
+            "{\"same\":",
+            Number(same),
+            ",\"removed\":",
+            Number(removed),
+            ",\"added\":",
+            Number(added),
+            ",\"changed\":",
+            Number(changed),
+            ",\"shortest\":",
+            Either(shortest, "true}\n", "false}\n"),
+        ),
+    );
+}
+
+/// How many rows are of this kind.
+fn count_of(kind: Row, rows: &[Row]) -> u64
+    ensures { result ≡ count_of kind rows.now }
+{
+    let mut count = 0;
+    'rows: for row in rows {
+        if is_of(kind, *row) {
+            count += 1;
+        }
+    }
+    count
+}
+
+/// Whether a row is of this kind.
+fn is_of(kind: Row, row: Row) -> bool
+    ensures { result ≡ same_row kind row }
+{
+    kind == row
+}

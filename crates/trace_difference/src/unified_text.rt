@@ -1,0 +1,162 @@
+//! The unified text of a difference.
+ghost use Rattle.std.specs.Prelude.{◌≡◌, ◌+◌, ◌<◌, ◌^◌, length};
+ghost use Rattle.std.specs.List.{flat_map};
+ghost use Rattle.uds_difference.specs.Bound.{bound_for};
+ghost use Rattle.trace_difference.specs.Hunks.{Hunk, hunks};
+ghost use Rattle.trace_difference.specs.Unified.{header_text, hunk_text, unified_text};
+ghost use Rattle.trace_difference.specs.proving.HunkOf.{hunk_of};
+
+use crate::hunk_lines::say_lines;
+use crate::hunk_rows::{
+    changes_within, differs, hunk_length, left_count, left_in, right_count, right_in,
+};
+use crate::labels::Label;
+use crate::written::Side;
+use text_parts::{Part, say};
+use trace_io::TextSink;
+use trace_text::{Number, Place};
+use uds_difference::Row;
+
+/// Says the text of these rows of two sessions: nothing where nothing differs.
+pub(crate) fn say_unified<S: TextSink>(
+    shortest: bool,
+    left: Side<'_>,
+    right: Side<'_>,
+    rows: &[Row],
+    out: &mut S,
+)
+    ensures { S.says out.old (unified_text left.entry.name.now right.entry.name.now shortest (bound_for (length left.entry.items.now + length right.entry.items.now)) rows.now left.entry.items.now right.entry.items.now) out.new }
+{
+    if differs(rows) {
+        let bound = bound_for(left.items.len() + right.items.len());
+        say(
+            out,
+            (Note { shortest, bound }, Header(left.name, right.name)),
+        );
+        say_hunks(left, right, rows, out);
+    }
+}
+
+/// How many items a shortest script removes and adds at most, where two sessions have so many items together.
+fn bound_for(items: usize) -> u64
+    ensures { result ≡ bound_for items }
+{
+    if items == 0 {
+        return 2_000;
+    }
+    (1_073_741_824 / items as u64).min(2_000).max(64)
+}
+
+/// That a shorter script may keep equal items, where this bound was passed up to which one is looked for.
+#[derive(Clone, Copy)]
+struct Note {
+    shortest: bool,
+    bound: u64,
+}
+
+impl Part for Note {
+    ghost use Rattle.trace_difference.specs.Unified.{note_text};
+
+    ghost text = { λ note. note_text note.shortest note.bound };
+
+    fn say<S: TextSink>(self, out: &mut S) {
+        if !self.shortest {
+            say(
+                out,
+                (
+                    "# perhaps not the shortest: more than ",
+                    Number(self.bound),
+                    " items would be removed or added\n",
+                ),
+            );
+        }
+    }
+}
+
+/// The names of both files.
+#[derive(Clone, Copy)]
+struct Header<'a>(&'a [u8], &'a [u8]);
+
+impl<'a> Part for Header<'a> {
+    ghost use Rattle.trace_difference.specs.Unified.{header_text};
+
+    ghost text = { λ names. header_text names.0.now names.1.now };
+
+    fn say<S: TextSink>(self, out: &mut S) {
+        say(out, ("--- ", Label(self.0), "\n+++ ", Label(self.1), "\n"));
+    }
+}
+
+/// Says the hunks of all rows of two sessions.
+fn say_hunks<S: TextSink>(left: Side<'_>, right: Side<'_>, rows: &[Row], out: &mut S)
+    ensures { S.says out.old (flat_map (hunk_text left.entry.items.now right.entry.items.now) (hunks rows.now)) out.new }
+{
+    let mut shown = 0;
+    let mut i = 0;
+    let mut j = 0;
+    'rows: for k in 0..rows.len() {
+        let rest = &rows[k..];
+        if shown > 0 {
+            shown -= 1;
+        } else if changes_within(4, rest) {
+            let length = hunk_length(rest);
+            say_hunk(left, right, i, j, &rest[..length], out);
+            shown = length - 1;
+        }
+        i += left_in(rows[k]);
+        j += right_in(rows[k]);
+    }
+}
+
+/// Says the hunk that has these rows, before which so many items of both sessions stand.
+fn say_hunk<S: TextSink>(
+    left: Side<'_>,
+    right: Side<'_>,
+    left_before: usize,
+    right_before: usize,
+    rows: &[Row],
+    out: &mut S,
+)
+    requires left_small { left_before < 2 ^ 63 }
+    requires right_small { right_before < 2 ^ 63 }
+    ensures { S.says out.old (hunk_text left.entry.items.now right.entry.items.now (hunk_of left_before right_before rows.now)) out.new }
+{
+    say(
+        out,
+        (
+            "@@ -",
+            Span {
+                before: left_before,
+                count: left_count(rows),
+            },
+            " +",
+            Span {
+                before: right_before,
+                count: right_count(rows),
+            },
+            " @@\n",
+        ),
+    );
+    say_lines(left, right, left_before, right_before, rows, out);
+}
+
+/// Which lines of a list a hunk has.
+#[derive(Clone, Copy)]
+struct Span {
+    before: usize,
+    count: usize,
+}
+
+impl Part for Span {
+    ghost use Rattle.trace_difference.specs.Unified.{span_text};
+
+    ghost text = { λ span. span_text span.before span.count };
+
+    fn say<S: TextSink>(self, out: &mut S) {
+        match self.count {
+            0 => say(out, (Number(self.before as u64), ",0")),
+            1 => say(out, Place(self.before)),
+            _ => say(out, (Place(self.before), ",", Number(self.count as u64))),
+        }
+    }
+}

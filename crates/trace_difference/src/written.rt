@@ -1,0 +1,82 @@
+//! What is written of two sessions.
+ghost use Rattle.trace_io.specs.Counted.{IsLowCount};
+ghost use Rattle.trace_run.specs.Printed.{Prints};
+ghost use Rattle.trace_difference.specs.Written.{written_rows};
+
+use crate::row_objects::say_objects;
+use crate::unified_text::say_unified;
+use text_parts::Part;
+use trace_io::{Target, TextSink};
+use trace_log::Fault;
+use trace_run::print;
+use trace_text::Notation;
+use uds_difference::Difference;
+use uds_exchange::Meaning;
+
+/// A session, and the name of its file.
+#[derive(Clone, Copy)]
+pub struct Side<'a> {
+    pub name: &'a [u8],
+    pub items: &'a Meaning,
+}
+
+/// Writes a difference of two sessions, in this notation.
+///
+/// The target is not flushed.
+pub fn write_difference<W: Target>(
+    difference: &Difference,
+    left: Side<'_>,
+    right: Side<'_>,
+    notation: Notation,
+    target: &mut W,
+) -> Result<(), Fault>
+    requires { IsLowCount (W.failures target.old) }
+
+    // Its text was written, or a front of it where writing failed; and what that did with the target.
+    ensures printed { Prints W.Target (written_rows notation left.entry.name.now right.entry.name.now difference.now.shortest difference.now.rows.items left.entry.items.now right.entry.items.now) target.old result target.new }
+{
+    print(
+        Noted {
+            difference,
+            left,
+            right,
+            notation,
+        },
+        target,
+    )
+}
+
+/// Says a difference of two sessions, in this notation.
+pub fn say_difference<S: TextSink>(
+    difference: &Difference,
+    left: Side<'_>,
+    right: Side<'_>,
+    notation: Notation,
+    out: &mut S,
+)
+    ensures { S.says out.old (written_rows notation left.entry.name.now right.entry.name.now difference.now.shortest difference.now.rows.items left.entry.items.now right.entry.items.now) out.new }
+{
+    match notation {
+        Notation::Text => say_unified(difference.shortest, left, right, &difference.rows, out),
+        Notation::Json => say_objects(difference.shortest, left, right, &difference.rows, out),
+    }
+}
+
+/// A difference in a notation.
+#[derive(Clone, Copy)]
+struct Noted<'a> {
+    difference: &'a Difference,
+    left: Side<'a>,
+    right: Side<'a>,
+    notation: Notation,
+}
+
+impl<'a> Part for Noted<'a> {
+    ghost use Rattle.trace_difference.specs.Written.{written_rows};
+
+    ghost text = { λ t. written_rows t.notation t.left.name.now t.right.name.now t.difference.now.shortest t.difference.now.rows.items t.left.items.now t.right.items.now };
+
+    fn say<S: TextSink>(self, out: &mut S) {
+        say_difference(self.difference, self.left, self.right, self.notation, out);
+    }
+}

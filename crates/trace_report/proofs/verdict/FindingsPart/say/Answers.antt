@@ -1,0 +1,8 @@
+use Rattle.std.proofs.Common.{subst}
+use Rattle.trace_report.specs.Verdict.{findings_text}
+use Rattle.trace_report.proofs.verdict.FindingsPart.say.Goals as goal
+
+pub returns : goal.returns
+returns g c =
+    subst (λ text. g.S.TextSink.says c.args.out.now text c.say.new.out)
+    (λ i. findings_text c.args.self.tally.now c.args.self.summary.now (c.first_of.ensures i) (c.last_of.ensures i)) c.say.ensures

@@ -1,0 +1,27 @@
+use Rattle.std.proofs.Common.{◌++◌, sym, subst}
+use Rattle.trace_run.specs.proving.Carrying.{Carries}
+use Rattle.trace_run.specs.proving.Drains.{speaks_onward}
+use Rattle.trace_run.proofs.Carryings.{held_more}
+use Rattle.trace_run.proofs.page.Page.put_three_anew.Goals as goal
+
+pub returns-then-take_three : goal.returns-then-take_three
+returns-then-take_three g c = λ start said carries.
+    let settled = c.settle.new in
+    held_more g.W.Target start settled.target said (c.args.first.now ++ c.args.second.now ++ c.args.third.now) settled.self.block c.take_three.new.self
+    settled.self.failed (c.take_three.ensures.took c.if-take_three.true) (c.settle.ensures.no_more start said carries)
+
+pub returns : goal.returns
+returns g c = λ start said carries.
+    let W = g.W.Target in
+    let settled = c.settle.new in
+    let one = c.put.new in
+    let two = c.put-2.new in
+    let three = c.put-3.new in
+    let same = c.take_three.ensures.full c.if-take_three.false in
+    let so_far : Carries W start said settled.self.failed c.take_three.new.self settled.target =
+    subst (λ held. Carries W start said settled.self.failed held settled.target) (sym same) (c.settle.ensures.no_more start said carries) in
+    let both =
+    speaks_onward W settled.self.failed one.self.failed two.self.failed c.take_three.new.self one.self.block two.self.block settled.target one.target two.target
+    c.args.first.now c.args.second.now c.put.ensures c.put-2.ensures in
+    speaks_onward W settled.self.failed two.self.failed three.self.failed c.take_three.new.self two.self.block three.self.block settled.target two.target three.target
+    (c.args.first.now ++ c.args.second.now) c.args.third.now both c.put-3.ensures start said so_far

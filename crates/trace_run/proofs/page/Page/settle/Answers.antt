@@ -1,0 +1,70 @@
+use Rattle.std.proofs.Common.{arith, refl, ◌+◌, ◌++◌, append-nil, false, [], Err, ap, sym, subst, ◌∙◌}
+use Rattle.trace_io.proofs.Promises.{took_more}
+use Rattle.trace_io.specs.Written.{HasFront}
+use Rattle.trace_run.specs.proving.Carrying.{Carries}
+use Rattle.trace_run.proofs.WrittenFronts.{block_written, gathered_written, rest_along}
+use Rattle.trace_run.proofs.page.Page.settle.Goals as goal
+
+pub returns-in-Err-clause-settled : goal.returns-in-Err-clause-settled
+returns-in-Err-clause-settled g c = λ start said carries.
+    let W = g.W.Target in
+    let page = c.args.self.now in
+    let failed = c.in-Err.ensures in
+    let so_far : Carries W start said false page.block c.args.target.now =
+    subst (λ b. Carries W start said b page.block c.args.target.now) c.if-self.false carries in
+    record {
+      low = so_far.low;
+      held_some = λ some. absurd (omega arith);
+      spoke = λ is. so_far.held_some (c.is_empty.ensures.some c.if-is_empty.false);
+      still = λ none. absurd (omega (arith, none, so_far.held_some (c.is_empty.ensures.some c.if-is_empty.false)));
+      failures = failed.failures ∙ ap (λ n. n + 1) so_far.failures;
+      no_empty_write = failed.no_empty_write ∙ so_far.no_empty_write;
+      flushes = failed.flushes ∙ so_far.flushes;
+      took = took_more so_far.took failed.took;
+      written = gathered_written {A = Unit {0}} (Err c.in-Err._fault) (W.taken start) said (W.taken c.args.target.now) page.block (W.taken c.write_all.new.target) so_far.written
+          (subst (λ t. HasFront (W.taken c.args.target.now) t (W.taken c.write_all.new.target)) c.as_slice.ensures.value failed.taken);
+    }
+
+pub returns-clause-settled : goal.returns-clause-settled
+returns-clause-settled g c = λ start said carries.
+    let W = g.W.Target in
+    let page = c.args.self.now in
+    let wrote = c.in_default.ensures in
+    let so_far : Carries W start said false page.block c.args.target.now =
+    subst (λ b. Carries W start said b page.block c.args.target.now) c.if-self.false carries in
+    record {
+      low = so_far.low;
+      held_some = λ some. absurd (omega arith);
+      spoke = λ is. absurd (cc is);
+      still = λ none. absurd (omega (arith, none, so_far.held_some (c.is_empty.ensures.some c.if-is_empty.false)));
+      failures = wrote.failures ∙ so_far.failures;
+      no_empty_write = wrote.no_empty_write ∙ so_far.no_empty_write;
+      flushes = wrote.flushes ∙ so_far.flushes;
+      took = took_more so_far.took wrote.took;
+      written = block_written (W.taken start) said (W.taken c.args.target.now) page.block [] (W.taken c.write_all.new.target)
+          (rest_along (W.taken start) said (W.taken c.args.target.now) page.block (page.block ++ []) so_far.written (sym (append-nil page.block)))
+          (wrote.taken ∙ ap (λ t. W.taken c.args.target.now ++ t) c.as_slice.ensures.value);
+    }
+
+pub returns-in-Err-clause-no_more : goal.returns-in-Err-clause-no_more
+returns-in-Err-clause-no_more g c = λ start said carries.
+    let W = g.W.Target in
+    let page = c.args.self.now in
+    let done = returns-in-Err-clause-settled g c start said carries in
+    record {
+      low = done.low;
+      held_some = λ some. done.spoke refl;
+      spoke = done.spoke;
+      still = done.still;
+      failures = done.failures;
+      no_empty_write = done.no_empty_write;
+      flushes = done.flushes;
+      took = done.took;
+      written = done.written;
+    }
+
+pub returns-clause-no_more : goal.returns-clause-no_more
+returns-clause-no_more g c = λ start said carries.
+    let W = g.W.Target in
+    subst (λ h. Carries W start said c.args.self.now.failed h c.write_all.new.target) (sym c.clear.ensures)
+    (subst (λ b. Carries W start said b [] c.write_all.new.target) (sym c.if-self.false) (returns-clause-settled g c start said carries))

@@ -1,6 +1,0 @@
-use Rattle.trace_run.proofs.Carryings.{held_more}
-use Rattle.trace_run.proofs.page.put_text.Goals as goal
-
-pub returns-else-not-take : goal.returns-else-not-take
-returns-else-not-take g c = λ start said carries.
-    held_more g.W.Target start c.args.target.now said c.args.text.now c.args.page.now.block c.take.new.self c.args.page.now.failed (c.take.ensures.took c.if-not-take.false) carries

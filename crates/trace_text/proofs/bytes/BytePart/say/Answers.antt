@@ -1,0 +1,5 @@
+use Rattle.std.proofs.Common.{subst}
+use Rattle.trace_text.proofs.bytes.BytePart.say.Goals as goal
+
+pub returns : goal.returns
+returns g c = subst (λ text. g.S.TextSink.says c.args.out.now text c.put_whole.new.self) c.hexadecimal_digits.ensures c.put_whole.ensures

@@ -1,5 +1,0 @@
-use Rattle.std.proofs.Common.{subst}
-use Rattle.trace_text.proofs.say.say_byte.Goals as goal
-
-pub returns : goal.returns
-returns g c = subst (λ text. g.S.TextSink.says c.args.out.now text c.put_whole.new.self) c.hexadecimal_digits.ensures c.put_whole.ensures

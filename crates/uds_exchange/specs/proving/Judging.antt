@@ -1,0 +1,41 @@
+-- Devices of proof: what a judge keeps with one more message.
+use Rattle.std.specs.Prelude.{ℕ, ◌-◌, ◌||◌, Some, None}
+use Rattle.direction.specs.Dir.{Message}
+use Rattle.uds_exchange.specs.Exchanged.{is_tester_response, is_unit_non_response}
+use Rattle.uds_exchange.specs.Judging.{one_more}
+use Rattle.uds_exchange.specs.Meaning.{is_tester_request}
+use Rattle.uds_exchange.specs.declared.judge.Judge.{Judge}
+use Rattle.uds_exchange.specs.declared.sides.Sides.{Sides}
+use Rattle.uds_exchange.specs.declared.step.Step.{Step}
+use Rattle.uds_exchange.specs.declared.step.Step.TheVariants as step
+
+-- what is kept, after a message of which this becomes
+abbrev pub advanced : Step → Judge → Judge
+advanced (step.Request service) judge = record judge { open_sid = Some service; items = one_more judge.items; held_count = 0 }
+advanced step.Answer judge = record judge { open_sid = None; held_count = 0 }
+advanced step.Removed judge = record judge { removed = one_more judge.removed }
+advanced step.Hold judge = record judge { items = one_more judge.items; held_count = one_more judge.held_count }
+advanced step.Pass judge = record judge { items = one_more judge.items }
+
+-- the number of its item
+abbrev pub number_in : Step → Judge → ℕ
+number_in (step.Request service) judge = one_more judge.items
+number_in step.Answer judge = judge.items - judge.held_count
+number_in step.Removed judge = judge.items - judge.held_count
+number_in step.Hold judge = one_more judge.items
+number_in step.Pass judge = one_more judge.items
+
+-- what tells whether tester and unit are exchanged, with one more message that is no request
+abbrev pub noted_other : Message → Sides → Sides
+noted_other message sides = record sides {
+  tester_responds = sides.tester_responds || is_tester_response message;
+  unit_sends_other = sides.unit_sends_other || is_unit_non_response message;
+}
+
+-- and with any message more
+abbrev pub noted : Message → Sides → Sides
+noted message sides = record {
+  asked = sides.asked || is_tester_request message;
+  tester_responds = sides.tester_responds || is_tester_response message;
+  unit_sends_other = sides.unit_sends_other || is_unit_non_response message;
+}
