@@ -6,7 +6,7 @@ ghost use Rattle.direction.specs.declared.Dir.{Dir};
 use direction::Dir;
 
 /// No fault: of a sink that takes all that is put.
-#[derive(Clone, Copy, Debug)]
+#[derive(Clone, Copy)]
 pub enum NoFault {}
 
 /// What takes messages in order. An implementation says by two ghost members which values of the sink may follow an
