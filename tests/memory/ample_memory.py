@@ -15,6 +15,7 @@ What nothing else refuses, and where it fails here:
 - a command that gives up with 2 MiB held, with 32 MiB, or on a canonical log of 500,000,000 bytes: the 73 longest strays;
 - one that gives up after 4,194,304 items, rows or messages that are held: the 4,194,305 strays;
 - `find` that gives up after 600,000 pairs: the 1,048,576 pairs;
+- `diff` that gives up where 2,000 items differ, or 500,000: the 524,288 requests beside as many others;
 - a program that gives up after 5,000 words: the 8,192 words.
 
 tests/program/hints.py has names of every length in hints.
@@ -32,7 +33,7 @@ from pathlib import Path
 sys.path.insert(0, str(Path(__file__).resolve().parents[1] / "helpers"))
 
 import oracle
-from cases import DEVICE, DONE, WORDS, Cases
+from cases import DEVICE, DIFFERENT, DONE, WORDS, Cases
 from counts import counts_line
 from loaded import STATUSES, Loaded, Session
 from runs import differences, start
@@ -183,15 +184,19 @@ def taken_by_each_job(cases, log):
     job(["report"], lambda output: length_of(output) > 0, True)
 
 
+# What is written of a log and its canonical log: that they are the same, no difference, a page.
+OF_EQUALS = {"compare": b"same\n", "diff": b"", "report": True}
+
+
 def taken_by_each_job_of_two(cases, log):
     """Each command over two logs takes it beside its canonical log, which comes from one that normalises it."""
-    for words in (["compare", "left", "right"], ["report", "left", "right"]):
+    for job, want in OF_EQUALS.items():
         with ExitStack() as ends:
             ends.enter_context(named_pipe("left", canonical_pieces(cases.program, log)))
             ends.enter_context(named_pipe("right", log.pieces()))
-            look = (lambda output: output.read()) if words[0] == "compare" else lambda output: length_of(output) > 0
-            want = b"same\n" if words[0] == "compare" else True
-            report(cases, f"{words[0]} with the canonical log: {log.name}", seen_of(cases.program, words, (), look), (DONE, b"", want))
+            look = (lambda output: length_of(output) > 0) if want is True else lambda output: output.read()
+            seen = seen_of(cases.program, [job, "left", "right"], (), look)
+            report(cases, f"{job} with the canonical log: {log.name}", seen, (DONE, b"", want))
 
 
 def canonical_pieces(program, log):
@@ -337,6 +342,24 @@ def many_pairs(cases, loaded):
     report(cases, f"udsnorm_find: {name}", (answer.status, came == text), (STATUSES["DONE"], True))
 
 
+def many_differences(cases, loaded):
+    """So many requests, of which no two are equal, beside as many others: each is a change, below the note and three headers."""
+    for power in range(0, 20):
+        count = 2**power
+
+        def requests(begin):
+            for number in range(begin, begin + count, 2**12):
+                numbers = range(number, min(number + 2**12, begin + count))
+                yield b"".join(b"(0.000000) a 7E0#0522%08X\n" % number for number in numbers)
+
+        with ExitStack() as ends:
+            ends.enter_context(named_pipe("left", requests(0)))
+            ends.enter_context(named_pipe("right", requests(count)))
+            seen = seen_of(cases.program, ["diff", "left", "right"], (), lines_in)
+            note = 2 * count > max(64, min(2000, 2**30 // (2 * count)))
+            report(cases, f"diff of {count} requests and as many others", seen, (DIFFERENT, b"", 3 + note + 2 * count))
+
+
 def many_words(cases, loaded):
     """However many words there are, they are read."""
     for power in range(14):
@@ -351,7 +374,7 @@ def main():
     loaded = Loaded(Path(sys.argv[2]).resolve() / "libudsnorm.so")
     with tempfile.TemporaryDirectory() as folder:
         os.chdir(folder)
-        cases.each([messages_of_each_size, many_messages, much_held, many_pairs, many_words], loaded)
+        cases.each([messages_of_each_size, many_messages, much_held, many_pairs, many_differences, many_words], loaded)
         os.chdir("/")
     cases.end()
 

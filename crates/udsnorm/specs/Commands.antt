@@ -254,7 +254,8 @@ right_file pair_job.Report = codes "OTHER"
 -- bytes.
 pub record PairEngine : Type 1 where
   pub answers : Bool → ℕ → Settings → List ℕ → List ℕ → Result PairAnswer CompareFault → List ℕ → Type 0
-  pub needs : ℕ → Settings → List ℕ → Type 0
+  pub left_needs : ℕ → Settings → List ℕ → Type 0
+  pub right_needs : ℕ → Settings → List ℕ → Type 0
   pub unrefused : ℕ → Settings → List ℕ → ℕ → Type 0
 
 -- what a comparison answers, without what the logs mean
@@ -304,21 +305,25 @@ has_text pair_job.Report strict (Ok pair) = true
 has_text pair_job.Report strict (Err fault) = is_refusal (fault_in fault)
 
 -- the engine that does this job over two logs, which have these names in its text, and of whose sources this is seen;
--- where they differ needs memory, whatever a log has
+-- where memory is refused to the difference of two accepted logs, that is told of the right one
 abbrev pub engine_of_pair : PairJob → List ℕ → List ℕ → Glimpse → Glimpse → PairEngine
-engine_of_pair (pair_job.Compare style) left_name right_name left_seen right_seen = record { answers = ComparesPair (comparison_text style); needs = NeedsMemoryToCollect; unrefused = IsNotRefusedWithin }
+engine_of_pair (pair_job.Compare style) left_name right_name left_seen right_seen = record { answers = ComparesPair (comparison_text style); left_needs = NeedsMemoryToCollect; right_needs = NeedsMemoryToCollect; unrefused = IsNotRefusedWithin }
 engine_of_pair (pair_job.Diff notation) left_name right_name left_seen right_seen =
-    record { answers = ComparesPair (text_of_difference notation left_name right_name); needs = λ limit settings log. ⊤; unrefused = IsNotRefusedWithin }
+    record { answers = ComparesPair (text_of_difference notation left_name right_name); left_needs = NeedsMemoryToCollect; right_needs = λ limit settings log. ⊤; unrefused = IsNotRefusedWithin }
 engine_of_pair pair_job.Report left_name right_name left_seen right_seen =
-    record { answers = PagesPair left_name right_name left_seen right_seen; needs = λ limit. HasOwnFrame; unrefused = λ limit settings. HasNoBadPlaceWithin }
+    record { answers = PagesPair left_name right_name left_seen right_seen; left_needs = λ limit. HasOwnFrame; right_needs = λ limit. HasOwnFrame; unrefused = λ limit settings. HasNoBadPlaceWithin }
 
 -- what it answers, and what it writes
 abbrev pub PairEngineAnswers : PairJob → List ℕ → List ℕ → Glimpse → Glimpse → Bool → ℕ → Settings → List ℕ → List ℕ → Result PairAnswer CompareFault → List ℕ → Type 0
 PairEngineAnswers job left_name right_name left_seen right_seen = (engine_of_pair job left_name right_name left_seen right_seen).answers
 
--- for which log it may be refused memory
-abbrev pub PairEngineNeeds : PairJob → List ℕ → List ℕ → Glimpse → Glimpse → ℕ → Settings → List ℕ → Type 0
-PairEngineNeeds job left_name right_name left_seen right_seen = (engine_of_pair job left_name right_name left_seen right_seen).needs
+-- for which left log it may be refused memory
+abbrev pub PairEngineNeedsForLeft : PairJob → List ℕ → List ℕ → Glimpse → Glimpse → ℕ → Settings → List ℕ → Type 0
+PairEngineNeedsForLeft job left_name right_name left_seen right_seen = (engine_of_pair job left_name right_name left_seen right_seen).left_needs
+
+-- for which right one
+abbrev pub PairEngineNeedsForRight : PairJob → List ℕ → List ℕ → Glimpse → Glimpse → ℕ → Settings → List ℕ → Type 0
+PairEngineNeedsForRight job left_name right_name left_seen right_seen = (engine_of_pair job left_name right_name left_seen right_seen).right_needs
 
 -- how near to what refuses a log it stops reading
 abbrev pub PairEngineReads : PairJob → List ℕ → List ℕ → Glimpse → Glimpse → ℕ → Settings → List ℕ → ℕ → ℕ → ℕ → Type 0

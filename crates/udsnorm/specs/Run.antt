@@ -12,7 +12,7 @@ use Rattle.trace_io.specs.Stream.{Took}
 use Rattle.trace_run.specs.Told.{glimpse_of}
 use Rattle.trace_io.specs.declared.device.Source.{Ghosts as SourceGhosts}
 use Rattle.trace_io.specs.declared.device.Target.{Ghosts as TargetGhosts}
-use Rattle.udsnorm.specs.Commands.{EngineAnswers, EngineNeeds, EngineReads, EngineTellsEagerly, PairEngineAnswers, PairEngineNeeds, PairEngineReads, has_text}
+use Rattle.udsnorm.specs.Commands.{EngineAnswers, EngineNeeds, EngineReads, EngineTellsEagerly, PairEngineAnswers, PairEngineNeedsForLeft, PairEngineNeedsForRight, PairEngineReads, has_text}
 use Rattle.udsnorm.specs.Ending.{ComesTo, answer_written, flushes, status_of_run, status_of_run_of_two}
 use Rattle.udsnorm.specs.FaultLines.{run_text, run_two_text}
 use Rattle.udsnorm.specs.Telling.{TookText, WroteText}
@@ -51,7 +51,7 @@ pub record RanOne {R W E : Type 0} (source : SourceGhosts R) (output : TargetGho
   -- the error output took the text of what it came to
   pub told : TookText (run_text strict outcome) (errors.failures unsaid) (errors.failures said) (errors.taken unsaid) (errors.taken said)
 
--- What a run over two logs did, which have these names on a page and have to be clean where the run is strict: from its
+-- What a run over two logs did, which have these names in its text and have to be clean where the run is strict: from its
 -- inputs to its output and its error output, its exit status, and what was answered, where the text of that was
 -- written. Nothing is written before both are read.
 pub record RanTwo {A B W E : Type 0} (left : SourceGhosts A) (right : SourceGhosts B) (output : TargetGhosts W) (errors : TargetGhosts E) (job : PairJob) (left_name right_name : List ℕ)
@@ -63,11 +63,11 @@ pub record RanTwo {A B W E : Type 0} (left : SourceGhosts A) (right : SourceGhos
       → PairEngineAnswers job left_name right_name (glimpse_of left one_now) (glimpse_of right other_now) strict limit settings a b answer text
   -- after a fault of the left log nothing of the right one was read
   pub unread : (fault : Fault) → answer ≡ Err (Left fault) → other_now ≡ other
-  -- memory was refused only for a log that needs it
+  -- memory was refused only for a log that needs it, or to the difference of both
   pub left_memory : (a : List ℕ) → AgreesWith left one one_now a → answer ≡ Err (Left Memory)
-      → PairEngineNeeds job left_name right_name (glimpse_of left one_now) (glimpse_of right other_now) limit settings a
+      → PairEngineNeedsForLeft job left_name right_name (glimpse_of left one_now) (glimpse_of right other_now) limit settings a
   pub right_memory : (b : List ℕ) → AgreesWith right other other_now b → answer ≡ Err (Right Memory)
-      → PairEngineNeeds job left_name right_name (glimpse_of left one_now) (glimpse_of right other_now) limit settings b
+      → PairEngineNeedsForRight job left_name right_name (glimpse_of left one_now) (glimpse_of right other_now) limit settings b
   -- reading stopped within one piece of what refuses a log
   pub left_near : (a : List ℕ) → AgreesWith left one one_now a
       → PairEngineReads job left_name right_name (glimpse_of left one_now) (glimpse_of right other_now) limit settings a (bytes_given left one one_now) (left.failures one) (left.failures one_now)

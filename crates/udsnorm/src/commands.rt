@@ -478,8 +478,8 @@ Example: udsnorm compare --show yesterday.log today.log";
 
 const OF_DIFF: &str = "\
 Writes hunks of the lines of `list --no-numbers`, as `diff -u` does, with the numbers of `list`
-in front of each. An exchange that one log alone has moves no other. Where the logs mean the
-same, nothing is written.
+in front of each hunk. An exchange that one log alone has moves no other. Where the logs mean
+the same, nothing is written.
 
 With `--json` each exchange or stray message that was removed, added or changed is an object,
 and the last object has the counts.

@@ -8,7 +8,7 @@ ghost use Rattle.trace_log.specs.Devices.{AgreesWith, bytes_given, ReadFrom, Has
 ghost use Rattle.trace_log.specs.declared.fault.Fault.{Fault as FaultValue};
 ghost use Rattle.trace_io.specs.Counted.{IsLowCount};
 ghost use Rattle.trace_report.specs.PairPage.{pair_page, pair_title};
-ghost use Rattle.udsnorm.specs.Commands.{PairEngineAnswers, PairEngineNeeds, PairEngineReads, has_text, left_file, pair_of, right_file, text_of_difference};
+ghost use Rattle.udsnorm.specs.Commands.{PairEngineAnswers, PairEngineNeedsForLeft, PairEngineNeedsForRight, PairEngineReads, has_text, left_file, pair_of, right_file, text_of_difference};
 ghost use Rattle.udsnorm.specs.Ending.{has_unclean};
 ghost use Rattle.udsnorm.specs.Telling.{WroteText};
 ghost use Rattle.udsnorm.specs.proving.Pairs.{IsAnswered, answer_held, answer_of, cause_in, text_of_answer};
@@ -138,11 +138,11 @@ pub(crate) fn do_pair_job<A: Source, B: Source, W: Target>(
     // After a fault of the left log nothing of the right one was read.
     ensures unread { (fault : FaultValue) → result.answer ≡ Err (CompareFault.Left fault) → right.new ≡ right.old }
 
-    // Memory is refused only for a log that needs it.
+    // Memory is refused only for a log that needs it, or to the difference of both, which is told of the right one.
     ensures left_memory { (one : List ℕ) → AgreesWith A.Source left.old left.new one
-        → result.answer ≡ Err (CompareFault.Left Fault.Memory) → PairEngineNeeds job left_name.now right_name.now (glimpse_of A.Source left.new) (glimpse_of B.Source right.new) MESSAGE_LIMIT config.now one }
+        → result.answer ≡ Err (CompareFault.Left Fault.Memory) → PairEngineNeedsForLeft job left_name.now right_name.now (glimpse_of A.Source left.new) (glimpse_of B.Source right.new) MESSAGE_LIMIT config.now one }
     ensures right_memory { (other : List ℕ) → AgreesWith B.Source right.old right.new other
-        → result.answer ≡ Err (CompareFault.Right Fault.Memory) → PairEngineNeeds job left_name.now right_name.now (glimpse_of A.Source left.new) (glimpse_of B.Source right.new) MESSAGE_LIMIT config.now other }
+        → result.answer ≡ Err (CompareFault.Right Fault.Memory) → PairEngineNeedsForRight job left_name.now right_name.now (glimpse_of A.Source left.new) (glimpse_of B.Source right.new) MESSAGE_LIMIT config.now other }
 
     // How near to what refuses a log it stops reading, and what it did with both.
     ensures left_near { (one : List ℕ) → AgreesWith A.Source left.old left.new one

@@ -51,6 +51,10 @@ returns-in-Ok-clause-engine g c =
       c.in-Ok.ensures.text,
     )
 
+pub returns-in-Ok-clause-left_memory : goal.returns-in-Ok-clause-left_memory
+returns-in-Ok-clause-left_memory g c = λ log agrees is.
+    rw c.in-Diff.is (c.compare-compared.ensures.left_memory log agrees (fault_compared c.compare-compared.result _ (sym c.answer_of-in-Ok.ensures ∙ is)))
+
 pub returns-in-Ok-clause-left_near : goal.returns-in-Ok-clause-left_near
 returns-in-Ok-clause-left_near g c = λ log agrees. rw c.in-Diff.is (c.compare-compared.ensures.left_near log agrees)
 
