@@ -1,5 +1,5 @@
 -- What is told of two logs: how they compare, whether both are clean, and whether the sides of one look exchanged.
-use Rattle.std.proofs.Common.{◌≡◌, ◌⊎◌, ℕ, Bool, true, List, Result, Ok, Err, refl, ap, sym, subst, ◌∙◌, inl, inr}
+use Rattle.std.proofs.Common.{◌≡◌, ◌⊎◌, ℕ, Bool, true, List, Option, Some, None, Result, Ok, Err, refl, ap, sym, subst, ◌∙◌, inl, inr}
 use Rattle.std.specs.Prelude.{◌&&◌, ◌||◌}
 use Rattle.std.proofs.lemmas.Bool.{and_parts}
 use Rattle.isotp_receive.specs.declared.TheConstants.{MESSAGE_LIMIT}
@@ -16,9 +16,11 @@ use Rattle.trace_log.specs.declared.summary.Summary.{Summary}
 use Rattle.trace_report.specs.Held.{HoldsOne, HoldsTwo, TwoValue, comparison_in}
 use Rattle.trace_report.specs.Laws.{AgreesWithCompare}
 use Rattle.trace_report.specs.Session.{SessionValue}
+use Rattle.trace_text.specs.declared.notation.Notation.{Notation}
 use Rattle.udsnorm_c.specs.declared.answer.UdsnormAnswer.{UdsnormAnswer}
-use Rattle.udsnorm_c.specs.Answered.{CompareAnswers, PairPagePuts, ReportPairAnswers, comparison_answer, first_item, flag, refusal_of}
-use Rattle.udsnorm_c.specs.Laws.{CleanCompareIsRecorded, CleanReportPairIsRecorded, IsRecorded, PairPageAgreesWithCompare, settings_of}
+use Rattle.udsnorm_c.specs.Answered.{CompareAnswers, DiffAnswers, DifferencePuts, PairPagePuts, ReportPairAnswers, Styled, comparison_answer, first_item, flag, refusal_of, status_alone}
+use Rattle.udsnorm_c.specs.Laws.{CleanCompareIsRecorded, CleanDiffIsRecorded, CleanReportPairIsRecorded, IsRecorded, PairPageAgreesWithCompare, settings_of}
+use Rattle.udsnorm_c.specs.Spelled.{notation_of}
 use Rattle.udsnorm_c.proofs.Recorded.{AreCountsOf, flag_set, of_accepted, one_count, recorded}
 use Rattle.udsnorm_c.proofs.Unput.{has_no_text, never_clean, never_put, of_no_page, of_refusal, of_side, so_has}
 
@@ -67,6 +69,36 @@ compared_told tester unit max_bytes left right answer (Ok settings, (is, are), (
     subst (λ (s : Settings). (has_no_text answer ≡ true) ⊎ ComparedSo s left right answer) is (compared_under settings left right answer result compares says)
 compared_told tester unit max_bytes left right answer (Err fault, configures, says) = inl (so_has answer (refusal_of fault) says (of_refusal fault))
 
+-- what is said where it is asked in some notation where two logs differ, if there is such a style
+difference_under : (settings : Settings) (left_name right_name left right old new : List ℕ) (answer : UdsnormAnswer) (found : Option Notation)
+    → Styled found (DifferencePuts MESSAGE_LIMIT left_name right_name left right old new answer settings) old new answer
+    → (has_no_text answer ≡ true) ⊎ ComparedSo settings left right answer
+difference_under settings left_name right_name left right old new answer None (same, says) = inl (so_has answer (status_alone 10) says refl)
+difference_under settings left_name right_name left right old new answer (Some notation) (Ok told, (compared, compares, spelled, counts), (front, says)) =
+    inr (
+      compared,
+      compares,
+      record {
+        one = told.counted.left;
+        other = told.counted.right;
+        of_left = subst (λ (c : CountedComparison). AreCountsOf settings left c.left) (sym counts) (of_accepted settings left compared.left.meaning compared.left.summary compares.0);
+        of_right = subst (λ (c : CountedComparison). AreCountsOf settings right c.right) (sym counts) (of_accepted settings right compared.right.meaning compared.right.summary compares.1);
+        item = ap (λ (a : UdsnormAnswer). a.item) says ∙ ap (λ (c : CountedComparison). first_item c.comparison) counts;
+        clean = ap (λ (a : UdsnormAnswer). a.clean) says;
+        exchanged = ap (λ (a : UdsnormAnswer). a.exchanged) says;
+      },
+    )
+difference_under settings left_name right_name left right old new answer (Some notation) (Err fault, none, (same, says)) = inl (so_has answer _ says (of_side fault))
+
+difference_told : (tester unit max_bytes style : ℕ) (left_name right_name left right old new : List ℕ) (answer : UdsnormAnswer)
+    → DiffAnswers MESSAGE_LIMIT tester unit max_bytes style left_name right_name left right old new answer
+    → (has_no_text answer ≡ true) ⊎ ComparedSo (settings_of tester unit max_bytes) left right answer
+difference_told tester unit max_bytes style left_name right_name left right old new answer (Ok settings, (is, are), puts) =
+    subst (λ (s : Settings). (has_no_text answer ≡ true) ⊎ ComparedSo s left right answer) is
+    (difference_under settings left_name right_name left right old new answer (notation_of style) puts)
+difference_told tester unit max_bytes style left_name right_name left right old new answer (Err fault, configures, (same, says)) =
+    inl (so_has answer (refusal_of fault) says (of_refusal fault))
+
 of_held : (settings : Settings) (log : List ℕ) (session : SessionValue) → HoldsOne MESSAGE_LIMIT settings log (Ok session) → AreCountsOf settings log session.summary
 of_held settings log session (meanings, read, is) = (meanings, read.1, ap (λ (s : SessionValue). s.summary) is)
 
@@ -108,6 +140,13 @@ both_recorded has_both_sides settings left right comparison answer says clean =
 pub clean_compare : CleanLogHasBothSides → CleanCompareIsRecorded
 clean_compare has_both_sides tester unit max_bytes left right answer answers clean =
     elim (compared_told tester unit max_bytes left right answer answers) [
+      | inl none ↦ absurd (never_clean answer none clean)
+      | inr said ↦ both_recorded has_both_sides (settings_of tester unit max_bytes) left right said.0.comparison answer said.2 clean
+    ]
+
+pub clean_diff : CleanLogHasBothSides → CleanDiffIsRecorded
+clean_diff has_both_sides tester unit max_bytes style left_name right_name left right old new answer answers clean =
+    elim (difference_told tester unit max_bytes style left_name right_name left right old new answer answers) [
       | inl none ↦ absurd (never_clean answer none clean)
       | inr said ↦ both_recorded has_both_sides (settings_of tester unit max_bytes) left right said.0.comparison answer said.2 clean
     ]
