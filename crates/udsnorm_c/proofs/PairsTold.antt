@@ -5,21 +5,24 @@ use Rattle.std.proofs.lemmas.Bool.{and_parts}
 use Rattle.isotp_receive.specs.declared.TheConstants.{MESSAGE_LIMIT}
 use Rattle.trace_canon.specs.Compared.{Compares}
 use Rattle.trace_canon.specs.InMemory.{ComparesWithCounts}
+use Rattle.trace_canon.specs.Sessions.{IsAcceptedWith}
 use Rattle.trace_canon.specs.declared.comparing.Compared.{Compared}
 use Rattle.trace_canon.specs.declared.comparing.Comparison.{Comparison}
 use Rattle.trace_canon.specs.declared.counted.CountedComparison.{CountedComparison}
 use Rattle.trace_log.specs.Laws.{CleanLogHasBothSides}
 use Rattle.trace_log.specs.Settings.{Settings}
-use Rattle.trace_log.specs.Summing.{is_clean}
+use Rattle.trace_log.specs.Summing.{is_clean, summary_of}
+use Rattle.trace_log.specs.Trace.{trace}
 use Rattle.trace_log.specs.declared.fault.CompareFault.{CompareFault}
 use Rattle.trace_log.specs.declared.summary.Summary.{Summary}
 use Rattle.trace_report.specs.Held.{HoldsOne, HoldsTwo, TwoValue, comparison_in}
 use Rattle.trace_report.specs.Laws.{AgreesWithCompare}
-use Rattle.trace_report.specs.Session.{SessionValue}
+use Rattle.trace_report.specs.Session.{SessionValue, session_of}
 use Rattle.trace_text.specs.declared.notation.Notation.{Notation}
+use Rattle.uds_exchange.specs.Meaning.{ItemValue}
 use Rattle.udsnorm_c.specs.declared.answer.UdsnormAnswer.{UdsnormAnswer}
 use Rattle.udsnorm_c.specs.Answered.{CompareAnswers, DiffAnswers, DifferencePuts, PairPagePuts, ReportPairAnswers, Styled, comparison_answer, first_item, flag, refusal_of, status_alone}
-use Rattle.udsnorm_c.specs.Laws.{CleanCompareIsRecorded, CleanDiffIsRecorded, CleanReportPairIsRecorded, IsRecorded, PairPageAgreesWithCompare, settings_of}
+use Rattle.udsnorm_c.specs.Laws.{CleanCompareIsRecorded, CleanDiffIsRecorded, CleanReportPairIsRecorded, DiffAgreesWithCompare, IsRecorded, PairPageAgreesWithCompare, settings_of}
 use Rattle.udsnorm_c.specs.Spelled.{notation_of}
 use Rattle.udsnorm_c.proofs.Recorded.{AreCountsOf, flag_set, of_accepted, one_count, recorded}
 use Rattle.udsnorm_c.proofs.Unput.{has_no_text, never_clean, never_put, of_no_page, of_refusal, of_side, so_has}
@@ -182,5 +185,35 @@ pair_page_agrees agrees tester unit max_bytes left_name right_name left right ol
         | inl none ↦ absurd (never_put compared none (inl done))
         | inr found ↦ say_the_same settings left right (comparison_in held.0) found.0.comparison page compared
             (agrees settings left right held.0 found.0 held.1 found.1) held.2 found.2
+      ]
+    ]
+
+-- ---- so does the text of where they differ
+
+-- an accepted log can be held
+held_log : (settings : Settings) (log : List ℕ) (items : List ItemValue) (summary : Summary) → IsAcceptedWith MESSAGE_LIMIT settings log items summary
+    → (session : SessionValue) × HoldsOne MESSAGE_LIMIT settings log (Ok session)
+held_log settings log items summary is =
+    let meanings = is.outcome.0 in
+    (session_of MESSAGE_LIMIT (trace settings meanings) (summary_of MESSAGE_LIMIT settings log meanings), (meanings, (is.outcome.1.short, is.outcome.1.means), refl))
+
+-- two logs compare in one way, which is that of what is held of them
+one_comparison : AgreesWithCompare → (settings : Settings) (left right : List ℕ) (one other : Compared) → Compares MESSAGE_LIMIT settings left right (Ok one)
+    → Compares MESSAGE_LIMIT settings left right (Ok other) → one.comparison ≡ other.comparison
+one_comparison agrees settings left right one other is too =
+    let of_left = held_log settings left one.left.meaning one.left.summary is.0 in
+    let of_right = held_log settings right one.right.meaning one.right.summary is.1 in
+    let held : TwoValue = record { left = of_left.0; right = of_right.0 } in
+    sym (agrees settings left right held one (of_left.1, of_right.1) is) ∙ agrees settings left right held other (of_left.1, of_right.1) too
+
+pub diff_agrees : AgreesWithCompare → DiffAgreesWithCompare
+diff_agrees agrees tester unit max_bytes style left_name right_name left right old new told compared puts put answers done =
+    let settings = settings_of tester unit max_bytes in
+    elim (difference_told tester unit max_bytes style left_name right_name left right old new told puts) [
+      | inl none ↦ absurd (never_put told none put)
+      | inr said ↦ elim (compared_told tester unit max_bytes left right compared answers) [
+        | inl none ↦ absurd (never_put compared none (inl done))
+        | inr found ↦ say_the_same settings left right said.0.comparison found.0.comparison told compared
+            (one_comparison agrees settings left right said.0 found.0 said.1 found.1) said.2 found.2
       ]
     ]

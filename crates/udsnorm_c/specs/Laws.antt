@@ -105,6 +105,15 @@ PairPageAgreesWithCompare = (tester unit max_bytes : ℕ) (left_name right_name 
     → CompareAnswers MESSAGE_LIMIT tester unit max_bytes left right compared → compared.status ≡ 0
     → (page.item ≡ compared.item) × (page.clean ≡ compared.clean) × (page.exchanged ≡ compared.exchanged)
 
+-- and so it is of the text of where two logs differ
+abbrev pub DiffAgreesWithCompare : Type 0
+DiffAgreesWithCompare = (tester unit max_bytes style : ℕ) (left_name right_name left right old new : List ℕ)
+    (told compared : UdsnormAnswer)
+    → DiffAnswers MESSAGE_LIMIT tester unit max_bytes style left_name right_name left right old new told
+    → (told.status ≡ 0) ⊎ (told.status ≡ 9)
+    → CompareAnswers MESSAGE_LIMIT tester unit max_bytes left right compared → compared.status ≡ 0
+    → (told.item ≡ compared.item) × (told.clean ≡ compared.clean) × (told.exchanged ≡ compared.exchanged)
+
 -- in words, what is told of where two logs differ has no byte exactly where no item differs, whether there was room for it or
 -- not
 abbrev pub DiffIsEmptyOfEqualLogs : Type 0

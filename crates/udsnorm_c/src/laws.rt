@@ -2,7 +2,7 @@
 //! crate that a proof needs is called.
 
 ghost use Rattle.udsnorm_c.specs.Laws.{CleanCompareIsRecorded, CleanDiffIsRecorded, CleanExplainIsRecorded, CleanListIsRecorded, CleanMessagesAreRecorded, CleanNormaliseIsRecorded, CleanReportIsRecorded, CleanReportPairIsRecorded};
-ghost use Rattle.udsnorm_c.specs.Laws.{CompareTellsEqualTexts, DiffIsEmptyOfEqualLogs, EqualMeaningsHaveEqualTexts, PairPageAgreesWithCompare, StatusesAreToldApart};
+ghost use Rattle.udsnorm_c.specs.Laws.{CompareTellsEqualTexts, DiffAgreesWithCompare, DiffIsEmptyOfEqualLogs, EqualMeaningsHaveEqualTexts, PairPageAgreesWithCompare, StatusesAreToldApart};
 
 use trace_log::laws::{clean_log_has_both_sides, outcome_is_one};
 use trace_report::laws::agrees_with_compare;
@@ -33,6 +33,13 @@ pub fn clean_answer_is_recording()
 /// The answer of a page of two logs that was made says of them what comparing answers, where that accepts both.
 pub fn pair_page_agrees_with_compare()
     ensures { PairPageAgreesWithCompare }
+{
+    agrees_with_compare();
+}
+
+/// So does the answer of the text of where they differ.
+pub fn diff_agrees_with_compare()
+    ensures { DiffAgreesWithCompare }
 {
     agrees_with_compare();
 }
