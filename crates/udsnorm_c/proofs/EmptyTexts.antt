@@ -1,5 +1,5 @@
 -- In words, what is told of where two logs differ has no byte exactly where no item differs.
-use Rattle.std.proofs.Common.{◌≡◌, ◌⊎◌, ℕ, List, [], ◌∷◌, length, Result, Ok, Err, arith, refl, ap, ◌∙◌}
+use Rattle.std.proofs.Common.{◌≡◌, ◌⊎◌, ℕ, List, [], ◌∷◌, length, Result, Ok, Err, arith, refl, ap, sym, ◌∙◌}
 use Rattle.std.specs.Prelude.{◌↔◌}
 use Rattle.isotp_receive.specs.declared.TheConstants.{MESSAGE_LIMIT}
 use Rattle.trace_canon.specs.declared.counted.CountedComparison.{CountedComparison}
@@ -18,9 +18,13 @@ no_byte : (text : List ℕ) → length text ≡ 0 → text ≡ []
 no_byte [] none = refl
 no_byte (b ∷ text) none = absurd (omega (arith, none))
 
--- one is 0 exactly where the lists are equal, and so is the other
-both_zero : (item many : ℕ) (xs ys : List ItemValue) → (item ≡ 0) ↔ (xs ≡ ys) → (xs ≡ ys) ↔ (many ≡ 0) → (item ≡ 0) ↔ (many ≡ 0)
-both_zero item many xs ys of_item of_many = (λ zero. of_many.0 (of_item.0 zero), λ zero. of_item.1 (of_many.1 zero))
+-- one number is 0 exactly where the lists are equal, and so is the other
+both_zero : (item first many count : ℕ) (xs ys : List ItemValue) → item ≡ first → many ≡ count → (first ≡ 0) ↔ (xs ≡ ys) → (xs ≡ ys) ↔ (count ≡ 0)
+    → (item ≡ 0) ↔ (many ≡ 0)
+both_zero item first many count xs ys item_is many_is of_item of_many = (
+  λ zero. many_is ∙ of_many.0 (of_item.0 (sym item_is ∙ zero)),
+  λ zero. item_is ∙ of_item.1 (of_many.1 (sym many_is ∙ zero)),
+)
 
 -- equal sessions, by the length of the text in words
 by_length : (left_name right_name : List ℕ) (xs ys : List ItemValue) → (xs ≡ ys) ↔ (length (difference_text Text left_name right_name xs ys) ≡ 0)
@@ -34,10 +38,10 @@ empty_under : (settings : Settings) (left_name right_name left right old new : L
 empty_under settings left_name right_name left right old new answer (Ok told, (compared, compares, spelled, counts), (front, says)) put =
     let xs = compared.left.meaning in
     let ys = compared.right.meaning in
-    let item = ap (λ (a : UdsnormAnswer). a.item) says ∙ ap (λ (c : CountedComparison). first_item c.comparison) counts in
-    let many = ap (λ (a : UdsnormAnswer). a.length) says ∙ ap (λ (t : List ℕ). length t) spelled in
-    rw (item, many) (both_zero (first_item compared.comparison) (length (difference_text Text left_name right_name xs ys)) xs ys
-    (item_of_same compared.comparison xs ys compares.2) (by_length left_name right_name xs ys))
+    both_zero answer.item (first_item compared.comparison) answer.length (length (difference_text Text left_name right_name xs ys)) xs ys
+    (ap (λ (a : UdsnormAnswer). a.item) says ∙ ap (λ (c : CountedComparison). first_item c.comparison) counts)
+    (ap (λ (a : UdsnormAnswer). a.length) says ∙ ap (λ (t : List ℕ). length t) spelled)
+    (item_of_same compared.comparison xs ys compares.2) (by_length left_name right_name xs ys)
 empty_under settings left_name right_name left right old new answer (Err fault, none, (same, says)) put =
     absurd (never_put answer (so_has answer _ says (of_side fault)) put)
 
