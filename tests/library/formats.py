@@ -1114,7 +1114,7 @@ class Assertions(unittest.TestCase):
     def test_long_sessions(self):
         """The numbers are those of the whole lists, and however long both are, the message soon comes."""
         log = b"".join(b"(%d.000000) can0 7E0#0322%04X\n" % (at, at % 65536) for at in range(20000))
-        other = log.replace(b"#03223A98", b"#03223A99")
+        other = log.replace(b"#03223A98", b"#0322FFFF")
         with self.assertRaises(AssertionError) as caught:
             testing.assert_same_session(log, other)
         lines = str(caught.exception).splitlines()
