@@ -1123,11 +1123,11 @@ class Assertions(unittest.TestCase):
 
     def test_long_differences(self):
         """The first 1,000 lines are told, and how many more there are."""
-        logs = [b"".join(b"(%d.000000) can0 7E0#0322%04X\n" % (at, at + first) for at in range(1500)) for first in (0, 1500)]
+        logs = [b"".join(b"(%d.000000) can0 7E0#0322%04X\n" % (at, at + first) for at in range(900)) for first in (0, 900)]
         with self.assertRaises(AssertionError) as caught:
             testing.assert_same_session(*logs)
         lines = str(caught.exception).splitlines()
-        self.assertEqual((len(lines), lines[-1]), (1002, "and 2003 more lines"))
+        self.assertEqual((len(lines), lines[-1]), (1002, "and 803 more lines"))
 
     def test_refused(self):
         with self.assertRaisesRegex(udsnorm.Refused, "^right: line 1 column 1: not a log line$"):
