@@ -10,16 +10,18 @@
 
 ghost use Rattle.std.specs.Prelude.{◌≡◌, slice_index_or};
 ghost use Rattle.isotp_receive.specs.declared.TheConstants.{MESSAGE_LIMIT};
-ghost use Rattle.udsnorm_c.specs.Answered.{CompareAnswers, ExplainAnswers, FindAnswers, ListAnswers, MessagesAnswers, NormaliseAnswers, ReportAnswers, ReportPairAnswers};
+ghost use Rattle.udsnorm_c.specs.Answered.{CompareAnswers, DiffAnswers, ExplainAnswers, FindAnswers, ListAnswers, MessagesAnswers, NormaliseAnswers, ReportAnswers, ReportPairAnswers};
 ghost use Rattle.udsnorm_c.specs.Spelled.{version, words_for_c};
 
 mod answer;
+mod differences;
 pub mod laws;
 mod pages;
 mod room;
 mod sides;
 
 use crate::answer::{WORDS, comparison_answer, no_style, refusal_of, status_words};
+use crate::differences::put_pair_difference;
 use crate::pages::{put_pair_report, put_report};
 use crate::room::{put, put_front};
 use crate::sides::{USUAL_TESTER, USUAL_UNIT, config_of, notation_of, style_of};
@@ -165,6 +167,33 @@ pub extern "C" fn udsnorm_compare(
 {
     *answer = match config_of(tester, unit, limit) {
         Ok(config) => comparison_answer(counted::comparison(alloc, &config, left, right)),
+        Err(fault) => refusal_of(fault),
+    };
+    answer.status
+}
+
+/// Where two logs differ, which have these names there, in this style, and what they are to each other.
+#[unsafe(no_mangle)]
+pub extern "C" fn udsnorm_diff(
+    alloc: Global,
+    tester: u32,
+    unit: u32,
+    limit: u64,
+    style: u32,
+    left_name: &[u8],
+    left: &[u8],
+    right_name: &[u8],
+    right: &[u8],
+    out: &mut [u8],
+    answer: &mut UdsnormAnswer,
+) -> u32
+    ensures answers { DiffAnswers MESSAGE_LIMIT tester unit limit style left_name.now right_name.now left.now right.now out.old out.new answer.new }
+    ensures status { result ≡ answer.new.status }
+{
+    *answer = match config_of(tester, unit, limit) {
+        Ok(config) => put_pair_difference(
+            alloc, &config, style, left_name, left, right_name, right, out,
+        ),
         Err(fault) => refusal_of(fault),
     };
     answer.status
