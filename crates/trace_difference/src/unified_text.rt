@@ -15,7 +15,7 @@ use crate::written::Side;
 use text_parts::{Part, say};
 use trace_io::TextSink;
 use trace_text::{Number, Place};
-use uds_difference::Row;
+use uds_difference::{Row, bound_for};
 
 /// Says the text of these rows of two sessions: nothing where nothing differs.
 pub(crate) fn say_unified<S: TextSink>(
@@ -28,23 +28,13 @@ pub(crate) fn say_unified<S: TextSink>(
     ensures { S.says out.old (unified_text left.entry.name.now right.entry.name.now shortest (bound_for (length left.entry.items.now + length right.entry.items.now)) rows.now left.entry.items.now right.entry.items.now) out.new }
 {
     if differs(rows) {
-        let bound = bound_for(left.items.len() + right.items.len());
+        let bound = u64::from(bound_for(left.items.len() + right.items.len()));
         say(
             out,
             (Note { shortest, bound }, Header(left.name, right.name)),
         );
         say_hunks(left, right, rows, out);
     }
-}
-
-/// How many items a shortest script removes and adds at most, where two sessions have so many items together.
-fn bound_for(items: usize) -> u64
-    ensures { result ≡ bound_for items }
-{
-    if items == 0 {
-        return 2_000;
-    }
-    (1_073_741_824 / items as u64).min(2_000).max(64)
 }
 
 /// That a shorter script may keep equal items, where this bound was passed up to which one is looked for.
