@@ -82,19 +82,19 @@ fn say_hunks<S: TextSink>(left: Side<'_>, right: Side<'_>, rows: &[Row], out: &m
     ensures { S.says out.old (flat_map (hunk_text left.entry.items.now right.entry.items.now) (hunks rows.now)) out.new }
 {
     let mut shown = 0;
-    let mut i = 0;
-    let mut j = 0;
+    let mut left_before = 0;
+    let mut right_before = 0;
     'rows: for k in 0..rows.len() {
         let rest = &rows[k..];
         if shown > 0 {
             shown -= 1;
         } else if changes_within(4, rest) {
             let length = hunk_length(rest);
-            say_hunk(left, right, i, j, &rest[..length], out);
+            say_hunk(left, right, left_before, right_before, &rest[..length], out);
             shown = length - 1;
         }
-        i += left_in(rows[k]);
-        j += right_in(rows[k]);
+        left_before += left_in(rows[k]);
+        right_before += right_in(rows[k]);
     }
 }
 
