@@ -8,7 +8,7 @@ ghost use Rattle.trace_difference.specs.proving.HunkOf.{hunk_of};
 
 use crate::hunk_lines::say_lines;
 use crate::hunk_rows::{
-    changes_within, differs, hunk_length, left_count, left_in, right_count, right_in,
+    CONTEXT, changes_within, differs, hunk_length, left_count, left_in, right_count, right_in,
 };
 use crate::labels::Label;
 use crate::written::Side;
@@ -88,7 +88,7 @@ fn say_hunks<S: TextSink>(left: Side<'_>, right: Side<'_>, rows: &[Row], out: &m
         let rest = &rows[k..];
         if shown > 0 {
             shown -= 1;
-        } else if changes_within(4, rest) {
+        } else if changes_within(CONTEXT + 1, rest) {
             let length = hunk_length(rest);
             say_hunk(left, right, left_before, right_before, &rest[..length], out);
             shown = length - 1;
