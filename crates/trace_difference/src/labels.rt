@@ -45,12 +45,12 @@ fn say_escaped<S: TextSink>(name: &[u8], out: &mut S)
     ensures { S.says out.old (flat_map escaped name.now) out.new }
 {
     'bytes: for byte in name {
-        say_byte(*byte, out);
+        say_escaped_byte(*byte, out);
     }
 }
 
 /// Says a byte between quotes.
-fn say_byte<S: TextSink>(byte: u8, out: &mut S)
+fn say_escaped_byte<S: TextSink>(byte: u8, out: &mut S)
     ensures { S.says out.old (escaped byte) out.new }
 {
     if byte == b'"' || byte == b'\\' {

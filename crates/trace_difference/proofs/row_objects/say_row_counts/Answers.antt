@@ -1,6 +1,6 @@
 use Rattle.std.proofs.Common.{subst}
 use Rattle.trace_difference.proofs.ObjectTexts.{counts_are}
-use Rattle.trace_difference.proofs.row_objects.say_counts.Goals as goal
+use Rattle.trace_difference.proofs.row_objects.say_row_counts.Goals as goal
 
 pub returns : goal.returns
 returns g c =
