@@ -18,7 +18,7 @@ use Rattle.uds_exchange.specs.Meaning.{meaning, flattened}
 use Rattle.uds_exchange.proofs.Promises.{early_grows, early_then_held}
 use Rattle.trace_canon.specs.CanonicalScript.{StandsCanonical, is_too_long, answers_canonical, CanonicalTellsTheSame, canonical_script, place_behind, lines_due, text_of_early, CanonicalTellsEarly}
 use Rattle.trace_canon.specs.Keeping.{HasTextOf}
-use Rattle.trace_run.specs.Told.{told_after, told, told_of_lines, whole_of_lines, AnswersTold, EndsWith, FailsToTell, WritesTold, WritesRefused, WritesFrontOfTold, TellsEagerly}
+use Rattle.trace_run.specs.Told.{told_after, told, told_of_lines, whole_of_lines, AnswersTold, EndsWith, FailsToTell, WritesTold, WritesToldAndRefusal, WritesFrontOfWhole, TellsEagerly}
 use Rattle.trace_canon.specs.proving.Writing.{Progress, start_of, text_from, progress_after}
 use Rattle.trace_canon.proofs.CanonicalWriting.{text_none, text_append, place_append}
 use Rattle.trace_canon.proofs.Answered.{answers_accepted, answers_output_limit}
@@ -129,7 +129,7 @@ module _ (settings : Settings) where
         → WritesTextOfRead (announces_within MESSAGE_LIMIT settings) (early_text MESSAGE_LIMIT settings) settings log given why old new
     writes_early why wrote = subst (λ text. WritesTextOfRead (announces_within MESSAGE_LIMIT settings) text settings log given why old new) texts wrote
 
-    writes_refused : (why : Fault) → WritesRefused (canonical_script settings) MESSAGE_LIMIT settings log given why old new
+    writes_refused : (why : Fault) → WritesToldAndRefusal (canonical_script settings) MESSAGE_LIMIT settings log given why old new
         → WritesTextOfRead (announces_within MESSAGE_LIMIT settings) (early_text MESSAGE_LIMIT settings) settings log given why old new
     writes_refused why wrote = record {
       meanings = wrote.meanings;
@@ -137,7 +137,7 @@ module _ (settings : Settings) where
       wrote = wrote.wrote ∙ ap (λ text. old ++ text) (append-nil (told_of_lines (canonical_script settings) settings wrote.meanings) ∙ early_is wrote.meanings);
     }
 
-    writes_front : (why : Fault) → WritesFrontOfTold (canonical_script settings) MESSAGE_LIMIT settings log given why old new → WritesFront MESSAGE_LIMIT settings log given why old new
+    writes_front : (why : Fault) → WritesFrontOfWhole (canonical_script settings) MESSAGE_LIMIT settings log given why old new → WritesFront MESSAGE_LIMIT settings log given why old new
     writes_front why wrote =
         let begins = fitting_log_begins MESSAGE_LIMIT settings (flattened (meaning (messages MESSAGE_LIMIT (trace settings wrote.meanings)))) in
         record {

@@ -27,7 +27,7 @@ use Rattle.trace_log.specs.Failing.{FailedIf}
 use Rattle.trace_log.specs.LinesRead.{counts_last, AreGiven, AreLinesRead, AreReadBefore, WritesTextOfRead}
 use Rattle.trace_log.specs.Settings.{Settings}
 use Rattle.trace_log.specs.Summing.{summary_of}
-use Rattle.trace_run.specs.Told.{WritesFrontOfFrames, HasToldSome, FailsToTell, Answering, EndsWith, passing, IsReadToEnd, IsUnreadFor, StopsNothingWithin, WritesFrontOfTold, Script, told_after, told, told_of_lines, refusal_of_lines, refused_of_lines, is_told, WritesRefused, whole_of_lines, AnswersTold, TellsEagerly}
+use Rattle.trace_run.specs.Told.{WritesFrontOfTold, HasToldSome, FailsToTell, Answering, EndsWith, passing, IsReadToEnd, IsUnreadFor, StopsNothingWithin, WritesFrontOfWhole, Script, told_after, told, told_of_lines, refusal_of_lines, told_and_refusal_of_lines, is_told, WritesToldAndRefusal, whole_of_lines, AnswersTold, TellsEagerly}
 use Rattle.trace_log.specs.Trace.{trace, trace_from}
 use Rattle.std.specs.List.{AllByRecursion}
 use Rattle.can_log.specs.Scanning.{Standing}
@@ -178,7 +178,7 @@ told_grows script settings meanings more =
 
 -- a front of what is told of frames is one of all that is told
 pub front_of_whole : (script : Script) (limit : ℕ) (settings : Settings) (log : List ℕ) (given : ℕ) (why : Fault) (old new : List ℕ)
-    → WritesFrontOfFrames script limit settings log given why old new → WritesFrontOfTold script limit settings log given why old new
+    → WritesFrontOfTold script limit settings log given why old new → WritesFrontOfWhole script limit settings log given why old new
 front_of_whole script limit settings log given why old new wrote =
     let end = script.last (trace settings wrote.meanings) (summary_of limit settings log wrote.meanings) in
     record {
@@ -191,10 +191,10 @@ front_of_whole script limit settings log given why old new wrote =
     }
 
 -- a front of it was written
-writes_front_of_frames : (script : Script) (limit : ℕ) (settings : Settings) (log : List ℕ) (given : ℕ) (why : Fault) (meanings : List (Option Stamped)) (old new : List ℕ)
+writes_front_of_told : (script : Script) (limit : ℕ) (settings : Settings) (log : List ℕ) (given : ℕ) (why : Fault) (meanings : List (Option Stamped)) (old new : List ℕ)
     → counts_last why ≡ true → HaveCome (passing script.strict limit settings) true (min given settings.max_bytes) log meanings → HasFront old (told_of_lines script settings meanings) new
-    → WritesFrontOfFrames script limit settings log given why old new
-writes_front_of_frames script limit settings log given why meanings old new last come front =
+    → WritesFrontOfTold script limit settings log given why old new
+writes_front_of_told script limit settings log given why meanings old new last come front =
     writes_front (passing script.strict limit settings) (told_of_lines script settings) settings log given meanings old new why front.front
     (subst (λ b. HaveCome (passing script.strict limit settings) b (min given settings.max_bytes) log meanings) (sym last) come) front.wrote
     (λ more. begins_again front.front (told_of_lines script settings meanings) (told_of_lines script settings (meanings ++ more)) (front.rest, front.parts)
@@ -235,21 +235,21 @@ front_of_read script limit settings log given why meanings old new read front so
     let come = had_come (passing script.strict limit settings) (counts_last why) (min given settings.max_bytes) log read.meanings read.read in
     inl (
       front_of_whole script limit settings log given fault.Write old new
-          (writes_front_of_frames script limit settings log given fault.Write read.meanings old new refl come (subst (λ text. HasFront old text new) read.wrote front)),
+          (writes_front_of_told script limit settings log given fault.Write read.meanings old new refl come (subst (λ text. HasFront old text new) read.wrote front)),
       inl (told_some script limit settings log given read.meanings come (subst (λ (text : List ℕ). 0 < length text) read.wrote some)),
     )
 
 -- only a front of what is told of a log that is refused was written
 front_of_refused : (script : Script) (limit : ℕ) (settings : Settings) (log : List ℕ) (given : ℕ) (why : Fault) (meanings : List (Option Stamped)) (old new : List ℕ)
     → is_told why ≡ true → IsUnreadFor script.strict limit settings log why → AreReadBefore (passing script.strict limit settings) settings log given why meanings
-    → HasFront old (refused_of_lines script limit settings why meanings) new → 0 < length (refused_of_lines script limit settings why meanings)
+    → HasFront old (told_and_refusal_of_lines script limit settings why meanings) new → 0 < length (told_and_refusal_of_lines script limit settings why meanings)
     → FailsToTell script limit settings log given old new
 front_of_refused script limit settings log given why meanings old new tells unread read front some = by (refusal_of_lines script limit settings why meanings) refl
   where
     by : (refusal : List ℕ) → refusal_of_lines script limit settings why meanings ≡ refusal → FailsToTell script limit settings log given old new
     by [] none =
         let lines = told_of_lines script settings meanings in
-        let same : refused_of_lines script limit settings why meanings ≡ lines = ap (λ x. lines ++ x) none ∙ append-nil lines in
+        let same : told_and_refusal_of_lines script limit settings why meanings ≡ lines = ap (λ x. lines ++ x) none ∙ append-nil lines in
         front_of_read script limit settings log given why meanings old new (record { meanings = meanings; read = read; wrote = refl }) (subst (λ text. HasFront old text new) same front)
         (subst (λ (text : List ℕ). 0 < length text) same some)
     by (b ∷ rest) is = inr (record {
@@ -440,7 +440,7 @@ module _ {M W : Type 0} (stands : M → List Entry → M → Type 0) (scripts : 
           up start.0.telling.machine settings meanings (has_received ToldEvents settings start now begun meanings taken) told_so.judged told_so.machine_stands
 
       refuses_all : (why answer : Fault) (meanings : List (Option Stamped)) → TookLines ToldEvents start meanings now → RefusesTelling stands ending target why now.0 now.1 answer new
-          → EndsAs why target start.1 (refused_of_lines (ending start.0.telling.machine) MESSAGE_LIMIT settings why meanings) answer new
+          → EndsAs why target start.1 (told_and_refusal_of_lines (ending start.0.telling.machine) MESSAGE_LIMIT settings why meanings) answer new
       refuses_all why answer meanings taken up =
           refuses why answer meanings taken up start.1 (told_of_lines (scripts start.0.telling.machine) settings meanings) (gives meanings taken).carried
 
@@ -491,9 +491,9 @@ module _ {M W : Type 0} (stands : M → List Entry → M → Type 0) (scripts : 
           refused : (why : Fault) (meanings : List (Option Stamped)) → is_told why ≡ true → TookLines ToldEvents start meanings now
               → IsUnreadFor script.strict MESSAGE_LIMIT settings log why → AreReadBefore passes settings log given why meanings
               → RefusesTelling stands ending target why now.0 now.1 answer new
-              → (WritesRefused script MESSAGE_LIMIT settings log given why old (target.taken new) → Answers why) → Answers answer
+              → (WritesToldAndRefusal script MESSAGE_LIMIT settings log given why old (target.taken new) → Answers why) → Answers answer
           refused why meanings tells taken unread read up answers =
-              let all = refused_of_lines script MESSAGE_LIMIT settings why meanings in
+              let all = told_and_refusal_of_lines script MESSAGE_LIMIT settings why meanings in
               elim (refuses_all why answer meanings taken up) [
                 | inl well ↦ subst Answers (sym well.0) (answers (record { meanings = meanings; read = read; wrote = wrote all well.1 }))
                 | inr wrong ↦ subst Answers (sym wrong.0)
@@ -551,10 +551,10 @@ module _ {M W : Type 0} (stands : M → List Entry → M → Type 0) (scripts : 
 
           stopped : (meanings : List (Option Stamped)) (what : Option Stamped) (line : StoppedOnLine StoppedTelling start meanings what fault.Memory now)
               → StopsWithin settings.max_bytes log given meanings what → (failed : Bool) (why : Fault) → counts_last why ≡ true → Carries target start.1 (text meanings) failed [] new
-              → WritesFrontOfFrames script MESSAGE_LIMIT settings log given why old (target.taken new)
+              → WritesFrontOfTold script MESSAGE_LIMIT settings log given why old (target.taken new)
           stopped meanings what line place failed why last carries =
               let more = longer meanings what line in
-              writes_front_of_frames script MESSAGE_LIMIT settings log given why (meanings ++ what ∷ []) old (target.taken new) last (came meanings what line place)
+              writes_front_of_told script MESSAGE_LIMIT settings log given why (meanings ++ what ∷ []) old (target.taken new) last (came meanings what line place)
               (subst (λ said. HasFront old said (target.taken new)) (sym more.1) (front_longer old (text meanings) more.0 (target.taken new) (front failed (text meanings) carries)))
 
           some_told : (meanings : List (Option Stamped)) (what : Option Stamped) (line : StoppedOnLine StoppedTelling start meanings what fault.Memory now)

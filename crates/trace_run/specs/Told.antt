@@ -1,5 +1,9 @@
 -- What is answered and written by a run that tells something of each frame of a log as it comes, and something at the end:
--- one statement over any script. A command says which script is its own.
+-- one statement over any script. A command says which script is its own. Of lines that were read
+--   `told_of_lines` is what is told of their frames,
+--   `whole_of_lines` that, and what is told at the end,
+--   `refusal_of_lines` what is told where behind them something refuses the log,
+--   `told_and_refusal_of_lines` that, behind what is told of their frames.
 use Rattle.std.specs.Prelude.{◌≡◌, ◌≢◌, ℕ, ◌-◌, ◌≤◌, List, [], ◌∷◌, ◌++◌, Option, Result, Ok, Err, IfErr, length, true, ◌⊎◌, ◌<◌, Bool, false, ⊤}
 use Rattle.can_log.specs.declared.frame.Stamped.{Stamped}
 use Rattle.isotp_receive.specs.Trace.{Entry}
@@ -50,8 +54,8 @@ abbrev pub tells_no_refusal : Refusal
 tells_no_refusal T summary why glimpse = []
 
 -- the script with that of a refusal
-abbrev pub told_with : Script → Refusal → Glimpse → Script
-told_with script refusal glimpse = record script { refused = λ T summary why. refusal T summary why glimpse }
+abbrev pub with_refusal : Script → Refusal → Glimpse → Script
+with_refusal script refusal glimpse = record script { refused = λ T summary why. refusal T summary why glimpse }
 
 -- A script that tells nothing.
 pub record TellsNothing (script : Script) : Type 0 where
@@ -83,8 +87,8 @@ abbrev pub refusal_of_lines : Script → ℕ → Settings → Fault → List (Op
 refusal_of_lines script limit settings why meanings = script.refused (trace settings meanings) (summary_of limit settings [] meanings) why
 
 -- and all that is told then
-abbrev pub refused_of_lines : Script → ℕ → Settings → Fault → List (Option Stamped) → List ℕ
-refused_of_lines script limit settings why meanings = told_of_lines script settings meanings ++ refusal_of_lines script limit settings why meanings
+abbrev pub told_and_refusal_of_lines : Script → ℕ → Settings → Fault → List (Option Stamped) → List ℕ
+told_and_refusal_of_lines script limit settings why meanings = told_of_lines script settings meanings ++ refusal_of_lines script limit settings why meanings
 
 -- whether the fault is a refusal that is told: for a line, or for the limit of the log
 abbrev pub is_told : Fault → Bool
@@ -127,17 +131,17 @@ abbrev pub WritesTold : Script → ℕ → Settings → List ℕ → ℕ → Fau
 WritesTold script limit settings = WritesTextOfRead (passing script.strict limit settings) (told_of_lines script settings) settings
 
 -- and what is told of the refusal
-abbrev pub WritesRefused : Script → ℕ → Settings → List ℕ → ℕ → Fault → List ℕ → List ℕ → Type 0
-WritesRefused script limit settings log given why =
-    WritesTextOfRead (passing script.strict limit settings) (refused_of_lines script limit settings why) settings log given why
+abbrev pub WritesToldAndRefusal : Script → ℕ → Settings → List ℕ → ℕ → Fault → List ℕ → List ℕ → Type 0
+WritesToldAndRefusal script limit settings log given why =
+    WritesTextOfRead (passing script.strict limit settings) (told_and_refusal_of_lines script limit settings why) settings log given why
 
 -- a front of what is told of these lines was
-abbrev pub WritesFrontOfFrames : Script → ℕ → Settings → List ℕ → ℕ → Fault → List ℕ → List ℕ → Type 0
-WritesFrontOfFrames script limit settings = WritesFrontOfRead (passing script.strict limit settings) (told_of_lines script settings) settings
-
--- a front of all that is told of them was
 abbrev pub WritesFrontOfTold : Script → ℕ → Settings → List ℕ → ℕ → Fault → List ℕ → List ℕ → Type 0
-WritesFrontOfTold script limit settings log = WritesFrontOfRead (passing script.strict limit settings) (whole_of_lines script limit settings log) settings log
+WritesFrontOfTold script limit settings = WritesFrontOfRead (passing script.strict limit settings) (told_of_lines script settings) settings
+
+-- a front of that and of what is told at the end was
+abbrev pub WritesFrontOfWhole : Script → ℕ → Settings → List ℕ → ℕ → Fault → List ℕ → List ℕ → Type 0
+WritesFrontOfWhole script limit settings log = WritesFrontOfRead (passing script.strict limit settings) (whole_of_lines script limit settings log) settings log
 
 -- what may be answered at the end of a trace with these counts
 abbrev pub Answering : Type 0 → Type 1
@@ -192,12 +196,12 @@ pub record RefusesUnwritten (script : Script) (limit : ℕ) (settings : Settings
   pub meanings : List (Option Stamped)
   pub read : AreReadBefore (passing script.strict limit settings) settings log given why meanings
   pub some : 0 < length (refusal_of_lines script limit settings why meanings)
-  pub front : HasFront old (refused_of_lines script limit settings why meanings) new
+  pub front : HasFront old (told_and_refusal_of_lines script limit settings why meanings) new
 
 -- writing failed: while the log was read, where something was told of it, or at its end; or where it is refused
 abbrev pub FailsToTell : Script → ℕ → Settings → List ℕ → ℕ → List ℕ → List ℕ → Type 0
 FailsToTell script limit settings log given old new =
-    (WritesFrontOfTold script limit settings log given Write old new × (HasToldSome script limit settings log given ⊎ EndsUnwritten script limit settings log old new))
+    (WritesFrontOfWhole script limit settings log given Write old new × (HasToldSome script limit settings log given ⊎ EndsUnwritten script limit settings log old new))
     ⊎ RefusesUnwritten script limit settings log given old new
 
 -- What is answered on a log, of which `given` bytes were given, and what is then written where `old` was before: all
@@ -208,14 +212,14 @@ abbrev pub AnswersTold : {A : Type 0} → Script → Answering A → ℕ → Set
 AnswersTold script answers limit settings log given (Ok value) old new = EndsWith script answers limit settings log given (Ok value) old new
 AnswersTold script answers limit settings log given (Err OutputLimit) old new = EndsWith script answers limit settings log given (Err stop.OutputLimit) old new
 AnswersTold script answers limit settings log given (Err (BadLine line column)) old new =
-    IsUnreadFor script.strict limit settings log (BadLine line column) × WritesRefused script limit settings log given (BadLine line column) old new
+    IsUnreadFor script.strict limit settings log (BadLine line column) × WritesToldAndRefusal script limit settings log given (BadLine line column) old new
 AnswersTold script answers limit settings log given (Err (Oversize line announced)) old new =
     IsUnreadFor script.strict limit settings log (Oversize line announced) × WritesTold script limit settings log given (Oversize line announced) old new
 AnswersTold script answers limit settings log given (Err LogLimit) old new =
-    IsUnreadFor script.strict limit settings log LogLimit × WritesRefused script limit settings log given LogLimit old new
+    IsUnreadFor script.strict limit settings log LogLimit × WritesToldAndRefusal script limit settings log given LogLimit old new
 AnswersTold script answers limit settings log given (Err Read) old new = WritesTold script limit settings log given Read old new
 AnswersTold script answers limit settings log given (Err Write) old new = FailsToTell script limit settings log given old new
-AnswersTold script answers limit settings log given (Err Memory) old new = WritesFrontOfFrames script limit settings log given Memory old new
+AnswersTold script answers limit settings log given (Err Memory) old new = WritesFrontOfTold script limit settings log given Memory old new
 
 -- What was written begins with what is told of the lines that had ended among all bytes given but the last 4,096.
 pub record TellsEagerly (script : Script) (limit : ℕ) (settings : Settings) (log : List ℕ) (given : ℕ) (old new : List ℕ) : Type 0 where

@@ -9,7 +9,7 @@ ghost use Rattle.trace_log.specs.proving.Receiving.{Receives};
 ghost use Rattle.trace_log.specs.Settings.{Settings};
 ghost use Rattle.trace_log.specs.Summing.{ends_in_line_feed};
 ghost use Rattle.trace_run.specs.Seen.{glimpse_value};
-ghost use Rattle.trace_run.specs.Told.{Ran, RanLenient, command, glimpse_of, told_with};
+ghost use Rattle.trace_run.specs.Told.{Ran, RanLenient, command, glimpse_of, with_refusal};
 ghost use Rattle.trace_log.specs.Trace.{trace};
 ghost use Rattle.trace_run.specs.declared.machine.Stop.TheVariants.{OutputLimit};
 ghost use Rattle.trace_log.specs.declared.summary.Summary.{Summary as SummaryValue};
@@ -39,7 +39,7 @@ pub fn run<M: Machine + Drop, R: Source, W: Target>(
     requires reader { HasLowCounts R.Source reader.old }
     requires writer { IsLowCount (W.failures writer.old) }
     ensures ran { Ran R.Source W.Target
-        (command (told_with (M.script machine) (M.refusal machine) (glimpse_of R.Source reader.new)) (M.answers machine) (M.needs machine))
+        (command (with_refusal (M.script machine) (M.refusal machine) (glimpse_of R.Source reader.new)) (M.answers machine) (M.needs machine))
         config.now reader.old writer.old result reader.new writer.new }
 {
     let pair = Pair::new(alloc);
@@ -64,7 +64,7 @@ pub fn run_lenient<M: Machine + Drop, R: Source, W: Target>(
     requires reader { HasLowCounts R.Source reader.old }
     requires writer { IsLowCount (W.failures writer.old) }
     ensures ran { RanLenient R.Source W.Target
-        (command (told_with (M.script machine) (M.refusal machine) (glimpse_of R.Source reader.new)) (M.answers machine) (M.needs machine))
+        (command (with_refusal (M.script machine) (M.refusal machine) (glimpse_of R.Source reader.new)) (M.answers machine) (M.needs machine))
         config.now reader.old writer.old result reader.new writer.new }
 {
     run(alloc, config, machine, reader, writer)
@@ -78,7 +78,7 @@ fn give_up<M: Machine + Drop, W: Target>(
     receiver: Receiver<M, W>,
     target: &mut W,
 ) -> Fault
-    ensures { GivesUp M.stands (λ start. told_with (M.script start) (M.refusal start) (glimpse_value source.entry)) W.Target fault receiver target.old result target.new }
+    ensures { GivesUp M.stands (λ start. with_refusal (M.script start) (M.refusal start) (glimpse_value source.entry)) W.Target fault receiver target.old result target.new }
 {
     match fault {
         Fault::BadLine { .. } | Fault::LogLimit => refuse(fault, source, receiver, target),
@@ -109,7 +109,7 @@ fn refuse<M: Machine, W: Target>(
     receiver: Receiver<M, W>,
     target: &mut W,
 ) -> Fault
-    ensures { RefusesTelling M.stands (λ start. told_with (M.script start) (M.refusal start) (glimpse_value source.entry)) W.Target why receiver target.old result target.new }
+    ensures { RefusesTelling M.stands (λ start. with_refusal (M.script start) (M.refusal start) (glimpse_value source.entry)) W.Target why receiver target.old result target.new }
 {
     let Receiver {
         pair,

@@ -2,13 +2,13 @@ use Rattle.std.proofs.Common.{inl, inr, sym, subst}
 use Rattle.trace_log.specs.declared.fault.Fault.{Fault}
 use Rattle.trace_run.specs.proving.Carrying.{GivesUp, RefusesTelling}
 use Rattle.trace_run.specs.Seen.{glimpse_value}
-use Rattle.trace_run.specs.Told.{Script, told_with}
+use Rattle.trace_run.specs.Told.{Script, with_refusal}
 use Rattle.trace_run.proofs.driver.give_up.Goals as goal
 
 pub returns-in-BadLine : goal.returns-in-BadLine
 returns-in-BadLine g c =
     let M = g.M.Machine in
-    let scripts : g.row.M.Denot → Script = λ start. told_with (M.script start) (M.refusal start) (glimpse_value c.args.source) in
+    let scripts : g.row.M.Denot → Script = λ start. with_refusal (M.script start) (M.refusal start) (glimpse_value c.args.source) in
     let gives_up = λ (why : Fault). GivesUp M.stands scripts g.W.Target why c.args.receiver c.args.target.now c.refuse.result c.refuse.new.target in
     let refuses = λ (why : Fault). RefusesTelling M.stands scripts g.W.Target why c.args.receiver c.args.target.now c.refuse.result c.refuse.new.target in
     elim c.in-BadLine.is [

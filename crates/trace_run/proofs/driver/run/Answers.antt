@@ -12,7 +12,7 @@ use Rattle.isotp_receive.specs.Trace.{Entry}
 use Rattle.trace_log.specs.declared.fault.Fault.{Fault}
 use Rattle.trace_log.specs.declared.summary.Summary.{Summary}
 use Rattle.trace_run.specs.proving.Carrying.{EndsTelling, GivesUp}
-use Rattle.trace_run.specs.Told.{Glimpse, Script, StopsNothingWithin, AnswersTold, TellsEagerly, glimpse_of, told_with}
+use Rattle.trace_run.specs.Told.{Glimpse, Script, StopsNothingWithin, AnswersTold, TellsEagerly, glimpse_of, with_refusal}
 use Rattle.trace_log.specs.Answers.{ReadsWhile}
 use Rattle.trace_log.specs.Feeding.{TakesFront}
 use Rattle.trace_run.proofs.Runs.{TookLines, IsRunStart, starts_run, has_received}
@@ -49,10 +49,10 @@ near g c log given failures failures_now reads =
 
 -- how the run ended on a fault, by what was seen of its source
 gives_up : (g : Over) (c : After-give_up g)
-    → GivesUp g.M.Machine.stands (λ m. told_with (g.M.Machine.script m) (g.M.Machine.refusal m) (glimpse_of g.R.Source c.feed_lines.new.reader)) g.W.Target c.in-Err.fault c.feed_lines.new.taker c.feed_lines.new.device c.give_up.result c.give_up.new.target
+    → GivesUp g.M.Machine.stands (λ m. with_refusal (g.M.Machine.script m) (g.M.Machine.refusal m) (glimpse_of g.R.Source c.feed_lines.new.reader)) g.W.Target c.in-Err.fault c.feed_lines.new.taker c.feed_lines.new.device c.give_up.result c.give_up.new.target
 gives_up g c =
     let M = g.M.Machine in
-    subst (λ (source : Glimpse). GivesUp M.stands (λ m. told_with (M.script m) (M.refusal m) source) g.W.Target c.in-Err.fault c.feed_lines.new.taker c.feed_lines.new.device c.give_up.result c.give_up.new.target)
+    subst (λ (source : Glimpse). GivesUp M.stands (λ m. with_refusal (M.script m) (M.refusal m) source) g.W.Target c.in-Err.fault c.feed_lines.new.taker c.feed_lines.new.device c.give_up.result c.give_up.new.target)
     c.of.ensures c.give_up.ensures
 
 pub returns-in-Err : goal.returns-in-Err
@@ -72,7 +72,7 @@ returns-in-Err g c =
     record {
       ran = record {
         answer = λ log agrees.
-            subst (λ m. AnswersTold (told_with (M.script m) (M.refusal m) source) (M.answers m) MESSAGE_LIMIT settings log (length (g.R.Source.given c.feed_lines.new.reader) - length (g.R.Source.given c.args.reader.now)) (Err c.give_up.result)
+            subst (λ m. AnswersTold (with_refusal (M.script m) (M.refusal m) source) (M.answers m) MESSAGE_LIMIT settings log (length (g.R.Source.given c.feed_lines.new.reader) - length (g.R.Source.given c.args.reader.now)) (Err c.give_up.result)
             (W.taken c.args.writer.now) (W.taken c.give_up.new.target)) (same_machine g at)
             (told_of_fault M.stands M.script M.needs W settings (start g at) now (begun g at) c.requires.writer refusal c.give_up.new.target (M.answers c.start-receiver.result.telling.machine) log
             (length (g.R.Source.given c.feed_lines.new.reader) - length (g.R.Source.given c.args.reader.now)) c.in-Err.fault c.give_up.result c.max_bytes.result c.max_bytes.ensures.value

@@ -1,13 +1,13 @@
 use Rattle.trace_run.proofs.LenientRuns.{near_when_lenient, no_oversize, no_output_limit, needs_when_none}
 use Rattle.trace_log.proofs.Promises.{given_agrees}
-use Rattle.trace_run.specs.Told.{glimpse_of, told_with}
+use Rattle.trace_run.specs.Told.{glimpse_of, with_refusal}
 use Rattle.trace_run.proofs.driver.run_lenient.Goals as goal
 
 pub returns : goal.returns
 returns g c =
     let all = c.run.ensures.ran in
     let machine = c.args.machine in
-    let script = told_with (g.M.Machine.script machine) (g.M.Machine.refusal machine) (glimpse_of g.R.Source c.run.new.reader) in
+    let script = with_refusal (g.M.Machine.script machine) (g.M.Machine.refusal machine) (glimpse_of g.R.Source c.run.new.reader) in
     let answers = g.M.Machine.answers machine in
     let is_lenient = c.requires.lenient in
     let told = all.answer all.read.gave.bytes (given_agrees all.read.gave) in
