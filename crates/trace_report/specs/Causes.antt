@@ -9,11 +9,11 @@ use Rattle.trace_report.specs.Looks.{lacks_stamp, look_of, row_of}
 use Rattle.trace_report.specs.declared.cause.Cause.{Cause}
 use Rattle.trace_report.specs.declared.cause.Cause.TheVariants as cause
 use Rattle.trace_report.specs.declared.cause.CauseRow.{CauseRow}
-use Rattle.trace_run.specs.Told.{Glimpse}
+use Rattle.trace_run.specs.Told.{GlimpseValue}
 
 -- The cause of a log that is refused at this place. Where its source is over, nothing before the end was refused: the
 -- last line is cut. Else a line lacks its stamp, or the log looks like something else, or nothing is known.
-abbrev pub cause_of_place : Glimpse → ℕ → ℕ → Option Cause
+abbrev pub cause_of_place : GlimpseValue → ℕ → ℕ → Option Cause
 cause_of_place source line column =
     if source.is_over then Some cause.Cut
     else if lacks_stamp source.first line column then Some (cause.NoStamp line)
@@ -24,7 +24,7 @@ abbrev pub cause_of_limit : ℕ → Option Cause
 cause_of_limit most = if nat_lt most LARGEST_LIMIT then Some (cause.Limit most) else None
 
 -- the cause of a fault over a log with this limit, by what is seen of its source
-abbrev pub cause_of : Fault → ℕ → Glimpse → Option Cause
+abbrev pub cause_of : Fault → ℕ → GlimpseValue → Option Cause
 cause_of (BadLine line column) most source = cause_of_place source line column
 cause_of LogLimit most source = cause_of_limit most
 cause_of OutputLimit most source = cause_of_limit most

@@ -15,7 +15,7 @@ use Rattle.trace_report.specs.Rows.{RowValue}
 use Rattle.trace_report.specs.Sorts.{tally_of}
 use Rattle.trace_report.specs.Verdict.{refused_verdict, stop_line, verdict_text}
 use Rattle.trace_log.specs.declared.fault.Fault.{Fault}
-use Rattle.trace_run.specs.Told.{Glimpse, Refusal, Script}
+use Rattle.trace_run.specs.Told.{GlimpseValue, Refusal, Script}
 
 -- the time of the first frame of a trace; 0 where it has none
 abbrev pub first_time : List Entry → ℕ
@@ -69,7 +69,7 @@ refused_text title limit T summary why source =
     front_before title T ++ refused_end why (cause_of why title.most source) (blocks_of (rows_of limit T)) (tally_of (rows_of limit T)) summary (first_time T) (last_time 0 T)
 
 -- the script of a report of a log of whose source this is seen where it is refused
-abbrev pub report_script : PageTitle → ℕ → Glimpse → Script
+abbrev pub report_script : PageTitle → ℕ → GlimpseValue → Script
 report_script title limit source = record {
   strict = false;
   word = frame_text title limit;
@@ -78,5 +78,5 @@ report_script title limit source = record {
 }
 
 -- nothing is seen of a source
-abbrev pub nothing_seen : Glimpse
+abbrev pub nothing_seen : GlimpseValue
 nothing_seen = record { first = []; is_over = false }

@@ -23,7 +23,7 @@ use Rattle.trace_report.specs.Sorts.{counts_in}
 use Rattle.trace_log.specs.Summing.{is_clean}
 use Rattle.trace_report.specs.Verdict.{is_called_clean, refusal_words, span_of, unclean_reasons}
 use Rattle.trace_report.specs.declared.cause.Cause.{Cause}
-use Rattle.trace_run.specs.Told.{Glimpse}
+use Rattle.trace_run.specs.Told.{GlimpseValue}
 use Rattle.trace_report.specs.declared.contrast.LogName.{LogName}
 use Rattle.trace_report.specs.declared.contrast.LogName.TheVariants.{A, B}
 use Rattle.trace_report.specs.declared.pair_page.PairTitle.{PairTitle}
@@ -225,6 +225,6 @@ pair_page title (Err (Left why)) cause = unread_page title A why cause
 pair_page title (Err (Right why)) cause = unread_page title B why cause
 
 -- the cause of a fault over two logs with this limit, by what is seen of the source of the one that it is of
-abbrev pub cause_of_pair : CompareFault → ℕ → Glimpse → Glimpse → Option Cause
+abbrev pub cause_of_pair : CompareFault → ℕ → GlimpseValue → GlimpseValue → Option Cause
 cause_of_pair (Left why) most left right = cause_of why most left
 cause_of_pair (Right why) most left right = cause_of why most right

@@ -7,7 +7,7 @@ use Rattle.isotp_receive.specs.EventSeen.{seen_event}
 use Rattle.isotp_receive.specs.Trace.{Entry}
 use Rattle.isotp_receive.specs.Verdict.{messages, told_message, verdict}
 use Rattle.uds_exchange.specs.Judging.{IsJudgedOf}
-use Rattle.trace_run.specs.Told.{Glimpse as GlimpseValue}
+use Rattle.trace_run.specs.Told.{GlimpseValue}
 use Rattle.trace_run.specs.declared.machine.Glimpse.{Glimpse}
 use Rattle.trace_run.specs.declared.machine.Seen.{Seen}
 

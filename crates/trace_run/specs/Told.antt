@@ -37,24 +37,24 @@ pub record Script : Type 0 where
   pub refused : List Entry → Summary → Fault → List ℕ
 
 -- What is seen of a source where a log is refused: its first bytes, as many as it keeps, and whether it is over.
-pub record Glimpse : Type 0 where
+pub record GlimpseValue : Type 0 where
   pub first : List ℕ
   pub is_over : Bool
 
 -- of this source
-abbrev pub glimpse_of : {R : Type 0} → SourceGhosts R → R → Glimpse
+abbrev pub glimpse_of : {R : Type 0} → SourceGhosts R → R → GlimpseValue
 glimpse_of source after = record { first = source.first after; is_over = source.is_over after }
 
 -- what is told of a refusal, by that too
 abbrev pub Refusal : Type 0
-Refusal = List Entry → Summary → Fault → Glimpse → List ℕ
+Refusal = List Entry → Summary → Fault → GlimpseValue → List ℕ
 
 -- nothing
 abbrev pub tells_no_refusal : Refusal
 tells_no_refusal T summary why glimpse = []
 
 -- the script with that of a refusal
-abbrev pub with_refusal : Script → Refusal → Glimpse → Script
+abbrev pub with_refusal : Script → Refusal → GlimpseValue → Script
 with_refusal script refusal glimpse = record script { refused = λ T summary why. refusal T summary why glimpse }
 
 -- A script that tells nothing.

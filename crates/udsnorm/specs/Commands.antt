@@ -21,7 +21,7 @@ use Rattle.trace_log.specs.Needing.{HasFrame, IsKeptForMessage, NeedsMemoryToRec
 use Rattle.trace_canon.specs.Keeping.{CompletesKept, NeedsMemoryToCollect, NeedsMemoryToOrder}
 use Rattle.trace_log.specs.Refusal.{HasNoBadPlaceWithin, IsNotRefusedWithin}
 use Rattle.trace_log.specs.Settings.{Settings}
-use Rattle.trace_run.specs.Told.{Glimpse, Script, AnswersTold, RanLenient, TellsEagerly, answers_counts, command, needs_none}
+use Rattle.trace_run.specs.Told.{GlimpseValue, Script, AnswersTold, RanLenient, TellsEagerly, answers_counts, command, needs_none}
 use Rattle.trace_canon.specs.WatchScript.{watching_script}
 use Rattle.trace_canon.specs.declared.comparing.Compared.{Compared}
 use Rattle.trace_canon.specs.declared.comparison_lines.ComparisonStyle.{ComparisonStyle}
@@ -210,7 +210,7 @@ RanBy source target (runs_in_style script) settings = RanAny source target (runs
 
 -- the engine that does this job over one log, which has this name on a page, and of whose source this is seen where it is
 -- refused
-abbrev pub engine_of : Job → List ℕ → Glimpse → Engine
+abbrev pub engine_of : Job → List ℕ → GlimpseValue → Engine
 engine_of job.Normalise name seen = normalises
 engine_of (job.List style) name seen = writes (list_text style)
 engine_of (job.Watch style) name seen = runs (λ limit. watching_script style) CompletesKept
@@ -220,19 +220,19 @@ engine_of job.Report name seen = runs_in_style (λ style settings limit. report_
 engine_of (job.Find notation) name seen = finds notation
 
 -- what it answers, and what it writes
-abbrev pub EngineAnswers : Job → List ℕ → Glimpse → ℕ → Settings → List ℕ → ℕ → Result Summary Fault → List ℕ → List ℕ → Type 0
+abbrev pub EngineAnswers : Job → List ℕ → GlimpseValue → ℕ → Settings → List ℕ → ℕ → Result Summary Fault → List ℕ → List ℕ → Type 0
 EngineAnswers job name seen = answers_of (engine_of job name seen)
 
 -- what it has written before more is read
-abbrev pub EngineTellsEagerly : Job → List ℕ → Glimpse → ℕ → Settings → List ℕ → ℕ → List ℕ → List ℕ → Type 0
+abbrev pub EngineTellsEagerly : Job → List ℕ → GlimpseValue → ℕ → Settings → List ℕ → ℕ → List ℕ → List ℕ → Type 0
 EngineTellsEagerly job name seen = tells_eagerly_of (engine_of job name seen)
 
 -- for which logs it may be refused memory
-abbrev pub EngineNeeds : Job → List ℕ → Glimpse → ℕ → Settings → List ℕ → Type 0
+abbrev pub EngineNeeds : Job → List ℕ → GlimpseValue → ℕ → Settings → List ℕ → Type 0
 EngineNeeds job name seen = needs_of (engine_of job name seen)
 
 -- how near to what refuses the log it stops reading
-abbrev pub EngineReads : Job → List ℕ → Glimpse → ℕ → Settings → List ℕ → ℕ → ℕ → ℕ → Type 0
+abbrev pub EngineReads : Job → List ℕ → GlimpseValue → ℕ → Settings → List ℕ → ℕ → ℕ → ℕ → Type 0
 EngineReads job name seen limit settings log = ReadsWhile (unrefused_of (engine_of job name seen) limit settings log)
 
 -- ---- two logs
@@ -285,7 +285,7 @@ pair_held held = record { comparison = comparison_in held; left = held.left.summ
 
 -- what both logs say, and the page of that, in some style, or of a log that is refused, with its cause by what is seen of
 -- both sources
-abbrev pub PagesPair : List ℕ → List ℕ → Glimpse → Glimpse → Bool → ℕ → Settings → List ℕ → List ℕ → Result PairAnswer CompareFault → List ℕ → Type 0
+abbrev pub PagesPair : List ℕ → List ℕ → GlimpseValue → GlimpseValue → Bool → ℕ → Settings → List ℕ → List ℕ → Result PairAnswer CompareFault → List ℕ → Type 0
 PagesPair left_name right_name left_seen right_seen strict limit settings one other (Ok pair) text =
     (style : List ℕ) × (held : TwoValue) × HoldsTwo limit settings one other (Ok held) × (pair ≡ pair_held held)
     × (text ≡ held_page (pair_title style left_name right_name settings) held)
@@ -305,7 +305,7 @@ has_text pair_job.Report strict (Err fault) = is_refusal (fault_in fault)
 
 -- the engine that does this job over two logs, which have these names in its text, and of whose sources this is seen;
 -- where they differ needs memory, whatever a log has
-abbrev pub engine_of_pair : PairJob → List ℕ → List ℕ → Glimpse → Glimpse → PairEngine
+abbrev pub engine_of_pair : PairJob → List ℕ → List ℕ → GlimpseValue → GlimpseValue → PairEngine
 engine_of_pair (pair_job.Compare style) left_name right_name left_seen right_seen = record { answers = ComparesPair (comparison_text style); needs = NeedsMemoryToCollect; unrefused = IsNotRefusedWithin }
 engine_of_pair (pair_job.Diff notation) left_name right_name left_seen right_seen =
     record { answers = ComparesPair (text_of_difference notation left_name right_name); needs = λ limit settings log. ⊤; unrefused = IsNotRefusedWithin }
@@ -313,15 +313,15 @@ engine_of_pair pair_job.Report left_name right_name left_seen right_seen =
     record { answers = PagesPair left_name right_name left_seen right_seen; needs = λ limit. HasOwnFrame; unrefused = λ limit settings. HasNoBadPlaceWithin }
 
 -- what it answers, and what it writes
-abbrev pub PairEngineAnswers : PairJob → List ℕ → List ℕ → Glimpse → Glimpse → Bool → ℕ → Settings → List ℕ → List ℕ → Result PairAnswer CompareFault → List ℕ → Type 0
+abbrev pub PairEngineAnswers : PairJob → List ℕ → List ℕ → GlimpseValue → GlimpseValue → Bool → ℕ → Settings → List ℕ → List ℕ → Result PairAnswer CompareFault → List ℕ → Type 0
 PairEngineAnswers job left_name right_name left_seen right_seen = (engine_of_pair job left_name right_name left_seen right_seen).answers
 
 -- for which log it may be refused memory
-abbrev pub PairEngineNeeds : PairJob → List ℕ → List ℕ → Glimpse → Glimpse → ℕ → Settings → List ℕ → Type 0
+abbrev pub PairEngineNeeds : PairJob → List ℕ → List ℕ → GlimpseValue → GlimpseValue → ℕ → Settings → List ℕ → Type 0
 PairEngineNeeds job left_name right_name left_seen right_seen = (engine_of_pair job left_name right_name left_seen right_seen).needs
 
 -- how near to what refuses a log it stops reading
-abbrev pub PairEngineReads : PairJob → List ℕ → List ℕ → Glimpse → Glimpse → ℕ → Settings → List ℕ → ℕ → ℕ → ℕ → Type 0
+abbrev pub PairEngineReads : PairJob → List ℕ → List ℕ → GlimpseValue → GlimpseValue → ℕ → Settings → List ℕ → ℕ → ℕ → ℕ → Type 0
 PairEngineReads job left_name right_name left_seen right_seen limit settings log = ReadsWhile ((engine_of_pair job left_name right_name left_seen right_seen).unrefused limit settings log)
 
 -- ---- the program

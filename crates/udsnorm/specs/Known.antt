@@ -8,7 +8,7 @@ use Rattle.trace_log.specs.declared.fault.Fault.TheVariants.{BadLine, Oversize, 
 use Rattle.trace_log.specs.declared.summary.Summary.{Summary}
 use Rattle.trace_report.specs.Causes.{cause_of}
 use Rattle.trace_report.specs.declared.cause.Cause.{Cause}
-use Rattle.trace_run.specs.Told.{Glimpse}
+use Rattle.trace_run.specs.Told.{GlimpseValue}
 use Rattle.udsnorm.specs.declared.commands.Job.{Job}
 use Rattle.udsnorm.specs.declared.commands.Job.TheVariants as job
 use Rattle.udsnorm.specs.declared.ended.Known.{Known}
@@ -34,7 +34,7 @@ abbrev pub front_of : List ℕ → List ℕ
 front_of given = take 16 given
 
 -- what is seen of a source that gave these bytes and was over or not
-abbrev pub seen_of : List ℕ → Bool → Glimpse
+abbrev pub seen_of : List ℕ → Bool → GlimpseValue
 seen_of given is_over = record { first = front_of given; is_over = is_over }
 
 -- what is known of this log by a fault, whose source gave these bytes and was over or not: the cause

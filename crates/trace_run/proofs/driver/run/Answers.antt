@@ -12,7 +12,7 @@ use Rattle.isotp_receive.specs.Trace.{Entry}
 use Rattle.trace_log.specs.declared.fault.Fault.{Fault}
 use Rattle.trace_log.specs.declared.summary.Summary.{Summary}
 use Rattle.trace_run.specs.proving.Carrying.{EndsTelling, GivesUp}
-use Rattle.trace_run.specs.Told.{Glimpse, Script, StopsNothingWithin, AnswersTold, TellsEagerly, glimpse_of, with_refusal}
+use Rattle.trace_run.specs.Told.{GlimpseValue, Script, StopsNothingWithin, AnswersTold, TellsEagerly, glimpse_of, with_refusal}
 use Rattle.trace_log.specs.Answers.{ReadsWhile}
 use Rattle.trace_log.specs.Feeding.{TakesFront}
 use Rattle.trace_run.proofs.Runs.{TookLines, IsRunStart, starts_run, has_received}
@@ -52,7 +52,7 @@ gives_up : (g : Over) (c : After-give_up g)
     → GivesUp g.M.Machine.stands (λ m. with_refusal (g.M.Machine.script m) (g.M.Machine.refusal m) (glimpse_of g.R.Source c.feed_lines.new.reader)) g.W.Target c.in-Err.fault c.feed_lines.new.taker c.feed_lines.new.device c.give_up.result c.give_up.new.target
 gives_up g c =
     let M = g.M.Machine in
-    subst (λ (source : Glimpse). GivesUp M.stands (λ m. with_refusal (M.script m) (M.refusal m) source) g.W.Target c.in-Err.fault c.feed_lines.new.taker c.feed_lines.new.device c.give_up.result c.give_up.new.target)
+    subst (λ (source : GlimpseValue). GivesUp M.stands (λ m. with_refusal (M.script m) (M.refusal m) source) g.W.Target c.in-Err.fault c.feed_lines.new.taker c.feed_lines.new.device c.give_up.result c.give_up.new.target)
     c.of.ensures c.give_up.ensures
 
 pub returns-in-Err : goal.returns-in-Err
