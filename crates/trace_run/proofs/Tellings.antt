@@ -330,18 +330,18 @@ blank_page target start low = record {
 module _ {M W : Type 0} (stands : M → List Entry → M → Type 0) (scripts : M → Script) (needs : M → List Entry → Entry → Type 0) (target : Ghosts W) where
   -- events were told
   abbrev pub ToldEvents : TookEvents M W
-  ToldEvents s T t = IsTellingStart (stands s.0.machine [] s.0.machine) s.0.judge s.0.page.failed s.0.page.block → target.failures s.1 ≤ 2 ^ 62
-      → Tells (stands s.0.machine) target (scripts s.0.machine) s.1 T t.0.machine t.0.judge t.0.page.failed t.0.page.block t.1
+  ToldEvents s T t = IsTellingStart (stands s.0.machine [] s.0.machine) s.0.judge s.0.page.failed s.0.page.held → target.failures s.1 ≤ 2 ^ 62
+      → Tells (stands s.0.machine) target (scripts s.0.machine) s.1 T t.0.machine t.0.judge t.0.page.failed t.0.page.held t.1
 
   -- and written, or that failed
   abbrev pub SettledEvents : Bool → TookEvents M W
-  SettledEvents failed s T t = IsTellingStart (stands s.0.machine [] s.0.machine) s.0.judge s.0.page.failed s.0.page.block → target.failures s.1 ≤ 2 ^ 62
+  SettledEvents failed s T t = IsTellingStart (stands s.0.machine [] s.0.machine) s.0.judge s.0.page.failed s.0.page.held → target.failures s.1 ≤ 2 ^ 62
       → Tells (stands s.0.machine) target (scripts s.0.machine) s.1 T t.0.machine t.0.judge failed [] t.1
 
   -- the run stopped at an event
   abbrev pub StoppedTelling : StoppedOnEvent M W
-  StoppedTelling s T e why t = IsTellingStart (stands s.0.machine [] s.0.machine) s.0.judge s.0.page.failed s.0.page.block → target.failures s.1 ≤ 2 ^ 62
-      → StopsTelling target (scripts s.0.machine) (needs s.0.machine) s.1 T e why t.0.page.failed t.0.page.block t.1
+  StoppedTelling s T e why t = IsTellingStart (stands s.0.machine [] s.0.machine) s.0.judge s.0.page.failed s.0.page.held → target.failures s.1 ≤ 2 ^ 62
+      → StopsTelling target (scripts s.0.machine) (needs s.0.machine) s.1 T e why t.0.page.failed t.0.page.held t.1
 
   told_nothing : (start : Telling M W × W) → ToldEvents start [] start
   told_nothing start fresh low = record {
@@ -349,17 +349,17 @@ module _ {M W : Type 0} (stands : M → List Entry → M → Type 0) (scripts : 
     machine_stands = fresh.stands;
     within = λ strict. tt;
     carried =
-        subst (λ b. Carries target start.1 [] b start.0.page.block start.1) (sym fresh.well)
+        subst (λ b. Carries target start.1 [] b start.0.page.held start.1) (sym fresh.well)
         (subst (λ h. Carries target start.1 [] false h start.1) (sym fresh.blank) (blank_page target start.1 low));
   }
 
   -- no event was told
   abbrev pub HasToldNothing : Telling M W → Type 0
-  HasToldNothing telling = IsTellingStart (stands telling.machine [] telling.machine) telling.judge telling.page.failed telling.page.block
+  HasToldNothing telling = IsTellingStart (stands telling.machine [] telling.machine) telling.judge telling.page.failed telling.page.held
 
   -- so it is with a machine that stands at its start
   pub told_none : (machine : M) (telling : Telling M W) → telling.machine ≡ machine → stands machine [] machine → IsJudgeOf [] telling.judge → telling.page.failed ≡ false
-      → telling.page.block ≡ [] → HasToldNothing telling
+      → telling.page.held ≡ [] → HasToldNothing telling
   told_none machine telling same at_start removed well blank =
       record { stands = subst (λ m. stands m [] m) (sym same) at_start; judged = removed; well = well; blank = blank }
 
@@ -369,8 +369,8 @@ module _ {M W : Type 0} (stands : M → List Entry → M → Type 0) (scripts : 
 
   -- what was told of events was written
   abbrev pub WroteEvents : TookEvents M W
-  WroteEvents s T t = IsTellingStart (stands s.0.machine [] s.0.machine) s.0.judge s.0.page.failed s.0.page.block → target.failures s.1 ≤ 2 ^ 62
-      → WroteTold target (scripts s.0.machine) s.1 T t.0.page.failed t.0.page.block t.1
+  WroteEvents s T t = IsTellingStart (stands s.0.machine [] s.0.machine) s.0.judge s.0.page.failed s.0.page.held → target.failures s.1 ≤ 2 ^ 62
+      → WroteTold target (scripts s.0.machine) s.1 T t.0.page.failed t.0.page.held t.1
 
   -- and of lines
   abbrev pub WroteLines : Receiver M W × W → List (Option Stamped) → Receiver M W × W → Type 0
@@ -385,7 +385,7 @@ module _ {M W : Type 0} (stands : M → List Entry → M → Type 0) (scripts : 
     said = [];
     wrote = sym (append-nil (target.taken start.1));
     carried =
-        subst (λ b. Carries target start.1 [] b start.0.telling.page.block start.1) (sym fresh.well)
+        subst (λ b. Carries target start.1 [] b start.0.telling.page.held start.1) (sym fresh.well)
         (subst (λ h. Carries target start.1 [] false h start.1) (sym fresh.blank) (blank_page target start.1 low));
   }
 
@@ -402,12 +402,12 @@ module _ {M W : Type 0} (stands : M → List Entry → M → Type 0) (scripts : 
   module _ (settings : Settings) (start now : Receiver M W × W) (begun : IsRunStart HasToldNothing settings start) (low : target.failures start.1 ≤ 2 ^ 62) where
     pub gives : (meanings : List (Option Stamped)) → TookLines ToldEvents start meanings now
         → Tells (stands start.0.telling.machine) target (scripts start.0.telling.machine) start.1 (trace settings meanings) now.0.telling.machine now.0.telling.judge
-        now.0.telling.page.failed now.0.telling.page.block now.1
+        now.0.telling.page.failed now.0.telling.page.held now.1
     gives meanings lines = has_taken ToldEvents settings start now begun meanings lines begun.fresh low
 
     -- what was written before the last piece, and what came after it
     pub eagerly : (log : List ℕ) (given : ℕ) (before : WroteBefore WroteLines start log given now) (new : W)
-        → ((mid : W) (said : List ℕ) → Carries target mid said now.0.telling.page.failed now.0.telling.page.block now.1 → Begins (target.taken mid) (target.taken new))
+        → ((mid : W) (said : List ℕ) → Carries target mid said now.0.telling.page.failed now.0.telling.page.held now.1 → Begins (target.taken mid) (target.taken new))
         → TellsEagerly (scripts start.0.telling.machine) MESSAGE_LIMIT settings log given (target.taken start.1) (target.taken new)
     eagerly log given before new more =
         let wrote = before.written begun.nothing begun.fresh low in
@@ -421,7 +421,7 @@ module _ {M W : Type 0} (stands : M → List Entry → M → Type 0) (scripts : 
     settled failed meanings lines = has_taken (SettledEvents failed) settings start now begun meanings lines begun.fresh low
 
     halts : (meanings : List (Option Stamped)) (what : Option Stamped) (why : Fault) → StoppedOnLine StoppedTelling start meanings what why now
-        → StopsOn settings (λ T e why. StopsTelling target (scripts start.0.telling.machine) (needs start.0.telling.machine) start.1 T e why now.0.telling.page.failed now.0.telling.page.block now.1) meanings what why
+        → StopsOn settings (λ T e why. StopsTelling target (scripts start.0.telling.machine) (needs start.0.telling.machine) start.1 T e why now.0.telling.page.failed now.0.telling.page.held now.1) meanings what why
     halts meanings what why line =
         let stops = has_stopped StoppedTelling settings start now begun meanings what why line in
         (stops.0, stops.1, stops.2, stops.3, stops.4 begun.fresh low)
@@ -434,7 +434,7 @@ module _ {M W : Type 0} (stands : M → List Entry → M → Type 0) (scripts : 
 
       -- how the run ends on a refusal that is told, after these lines
       refuses : (why answer : Fault) (meanings : List (Option Stamped)) → TookLines ToldEvents start meanings now → RefusesTelling stands ending target why now.0 now.1 answer new
-          → SettlesWith (refusal_of_lines (ending start.0.telling.machine) MESSAGE_LIMIT settings why meanings) why target now.0.telling.page.failed now.0.telling.page.block now.1 answer new
+          → SettlesWith (refusal_of_lines (ending start.0.telling.machine) MESSAGE_LIMIT settings why meanings) why target now.0.telling.page.failed now.0.telling.page.held now.1 answer new
       refuses why answer meanings taken up =
           let told_so = gives meanings taken in
           up start.0.telling.machine settings meanings (has_received ToldEvents settings start now begun meanings taken) told_so.judged told_so.machine_stands
@@ -446,7 +446,7 @@ module _ {M W : Type 0} (stands : M → List Entry → M → Type 0) (scripts : 
 
       -- only more is written
       pub more_given_up : (B : Type 0) (why answer : Fault) → FedSome start {A = B} (Err why) now → GivesUp stands ending target why now.0 now.1 answer new
-          → (mid : W) (said : List ℕ) → Carries target mid said now.0.telling.page.failed now.0.telling.page.block now.1 → Begins (target.taken mid) (target.taken new)
+          → (mid : W) (said : List ℕ) → Carries target mid said now.0.telling.page.failed now.0.telling.page.held now.1 → Begins (target.taken mid) (target.taken new)
       more_given_up B (fault.BadLine line column) answer (meanings, taken) up mid said carries =
           more_at_fault (fault.BadLine line column) answer mid _ new (refuses (fault.BadLine line column) answer meanings taken up mid said carries)
       more_given_up B fault.LogLimit answer (meanings, taken) up mid said carries =
@@ -510,7 +510,7 @@ module _ {M W : Type 0} (stands : M → List Entry → M → Type 0) (scripts : 
           -- a line announces too much
           over : (line announced : ℕ) (meanings : List (Option Stamped)) (what : Option Stamped) → (halted : StoppedOnLine StoppedTelling start meanings what (fault.Oversize line announced) now)
               → StopsWithin settings.max_bytes log given meanings what
-              → SettlesAs (fault.Oversize line announced) target now.0.telling.page.failed now.0.telling.page.block now.1 answer new → Answers answer
+              → SettlesAs (fault.Oversize line announced) target now.0.telling.page.failed now.0.telling.page.held now.1 answer new → Answers answer
           over line announced meanings what line_stopped place settles =
               let halted = halts meanings what (fault.Oversize line announced) line_stopped in
               let strict = halted.4.reason.0 in

@@ -17,8 +17,8 @@
 //! nothing.
 #![tactic(auto)]
 
-mod block;
 mod driver;
+mod held_text;
 mod machine;
 mod nowhere;
 mod page;

@@ -1,11 +1,11 @@
 //! The page that text is gathered on, between a machine and the target.
-use crate::block::{Block, gather};
+use crate::held_text::{HeldText, gather};
 use trace_io::{MOST_FAILURES, Target, TextSink, write_all};
 
 /// Text that is still to be written, and whether writing has failed: nothing is written from then on.
 #[derive(Drop)]
 pub(crate) struct Page {
-    pub block: Block,
+    pub held: HeldText,
     pub failed: bool,
 }
 
@@ -16,10 +16,10 @@ impl Page {
     /// A page with nothing on it.
     pub(crate) fn new() -> Page
         ensures well { result.failed ≡ false }
-        ensures blank { result.block ≡ [] }
+        ensures blank { result.held ≡ [] }
     {
         Page {
-            block: Block::new(),
+            held: HeldText::new(),
             failed: false,
         }
     }
@@ -30,7 +30,7 @@ impl Page {
     fn put<W: Target>(&mut self, target: &mut W, text: &[u8])
         ensures { SaysToPage W.Target self.old target.old text.now self.new target.new }
     {
-        if !self.block.take(text) {
+        if !self.held.take(text) {
             self.put_anew(target, text);
         }
     }
@@ -45,7 +45,7 @@ impl Page {
         if self.failed || target.failures() > MOST_FAILURES {
             return;
         }
-        if let Err(_fault) = gather(target, &mut self.block, text) {
+        if let Err(_fault) = gather(target, &mut self.held, text) {
             self.failed = true;
         }
     }
@@ -55,7 +55,7 @@ impl Page {
     fn put_whole<W: Target>(&mut self, target: &mut W, text: &[u8])
         ensures { SaysToPage W.Target self.old target.old text.now self.new target.new }
     {
-        if !self.block.take(text) {
+        if !self.held.take(text) {
             self.put_whole_anew(target, text);
         }
     }
@@ -76,7 +76,7 @@ impl Page {
     fn put_three<W: Target>(&mut self, target: &mut W, first: &[u8], second: &[u8], third: &[u8])
         ensures { SaysToPage W.Target self.old target.old (first.now ++ second.now ++ third.now) self.new target.new }
     {
-        if !self.block.take_three(first, second, third) {
+        if !self.held.take_three(first, second, third) {
             self.put_three_anew(target, first, second, third);
         }
     }
@@ -95,7 +95,7 @@ impl Page {
     {
         // Where this fails, the page knows that, and writes no text.
         let _ = self.settle(target);
-        if self.block.take_three(first, second, third) {
+        if self.held.take_three(first, second, third) {
             return;
         }
         self.put(target, first);
@@ -107,20 +107,20 @@ impl Page {
     pub(crate) fn settle<W: Target>(&mut self, target: &mut W) -> bool
         ensures settled { WritesPage W.Target self.old target.old result target.new }
         ensures well { result ≡ true → self.new.failed ≡ false }
-        ensures blank { result ≡ true → self.new.block ≡ [] }
+        ensures blank { result ≡ true → self.new.held ≡ [] }
         ensures no_more { KeepsPage W.Target self.old target.old self.new target.new }
     {
         if self.failed || target.failures() > MOST_FAILURES {
             return false;
         }
-        if self.block.is_empty() {
+        if self.held.is_empty() {
             return true;
         }
-        if let Err(_fault) = write_all(target, self.block.as_slice()) {
+        if let Err(_fault) = write_all(target, self.held.as_slice()) {
             self.failed = true;
             return false;
         }
-        self.block.clear();
+        self.held.clear();
         true
     }
 }
@@ -141,12 +141,12 @@ impl<'a, W: Target> TextSink for Drain<'a, W> {
     ghost says = { λ s text t. (t.target.ghost_name ≡ s.target.ghost_name) × (t.page.ghost_name ≡ s.page.ghost_name)
         × SaysToPage W.Target s.page.now s.target.now text t.page.now t.target.now };
 
-    ghost nothing = { λ s. (refl, refl, speaks_nothing W.Target s.page.now.failed s.page.now.block s.target.now) };
+    ghost nothing = { λ s. (refl, refl, speaks_nothing W.Target s.page.now.failed s.page.now.held s.target.now) };
 
     ghost onward = { λ s m t a b one two. (
       two.0 ∙ one.0,
       two.1 ∙ one.1,
-      speaks_onward W.Target s.page.now.failed m.page.now.failed t.page.now.failed s.page.now.block m.page.now.block t.page.now.block s.target.now m.target.now t.target.now a b one.2 two.2,
+      speaks_onward W.Target s.page.now.failed m.page.now.failed t.page.now.failed s.page.now.held m.page.now.held t.page.now.held s.target.now m.target.now t.target.now a b one.2 two.2,
     ) };
 
     #[inline(always)]

@@ -50,7 +50,7 @@ impl<M, W> Telling<M, W> {
         ensures machine { result.machine ≡ machine }
         ensures judged { IsJudgeOf [] result.judge }
         ensures well { result.page.failed ≡ false }
-        ensures blank { result.page.block ≡ [] }
+        ensures blank { result.page.held ≡ [] }
     {
         Telling {
             machine,

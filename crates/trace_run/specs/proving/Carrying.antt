@@ -79,17 +79,17 @@ SaysNoMore {W = W} target failed held old failed_now held_now new =
 
 -- the three of a page: a text was said to it; it was written, where that is so; and no more was said to it
 abbrev pub SaysToPage : {W : Type 0} → Ghosts W → Page → W → List ℕ → Page → W → Type 0
-SaysToPage target page old text page_now new = Speaks target page.failed page.block old text page_now.failed page_now.block new
+SaysToPage target page old text page_now new = Speaks target page.failed page.held old text page_now.failed page_now.held new
 
 abbrev pub WritesPage : {W : Type 0} → Ghosts W → Page → W → Bool → W → Type 0
-WritesPage target page old result new = Settles target page.failed page.block old result new
+WritesPage target page old result new = Settles target page.failed page.held old result new
 
 abbrev pub KeepsPage : {W : Type 0} → Ghosts W → Page → W → Page → W → Type 0
-KeepsPage target page old page_now new = SaysNoMore target page.failed page.block old page_now.failed page_now.block new
+KeepsPage target page old page_now new = SaysNoMore target page.failed page.held old page_now.failed page_now.held new
 
 -- since this start, this was said to this page
 abbrev pub CarriesPage : {W : Type 0} → Ghosts W → W → List ℕ → Page → W → Type 0
-CarriesPage target start said page now = Carries target start said page.failed page.block now
+CarriesPage target start said page now = Carries target start said page.failed page.held now
 
 -- A machine stands at its start, no message was judged, and nothing is on the page.
 pub record IsTellingStart (Stands : Type 0) (judge : Judge) (failed : Bool) (held : List ℕ) : Type 0 where
@@ -139,7 +139,7 @@ SettlesAs {W = W} name target failed held old result new =
 
 -- the same of a page
 abbrev pub SettlesPageAs : {W : Type 0} → Fault → Ghosts W → Page → W → Fault → W → Type 0
-SettlesPageAs name target page old result new = SettlesAs name target page.failed page.block old result new
+SettlesPageAs name target page old result new = SettlesAs name target page.failed page.held old result new
 
 -- and with this text behind it
 abbrev pub SettlesWith : {W : Type 0} → List ℕ → Fault → Ghosts W → Bool → List ℕ → W → Fault → W → Type 0
@@ -151,7 +151,7 @@ abbrev pub RefusesTelling : {M W : Type 0} → (M → List Entry → M → Type 
 RefusesTelling {M = M} stands scripts target why receiver old result new =
     (first : M) (settings : Settings) (meanings : List (Option Stamped)) → Receives settings meanings receiver.pair receiver.lines receiver.counts
     → IsJudgeOf (messages MESSAGE_LIMIT (trace settings meanings)) receiver.telling.judge → stands first (trace settings meanings) receiver.telling.machine
-    → SettlesWith (refusal_of_lines (scripts first) MESSAGE_LIMIT settings why meanings) why target receiver.telling.page.failed receiver.telling.page.block old result new
+    → SettlesWith (refusal_of_lines (scripts first) MESSAGE_LIMIT settings why meanings) why target receiver.telling.page.failed receiver.telling.page.held old result new
 
 -- how a run ends on a fault, with what it has taken: that of a device stands as it is, and before others all that is
 -- said is written

@@ -15,7 +15,7 @@ use Rattle.trace_run.specs.proving.Carrying.{IsTellingStart, Tells, StopsTelling
 -- the frames of the trace were told, since this start and by what the machine first was
 abbrev pub HasTold : {M W : Type 0} → (M → List Entry → M → Type 0) → (M → Script) → Ghosts W → W → M → List Entry → Telling M W → W → Type 0
 HasTold stands scripts target start first T telling now =
-    Tells (stands first) target (scripts first) start T telling.machine telling.judge telling.page.failed telling.page.block now
+    Tells (stands first) target (scripts first) start T telling.machine telling.judge telling.page.failed telling.page.held now
 
 -- and all that was told is written; or writing failed
 abbrev pub HasWritten : {M W : Type 0} → (M → List Entry → M → Type 0) → (M → Script) → Ghosts W → W → M → List Entry → Telling M W → Bool → W → Type 0
@@ -24,16 +24,16 @@ HasWritten stands scripts target start first T telling failed now =
 
 -- since this start at least what is told of this trace was written
 abbrev pub HasWrittenAtLeast : {M W : Type 0} → (M → Script) → Ghosts W → W → M → List Entry → Telling M W → W → Type 0
-HasWrittenAtLeast scripts target start first T telling now = WroteTold target (scripts first) start T telling.page.failed telling.page.block now
+HasWrittenAtLeast scripts target start first T telling now = WroteTold target (scripts first) start T telling.page.failed telling.page.held now
 
 -- the run stopped at the frame e, of which nothing was said
 abbrev pub HasStopped : {M W : Type 0} → (M → Script) → (M → List Entry → Entry → Type 0) → Ghosts W → W → M → List Entry → Entry → Fault → Telling M W → W → Type 0
 HasStopped scripts needs target start first T e fault telling now =
-    StopsTelling target (scripts first) (needs first) start T e fault telling.page.failed telling.page.block now
+    StopsTelling target (scripts first) (needs first) start T e fault telling.page.failed telling.page.held now
 
 -- nothing was told: the machine stands at its start, no message is judged and the page is blank
 abbrev pub HasToldNothing : {M W : Type 0} → (M → List Entry → M → Type 0) → Telling M W → Type 0
-HasToldNothing stands telling = IsTellingStart (stands telling.machine [] telling.machine) telling.judge telling.page.failed telling.page.block
+HasToldNothing stands telling = IsTellingStart (stands telling.machine [] telling.machine) telling.judge telling.page.failed telling.page.held
 
 -- this is what the frame e did after the frames T
 abbrev pub IsFrameEvent : List Entry → Entry → FrameEvent → Type 0

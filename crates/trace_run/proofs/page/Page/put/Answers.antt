@@ -3,4 +3,4 @@ use Rattle.trace_run.proofs.page.Page.put.Goals as goal
 
 pub returns-else-not-take : goal.returns-else-not-take
 returns-else-not-take g c = λ start said carries.
-    held_more g.W.Target start c.args.target.now said c.args.text.now c.args.self.now.block c.take.new.self c.args.self.now.failed (c.take.ensures.took c.if-not-take.false) carries
+    held_more g.W.Target start c.args.target.now said c.args.text.now c.args.self.now.held c.take.new.self c.args.self.now.failed (c.take.ensures.took c.if-not-take.false) carries

@@ -11,8 +11,8 @@ returns-in-Err g c = λ start said carries.
     let page = c.args.self.now in
     let failed = c.in-Err.ensures in
     let some_text : 0 < length c.args.text.now = c.requires in
-    let so_far : Carries W start said false page.block c.args.target.now =
-    subst (λ b. Carries W start said b page.block c.args.target.now) c.if-self.false carries in
+    let so_far : Carries W start said false page.held c.args.target.now =
+    subst (λ b. Carries W start said b page.held c.args.target.now) c.if-self.false carries in
     record {
       low = so_far.low;
       held_some = λ some. omega (arith, some_text, length-append said c.args.text.now);
@@ -22,7 +22,7 @@ returns-in-Err g c = λ start said carries.
       no_empty_write = failed.no_empty_write ∙ so_far.no_empty_write;
       flushes = failed.flushes ∙ so_far.flushes;
       took = took_more so_far.took failed.took;
-      written = front_behind (W.taken start) said c.args.text.now (W.taken c.args.target.now) page.block (W.taken c.gather.new.writer) so_far.written failed.taken;
+      written = front_behind (W.taken start) said c.args.text.now (W.taken c.args.target.now) page.held (W.taken c.gather.new.writer) so_far.written failed.taken;
     }
 
 pub returns-in_default : goal.returns-in_default
@@ -31,9 +31,9 @@ returns-in_default g c = λ start said carries.
     let page = c.args.self.now in
     let put = c.in_default.ensures in
     let some_text : 0 < length c.args.text.now = c.requires in
-    let so_far : Carries W start said false page.block c.args.target.now =
-    subst (λ b. Carries W start said b page.block c.args.target.now) c.if-self.false carries in
-    subst (λ b. Carries W start (said ++ c.args.text.now) b c.gather.new.block c.gather.new.writer) (sym c.if-self.false) (record {
+    let so_far : Carries W start said false page.held c.args.target.now =
+    subst (λ b. Carries W start said b page.held c.args.target.now) c.if-self.false carries in
+    subst (λ b. Carries W start (said ++ c.args.text.now) b c.gather.new.held c.gather.new.writer) (sym c.if-self.false) (record {
       low = so_far.low;
       held_some = λ some. omega (arith, some_text, length-append said c.args.text.now);
       spoke = λ is. absurd (cc is);
@@ -42,7 +42,7 @@ returns-in_default g c = λ start said carries.
       no_empty_write = put.no_empty_write ∙ so_far.no_empty_write;
       flushes = put.flushes ∙ so_far.flushes;
       took = took_more so_far.took put.took;
-      written = written_behind (W.taken start) said c.args.text.now (W.taken c.args.target.now) page.block (W.taken c.gather.new.writer) c.gather.new.block so_far.written put.taken;
+      written = written_behind (W.taken start) said c.args.text.now (W.taken c.args.target.now) page.held (W.taken c.gather.new.writer) c.gather.new.held so_far.written put.taken;
     })
 
 pub returns-then-self : goal.returns-then-self
@@ -51,9 +51,9 @@ returns-then-self g c = λ start said carries.
     let page = c.args.self.now in
     elim c.then-self.branch [
       | then-self-via-then-self w ↦
-          let so_far : Carries W start said true page.block c.args.target.now =
-          subst (λ b. Carries W start said b page.block c.args.target.now) w.if-self.true carries in
-          subst (λ b. Carries W start (said ++ c.args.text.now) b page.block c.args.target.now) (sym w.if-self.true) (record {
+          let so_far : Carries W start said true page.held c.args.target.now =
+          subst (λ b. Carries W start said b page.held c.args.target.now) w.if-self.true carries in
+          subst (λ b. Carries W start (said ++ c.args.text.now) b page.held c.args.target.now) (sym w.if-self.true) (record {
             low = so_far.low;
             held_some = λ some. omega (arith, so_far.held_some some, length-append said c.args.text.now);
             spoke = λ is. omega (arith, so_far.spoke refl, length-append said c.args.text.now);
@@ -65,7 +65,7 @@ returns-then-self g c = λ start said carries.
             written = front_longer (W.taken start) said c.args.text.now (W.taken c.args.target.now) so_far.written;
           })
       | then-self-via-else-self+then-failures-gt-MOST_FAILURES w ↦
-          let so_far : Carries W start said false page.block c.args.target.now =
-          subst (λ b. Carries W start said b page.block c.args.target.now) w.if-self.false carries in
+          let so_far : Carries W start said false page.held c.args.target.now =
+          subst (λ b. Carries W start said b page.held c.args.target.now) w.if-self.false carries in
           absurd (omega (arith, so_far.low, so_far.failures, w.failures.ensures, w.if-failures-gt-MOST_FAILURES.true))
     ]

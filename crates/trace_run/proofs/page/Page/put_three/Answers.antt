@@ -4,5 +4,5 @@ use Rattle.trace_run.proofs.page.Page.put_three.Goals as goal
 
 pub returns-else-not-take_three : goal.returns-else-not-take_three
 returns-else-not-take_three g c = λ start said carries.
-    held_more g.W.Target start c.args.target.now said (c.args.first.now ++ c.args.second.now ++ c.args.third.now) c.args.self.now.block c.take_three.new.self
+    held_more g.W.Target start c.args.target.now said (c.args.first.now ++ c.args.second.now ++ c.args.third.now) c.args.self.now.held c.take_three.new.self
     c.args.self.now.failed (c.take_three.ensures.took c.if-not-take_three.false) carries

@@ -7,7 +7,7 @@ use Rattle.trace_run.proofs.page.Page.put_three_anew.Goals as goal
 pub returns-then-take_three : goal.returns-then-take_three
 returns-then-take_three g c = λ start said carries.
     let settled = c.settle.new in
-    held_more g.W.Target start settled.target said (c.args.first.now ++ c.args.second.now ++ c.args.third.now) settled.self.block c.take_three.new.self
+    held_more g.W.Target start settled.target said (c.args.first.now ++ c.args.second.now ++ c.args.third.now) settled.self.held c.take_three.new.self
     settled.self.failed (c.take_three.ensures.took c.if-take_three.true) (c.settle.ensures.no_more start said carries)
 
 pub returns : goal.returns
@@ -21,7 +21,7 @@ returns g c = λ start said carries.
     let so_far : Carries W start said settled.self.failed c.take_three.new.self settled.target =
     subst (λ held. Carries W start said settled.self.failed held settled.target) (sym same) (c.settle.ensures.no_more start said carries) in
     let both =
-    speaks_onward W settled.self.failed one.self.failed two.self.failed c.take_three.new.self one.self.block two.self.block settled.target one.target two.target
+    speaks_onward W settled.self.failed one.self.failed two.self.failed c.take_three.new.self one.self.held two.self.held settled.target one.target two.target
     c.args.first.now c.args.second.now c.put.ensures c.put-2.ensures in
-    speaks_onward W settled.self.failed two.self.failed three.self.failed c.take_three.new.self two.self.block three.self.block settled.target two.target three.target
+    speaks_onward W settled.self.failed two.self.failed three.self.failed c.take_three.new.self two.self.held three.self.held settled.target two.target three.target
     (c.args.first.now ++ c.args.second.now) c.args.third.now both c.put-3.ensures start said so_far

@@ -12,7 +12,7 @@ returns-clause-well g c = λ is start first T tells.
     let self = c.args.self.now in
     let now : Tells (M.stands first) g.W.Target (M.script first) start T self.machine self.judge false [] c.settle.new.target =
     subst (λ b. Tells (M.stands first) g.W.Target (M.script first) start T self.machine self.judge (not b) [] c.settle.new.target) is
-    (settled_as (M.stands first) g.W.Target (M.script first) start T self.machine self.judge self.page.failed self.page.block _ _ c.settle.result
+    (settled_as (M.stands first) g.W.Target (M.script first) start T self.machine self.judge self.page.failed self.page.held _ _ c.settle.result
     tells c.settle.ensures.settled) in
     (now, same_page (M.stands first) g.W.Target (M.script first) start T self.machine self.judge _ _ c.settle.new.target now (c.settle.ensures.well is) (c.settle.ensures.blank is))
 
@@ -21,7 +21,7 @@ returns-clause-wrong g c = λ is start first T tells.
     let M = g.M.Machine in
     let self = c.args.self.now in
     subst (λ b. Tells (M.stands first) g.W.Target (M.script first) start T self.machine self.judge (not b) [] c.settle.new.target) is
-    (settled_as (M.stands first) g.W.Target (M.script first) start T self.machine self.judge self.page.failed self.page.block _ _ c.settle.result
+    (settled_as (M.stands first) g.W.Target (M.script first) start T self.machine self.judge self.page.failed self.page.held _ _ c.settle.result
     tells c.settle.ensures.settled)
 
 pub returns-clause-sure : goal.returns-clause-sure
@@ -37,7 +37,7 @@ returns-clause-sure g c = λ is start first T tells.
       said = [];
       wrote = wrote_all W start c.settle.new.target text written;
       carried =
-          subst (λ b. Carries W c.settle.new.target [] b c.settle.new.self.block c.settle.new.target) (sym (c.settle.ensures.well is))
+          subst (λ b. Carries W c.settle.new.target [] b c.settle.new.self.held c.settle.new.target) (sym (c.settle.ensures.well is))
           (subst (λ h. Carries W c.settle.new.target [] false h c.settle.new.target) (sym (c.settle.ensures.blank is)) (blank_page W c.settle.new.target (omega (arith, written.failures))));
     }
 

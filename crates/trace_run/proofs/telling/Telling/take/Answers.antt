@@ -20,7 +20,7 @@ returns-in-Some-clause-told g c = λ T e seen.
           let why = stopped_for script.strict T e (seen_event c.args.frame.event) c.in-Some.announced seen.did
           (subst (λ b. stops_for b (seen_event c.args.frame.event).verdict ≡ Some c.in-Some.announced) strict (sym c.refusal.ensures ∙ c.in-Some.is)) in
           stops_before (M.stands first) g.W.Target script (M.needs first) start T e c.args.self.now.machine c.args.self.now.judge
-          c.args.self.now.page.failed c.args.self.now.page.block c.args.target.now (Oversize c.args.frame.line c.in-Some.announced) tells (why.0, sym seen.line, why.1);
+          c.args.self.now.page.failed c.args.self.now.page.held c.args.target.now (Oversize c.args.frame.line c.in-Some.announced) tells (why.0, sym seen.line, why.1);
       kept = λ start first earlier tells sure. sure;
     }
 

@@ -2,7 +2,7 @@ use Rattle.std.proofs.Common.{◌≡◌, ◌≤◌, ◌-◌, ◌+◌, ℕ, List,
 use Rattle.std.proofs.lemmas.List.{take_all, take-take, take-append-drop}
 use Rattle.std.proofs.lemmas.Simd.{length-chunk, length-put_chunk, take_more_put_chunk}
 use lib.Lanes.{chunk, put_chunk}
-use Rattle.trace_run.proofs.block.copy.Goals as goal
+use Rattle.trace_run.proofs.held_text.copy.Goals as goal
 
 -- the first bytes and the last ones, as many of each, make all where they meet
 ends_met : (width : ℕ) (from to : List ℕ) → length from ≡ length to → width ≤ length from → length from ≤ width + width

@@ -2,7 +2,7 @@ use Rattle.std.proofs.Common.{◌+◌, length, take, arith, refl, ap, ◌∙◌}
 use Rattle.std.proofs.lemmas.List.{take_all}
 use Rattle.std.proofs.lemmas.Simd.{take_more_put_chunk}
 use lib.Lanes.{put_chunk}
-use Rattle.trace_run.proofs.block.lay.Goals as goal
+use Rattle.trace_run.proofs.held_text.lay.Goals as goal
 
 pub returns-then-text-eq16-clause-laid : goal.returns-then-text-eq16-clause-laid
 returns-then-text-eq16-clause-laid c =

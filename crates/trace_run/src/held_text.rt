@@ -1,4 +1,4 @@
-//! Text gathered in a fixed buffer, so that it is written in few pieces.
+//! The text that a page holds, gathered so that it is written in few pieces.
 ghost use Rattle.std.specs.Prelude.{◌≡◌, ◌+◌, ◌^◌, ◌<◌, ◌≤◌, [], ◌++◌, length, take, true, false, MatchResult};
 ghost use Rattle.trace_io.specs.Stream.{Took};
 ghost use Rattle.trace_run.specs.proving.Gathering.{HasGathered};
@@ -8,34 +8,34 @@ use std::marker::Model;
 use std::simd::{u8x4, u8x8, u8x16};
 use trace_io::{DeviceFault, Target, write_all};
 
-/// The most bytes that are gathered for one write: 64 canonical lines of the longest kind.
-const BLOCK: usize = 64 * LONGEST_LINE;
+/// The most bytes that a page holds: 64 canonical lines of the longest kind.
+const PAGE_LENGTH: usize = 64 * LONGEST_LINE;
 
 /// Text that is gathered for one write. What stands behind it is left over from an earlier one: nothing is cleared.
 #[derive(Drop)]
-pub(crate) struct Block {
-    bytes: [u8; BLOCK],
+pub(crate) struct HeldText {
+    bytes: [u8; PAGE_LENGTH],
     len: usize,
 }
 
-impl Model for Block {
+impl Model for HeldText {
     ghost use Rattle.std.specs.Prelude.{◌≡◌, ℕ, ◌≤◌, List, length, take};
-    ghost use Rattle.trace_run.specs.declared.block.TheConstants.{BLOCK};
+    ghost use Rattle.trace_run.specs.declared.held_text.TheConstants.{PAGE_LENGTH};
 
     ghost Value = { List ℕ };
 
-    ghost view = { λ block. take block.len block.bytes };
+    ghost view = { λ held. take held.len held.bytes };
 
-    ghost invariant = { λ block. (block.len ≤ BLOCK) × (length block.bytes ≡ BLOCK) };
+    ghost invariant = { λ held. (held.len ≤ PAGE_LENGTH) × (length held.bytes ≡ PAGE_LENGTH) };
 }
 
-impl Block {
-    /// A block of no text.
-    pub(crate) fn new() -> Block
+impl HeldText {
+    /// No text.
+    pub(crate) fn new() -> HeldText
         ensures { result ≡ [] }
     {
-        Block {
-            bytes: [0; BLOCK],
+        HeldText {
+            bytes: [0; PAGE_LENGTH],
             len: 0,
         }
     }
@@ -68,9 +68,9 @@ impl Block {
     /// How many bytes more it has room for.
     #[inline(always)]
     fn room(&self) -> usize
-        ensures { result + length self.now ≡ BLOCK }
+        ensures { result + length self.now ≡ PAGE_LENGTH }
     {
-        BLOCK - self.len
+        PAGE_LENGTH - self.len
     }
 
     /// Appends the bytes where there is room for them. Answers whether there was.
@@ -79,7 +79,7 @@ impl Block {
         ensures took { result ≡ true → self.new ≡ self.old ++ bytes.now }
         ensures full { result ≡ false → (self.new ≡ self.old) × (0 < length bytes.now) }
     {
-        if self.len + bytes.len() > BLOCK {
+        if self.len + bytes.len() > PAGE_LENGTH {
             return false;
         }
         self.append(bytes);
@@ -110,7 +110,7 @@ impl Block {
     /// Appends bytes that there is room for.
     #[inline(always)]
     fn append(&mut self, bytes: &[u8])
-        requires { length self.old + length bytes.now ≤ BLOCK }
+        requires { length self.old + length bytes.now ≤ PAGE_LENGTH }
         ensures { self.new ≡ self.old ++ bytes.now }
     {
         let end = self.len + bytes.len();
@@ -119,11 +119,11 @@ impl Block {
     }
 }
 
-/// Fills the block, which has no room for the text, with the front of it, writes it, and begins it anew with what is left. A
-/// text that no block has room for is written at once, behind what the block holds.
+/// Fills a page, which has no room for the text, with the front of it, writes that, and begins the next one with what is
+/// left. A text that no page has room for is written at once, behind what the page holds.
 pub(crate) fn gather<W: Target>(
     writer: &mut W,
-    block: &mut Block,
+    held: &mut HeldText,
     text: &[u8],
 ) -> Result<(), DeviceFault>
     requires { W.failures writer.old ≤ 2 ^ 62 }
@@ -132,18 +132,18 @@ pub(crate) fn gather<W: Target>(
     ensures no_empty_write { W.had_empty_write writer.new ≡ W.had_empty_write writer.old }
     ensures flushes { W.flushes writer.new ≡ W.flushes writer.old }
     ensures took { Took (W.taken writer.old) (W.taken writer.new) (W.contents writer.old) (W.contents writer.new) }
-    ensures taken { HasGathered result (W.taken writer.old) (block.old ++ text.now) (W.taken writer.new) block.new }
+    ensures taken { HasGathered result (W.taken writer.old) (held.old ++ text.now) (W.taken writer.new) held.new }
 {
-    if text.len() > BLOCK {
-        write_all(writer, block.as_slice())?;
-        block.clear();
+    if text.len() > PAGE_LENGTH {
+        write_all(writer, held.as_slice())?;
+        held.clear();
         return write_all(writer, text);
     }
-    let (front, rest) = text.split_at(text.len().min(block.room()));
-    block.append(front);
-    write_all(writer, block.as_slice())?;
-    block.clear();
-    block.append(rest);
+    let (front, rest) = text.split_at(text.len().min(held.room()));
+    held.append(front);
+    write_all(writer, held.as_slice())?;
+    held.clear();
+    held.append(rest);
     Ok(())
 }
 
