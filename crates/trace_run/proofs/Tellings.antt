@@ -20,7 +20,7 @@ use Rattle.trace_run.specs.declared.receiver.Receiver.{Receiver}
 use Rattle.trace_run.specs.declared.machine.Stop.{Stop}
 use Rattle.trace_run.specs.declared.machine.Stop.TheVariants as end_stop
 use Rattle.trace_log.specs.declared.summary.Summary.{Summary}
-use Rattle.trace_run.specs.proving.Carrying.{StopsFor, stops_for, Carries, Speaks, Settles, IsTellingStart, Tells, StopsTelling, EndsSaying, EndsTelling, EndsAs, SettlesAs, SettlesWith, RefusesTelling, GivesUp, WroteTold}
+use Rattle.trace_run.specs.proving.Carrying.{StopsFor, stops_for, Carries, Says, Settles, IsTellingStart, Tells, StopsTelling, EndsSaying, EndsTelling, EndsAs, SettlesAs, SettlesWith, RefusesTelling, GivesUp, WroteTold}
 use Rattle.trace_log.specs.Feeding.{FeedsLog, FeedsSome, CountsRead, WroteBefore, Took, TakesFront, StopsWithin}
 use Rattle.uds_exchange.specs.Judging.{IsJudgeOf}
 use Rattle.trace_log.specs.Failing.{FailedIf}
@@ -132,7 +132,7 @@ module _ {M W : Type 0} (stands : List Entry → M → Type 0) (target : Ghosts 
       → (machine machine_now : M) (judge judge_now : Judge) (failed failed_now : Bool) (held held_now : List ℕ) (old new : W)
       → Tells stands target script start T machine judge failed held old
       → IsJudgeOf (messages MESSAGE_LIMIT T ++ told_message d event.verdict) judge_now → stands (T ++ e ∷ []) machine_now → (script.strict ≡ true → AnnouncesWithin e)
-      → Speaks target failed held old (script.word T e) failed_now held_now new
+      → Says target failed held old (script.word T e) failed_now held_now new
       → Tells stands target script start (T ++ e ∷ []) machine_now judge_now failed_now held_now new
   tells_next line d event dir_is is machine machine_now judge judge_now failed failed_now held held_now old new so_far counts machine_stands one speaks = record {
     judged = counts_next T e line d event judge_now dir_is is counts;
@@ -143,7 +143,7 @@ module _ {M W : Type 0} (stands : List Entry → M → Type 0) (target : Ghosts 
 
   -- nothing of it was said, and the run stopped
   pub stops_at : (machine : M) (judge : Judge) (failed failed_now : Bool) (held held_now : List ℕ) (old new : W)
-      → Tells stands target script start T machine judge failed held old → (script.strict ≡ true → AnnouncesWithin e) → needs T e → Speaks target failed held old [] failed_now held_now new
+      → Tells stands target script start T machine judge failed held old → (script.strict ≡ true → AnnouncesWithin e) → needs T e → Says target failed held old [] failed_now held_now new
       → StopsTelling target script needs start T e fault.Memory failed_now held_now new
   stops_at machine judge failed failed_now held held_now old new so_far one needed speaks = record {
     within = so_far.within;
@@ -798,7 +798,7 @@ module _ {M W : Type 0} (stands : List Entry → M → Type 0) (target : Ghosts 
   -- and settled so
   pub carried_at_the_end : (machine : M) (judge : Judge) (failed failed_then : Bool) (held held_then : List ℕ) (old mid new : W) (settled : Bool) (summary : Summary)
       → Tells stands target script start (trace settings meanings) machine judge failed held old → summary ≡ summary_of MESSAGE_LIMIT settings log meanings
-      → Speaks target failed held old (script.last (trace settings meanings) summary) failed_then held_then mid → Settles target failed_then held_then mid settled new
+      → Says target failed held old (script.last (trace settings meanings) summary) failed_then held_then mid → Settles target failed_then held_then mid settled new
       → Carries target start (whole_of_lines script MESSAGE_LIMIT settings log meanings) (not settled) [] new
   carried_at_the_end machine judge failed failed_then held held_then old mid new settled summary so_far is speaks settles =
       let T = trace settings meanings in

@@ -2,4 +2,4 @@
 pub mod Gathering
 pub mod Carrying
 pub mod Telling
-pub mod Drains
+pub mod PageSinks

@@ -75,7 +75,7 @@ impl HeldText {
 
     /// Appends the bytes where there is room for them. Answers whether there was.
     #[inline(always)]
-    pub(crate) fn take(&mut self, bytes: &[u8]) -> bool
+    pub(crate) fn try_append(&mut self, bytes: &[u8]) -> bool
         ensures took { result ≡ true → self.new ≡ self.old ++ bytes.now }
         ensures full { result ≡ false → (self.new ≡ self.old) × (0 < length bytes.now) }
     {
@@ -86,10 +86,10 @@ impl HeldText {
         true
     }
 
-    /// Appends three texts, one after another, where there is room for them all. Answers whether there was. Where their lengths
-    /// are known when it is compiled, each is copied without a call.
+    /// Appends three texts, one after another, where there is room for them all. Answers whether there was. Where their
+    /// lengths are known when it is compiled, each is copied without a call.
     #[inline(always)]
-    pub(crate) fn take_three(&mut self, first: &[u8], second: &[u8], third: &[u8]) -> bool
+    pub(crate) fn try_append_three(&mut self, first: &[u8], second: &[u8], third: &[u8]) -> bool
         ensures took { result ≡ true → self.new ≡ self.old ++ (first.now ++ second.now ++ third.now) }
         ensures full { result ≡ false → self.new ≡ self.old }
     {

@@ -87,7 +87,7 @@ impl<M: Machine, W: Target> LineTaker for Receiver<M, W> {
     }
 
     fn rest(&mut self, device: &mut W) -> bool {
-        self.telling.rest(device)
+        self.telling.settle(device)
     }
 
     fn take(&mut self, device: &mut W, line: u64, what: &Option<Stamped>) -> Result<(), Fault> {
@@ -145,9 +145,8 @@ impl<M: Machine, W: Target> Receiver<M, W> {
     }
 }
 
-/// Has what a frame did counted and told. Most frames complete a message or are stored for one. They go ways of their own: there
-/// the verdict is known when it is compiled, so that no reason is stored in pieces and loaded at once, where store-to-load
-/// forwarding fails.
+/// Has what a frame did counted and told. Most frames complete a message or are stored for one. They go ways of their own:
+/// there the verdict is known when it is compiled, so that no reason is stored in pieces, for a covering load.
 #[inline(always)]
 fn hand_on<M: Machine, W: Target>(
     counts: &mut Summary,

@@ -13,7 +13,7 @@ ghost use Rattle.trace_run.specs.Seen.{IsSeen, glimpse_value};
 ghost use Rattle.trace_run.specs.proving.Carrying.{SaysToPage, stops_for};
 
 use crate::machine::{Glimpse, Machine, Seen, Stop};
-use crate::page::{Drain, Page};
+use crate::page::{Page, PageSink};
 use direction::Dir;
 use isotp_receive::{Event, Pair, Reason, Verdict};
 use std::alloc::AllocError;
@@ -37,7 +37,7 @@ pub(crate) struct Telling<M, W> {
     pub machine: M,
     pub judge: Judge,
     pub page: Page,
-    /// It has no target: each call is handed the same one.
+    /// It names the type of the target, which is `LineTaker::Device` of a receiver: each call is handed the target itself.
     pub target: PhantomData<W>,
 }
 
@@ -68,7 +68,7 @@ impl<M: Machine, W: Target> Telling<M, W> {
     ghost use Rattle.trace_log.specs.Feeding.{IsOfTaker};
 
     /// Writes what is due, before more is read. Answers whether it could.
-    pub(crate) fn rest(&mut self, target: &mut W) -> bool
+    pub(crate) fn settle(&mut self, target: &mut W) -> bool
         ensures well { result ≡ true → (start : W) (first : M) (T : List Entry)
             → HasTold M.stands M.script W.Target start first T self.old target.old
             → HasWritten M.stands M.script W.Target start first T self.new false target.new × HasTold M.stands M.script W.Target start first T self.new target.new }
@@ -114,7 +114,7 @@ impl<M: Machine, W: Target> Telling<M, W> {
     }
 }
 
-/// The message that a frame of this direction completed, judged. Laid in line, since most frames complete none.
+/// The message that a frame of this direction completed, judged. Inlined, since most frames complete none.
 #[inline(always)]
 fn judged_message<'a>(judge: &mut Judge, dir: Dir, verdict: Verdict<'a>) -> Option<Judged<'a>>
     ensures next { (M : List Message) → length M < 2 ^ 62 → IsJudgeOf M judge.old
@@ -172,7 +172,7 @@ fn tell<M: Machine, W: Target>(
         → SaysToPage W.Target page.old target.old [] page.new target.new) }
     ensures needs { OnErr result ((start : M) (T : List Entry) (e : Entry) → IsSeen T e seen.entry → M.stands start T machine.old → M.needs start T e) }
 {
-    let mut out = Drain { target, page };
+    let mut out = PageSink { target, page };
     machine.event(seen, &mut out)
 }
 
@@ -190,7 +190,7 @@ pub(crate) fn tell_end<M: Machine, W: Target>(
     ensures answered { (start : M) (T : List Entry) → M.stands start T machine → pair.now.receptions ≡ receptions_after MESSAGE_LIMIT T
         → M.answers start T summary.now result }
 {
-    let mut out = Drain { target, page };
+    let mut out = PageSink { target, page };
     machine.end(pair, summary, &mut out)
 }
 
@@ -206,6 +206,6 @@ pub(crate) fn tell_refusal<M: Machine, W: Target>(
     ensures says { (start : M) (T : List Entry) → M.stands start T machine
         → SaysToPage W.Target page.old target.old (M.refusal start T summary.now why (glimpse_value source.entry)) page.new target.new }
 {
-    let mut out = Drain { target, page };
+    let mut out = PageSink { target, page };
     machine.refused(summary, why, source, &mut out);
 }

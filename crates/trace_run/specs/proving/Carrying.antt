@@ -51,8 +51,8 @@ pub record Carries {W : Type 0} (target : Ghosts W) (start : W) (said : List ℕ
   pub written : HasCarried failed (target.taken start) said held (target.taken now)
 
 -- whatever was said before, this text was said after it
-abbrev pub Speaks : {W : Type 0} → Ghosts W → Bool → List ℕ → W → List ℕ → Bool → List ℕ → W → Type 0
-Speaks {W = W} target failed held old text failed_now held_now new =
+abbrev pub Says : {W : Type 0} → Ghosts W → Bool → List ℕ → W → List ℕ → Bool → List ℕ → W → Type 0
+Says {W = W} target failed held old text failed_now held_now new =
     (start : W) (said : List ℕ) → Carries target start said failed held old → Carries target start (said ++ text) failed_now held_now new
 
 -- whatever was said before, it is written now, where that is so
@@ -79,13 +79,13 @@ SaysNoMore {W = W} target failed held old failed_now held_now new =
 
 -- the three of a page: a text was said to it; it was written, where that is so; and no more was said to it
 abbrev pub SaysToPage : {W : Type 0} → Ghosts W → Page → W → List ℕ → Page → W → Type 0
-SaysToPage target page old text page_now new = Speaks target page.failed page.held old text page_now.failed page_now.held new
+SaysToPage target page old text page_now new = Says target page.failed page.held old text page_now.failed page_now.held new
 
-abbrev pub WritesPage : {W : Type 0} → Ghosts W → Page → W → Bool → W → Type 0
-WritesPage target page old result new = Settles target page.failed page.held old result new
+abbrev pub SettlesPage : {W : Type 0} → Ghosts W → Page → W → Bool → W → Type 0
+SettlesPage target page old result new = Settles target page.failed page.held old result new
 
-abbrev pub KeepsPage : {W : Type 0} → Ghosts W → Page → W → Page → W → Type 0
-KeepsPage target page old page_now new = SaysNoMore target page.failed page.held old page_now.failed page_now.held new
+abbrev pub SaysNoMoreToPage : {W : Type 0} → Ghosts W → Page → W → Page → W → Type 0
+SaysNoMoreToPage target page old page_now new = SaysNoMore target page.failed page.held old page_now.failed page_now.held new
 
 -- since this start, this was said to this page
 abbrev pub CarriesPage : {W : Type 0} → Ghosts W → W → List ℕ → Page → W → Type 0

@@ -4,7 +4,7 @@ use Rattle.trace_run.specs.proving.Carrying.{Tells, Carries}
 use Rattle.trace_run.specs.Told.{told}
 use Rattle.trace_run.proofs.Carryings.{wrote_all}
 use Rattle.trace_run.proofs.Tellings.{settled_as, same_page, blank_page}
-use Rattle.trace_run.proofs.telling.Telling.rest.Goals as goal
+use Rattle.trace_run.proofs.telling.Telling.settle.Goals as goal
 
 pub returns-clause-well : goal.returns-clause-well
 returns-clause-well g c = λ is start first T tells.

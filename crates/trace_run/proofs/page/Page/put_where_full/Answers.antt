@@ -2,8 +2,8 @@ use Rattle.std.proofs.Common.{◌<◌, arith, length, length-append, refl, ◌+�
 use Rattle.trace_io.proofs.Promises.{took_more}
 use Rattle.trace_run.specs.proving.Carrying.{Carries}
 use Rattle.trace_run.proofs.WrittenFronts.{front_behind, front_longer, written_behind}
-use Rattle.trace_run.proofs.page.Page.put_anew.Goals.{then-self-via-then-self, then-self-via-else-self+then-failures-gt-MOST_FAILURES}
-use Rattle.trace_run.proofs.page.Page.put_anew.Goals as goal
+use Rattle.trace_run.proofs.page.Page.put_where_full.Goals.{then-self-via-then-self, then-self-via-else-self+then-failures-gt-MOST_FAILURES}
+use Rattle.trace_run.proofs.page.Page.put_where_full.Goals as goal
 
 pub returns-in-Err : goal.returns-in-Err
 returns-in-Err g c = λ start said carries.
