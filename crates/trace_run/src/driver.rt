@@ -7,7 +7,7 @@ ghost use Rattle.trace_run.specs.proving.Carrying.{Begins, CarriesPage, SettlesP
 ghost use Rattle.trace_run.specs.proving.Telling.{HasTold};
 ghost use Rattle.trace_log.specs.proving.Receiving.{Receives};
 ghost use Rattle.trace_log.specs.Settings.{Settings};
-ghost use Rattle.trace_log.specs.Summing.{ends_in_line_feed};
+ghost use Rattle.trace_log.specs.Summing as Spec;
 ghost use Rattle.trace_run.specs.Seen.{glimpse_value};
 ghost use Rattle.trace_run.specs.Told.{Ran, RanLenient, command, glimpse_of, with_refusal};
 ghost use Rattle.trace_log.specs.Trace.{trace};
@@ -39,13 +39,14 @@ pub fn run<M: Machine + Drop, R: Source, W: Target>(
     requires reader { HasLowCounts R.Source reader.old }
     requires writer { IsLowCount (W.failures writer.old) }
     ensures ran { Ran R.Source W.Target
-        (command (with_refusal (M.script machine) (M.refusal machine) (glimpse_of R.Source reader.new)) (M.answers machine) (M.needs machine))
+        (command (with_refusal (M.script machine) (M.refusal machine) (glimpse_of R.Source reader.new))
+        (M.answers machine) (M.needs machine))
         config.now reader.old writer.old result reader.new writer.new }
 {
     let pair = Pair::new(alloc);
     let mut receiver = Receiver::start(config, pair, Telling::start(machine));
     match feed_lines(config.max_bytes(), reader, &mut receiver, writer) {
-        Ok(ended) => finish(receiver, ended, writer),
+        Ok(ends_in_line_feed) => finish(receiver, ends_in_line_feed, writer),
         Err(fault) => Err(give_up(fault, Glimpse::of(reader), receiver, writer)),
     }
 }
@@ -64,21 +65,24 @@ pub fn run_lenient<M: Machine + Drop, R: Source, W: Target>(
     requires reader { HasLowCounts R.Source reader.old }
     requires writer { IsLowCount (W.failures writer.old) }
     ensures ran { RanLenient R.Source W.Target
-        (command (with_refusal (M.script machine) (M.refusal machine) (glimpse_of R.Source reader.new)) (M.answers machine) (M.needs machine))
+        (command (with_refusal (M.script machine) (M.refusal machine) (glimpse_of R.Source reader.new))
+        (M.answers machine) (M.needs machine))
         config.now reader.old writer.old result reader.new writer.new }
 {
     run(alloc, config, machine, reader, writer)
 }
 
-/// Ends a run on a fault, and answers what that is called: the machine is told of a line or a limit that refuses the log, and
-/// what was said is written. A fault of a device stands as it is, and nothing is written.
+/// Ends a run on a fault, and answers what that is called: the machine is told of a line or a limit that refuses the log,
+/// and what was said is written. A fault of a device stands as it is, and nothing is written.
 fn give_up<M: Machine + Drop, W: Target>(
     fault: Fault,
     source: Glimpse<'_>,
     receiver: Receiver<M, W>,
     target: &mut W,
 ) -> Fault
-    ensures { GivesUp M.stands (λ start. with_refusal (M.script start) (M.refusal start) (glimpse_value source.entry)) W.Target fault receiver target.old result target.new }
+    ensures { GivesUp M.stands
+        (λ machine_start. with_refusal (M.script machine_start) (M.refusal machine_start) (glimpse_value source.entry))
+        W.Target fault receiver target.old result target.new }
 {
     match fault {
         Fault::BadLine { .. } | Fault::LogLimit => refuse(fault, source, receiver, target),
@@ -109,7 +113,9 @@ fn refuse<M: Machine, W: Target>(
     receiver: Receiver<M, W>,
     target: &mut W,
 ) -> Fault
-    ensures { RefusesTelling M.stands (λ start. with_refusal (M.script start) (M.refusal start) (glimpse_value source.entry)) W.Target why receiver target.old result target.new }
+    ensures { RefusesTelling M.stands
+        (λ machine_start. with_refusal (M.script machine_start) (M.refusal machine_start) (glimpse_value source.entry))
+        W.Target why receiver target.old result target.new }
 {
     let Receiver {
         pair,
@@ -143,15 +149,20 @@ fn settle_before<W: Target>(fault: Fault, target: &mut W, page: &mut Page) -> Fa
 /// Writes what is said at the end, and answers. The log ended in a line feed, or not.
 fn finish<M: Machine, W: Target>(
     receiver: Receiver<M, W>,
-    ended: bool,
+    ends_in_line_feed: bool,
     target: &mut W,
 ) -> Result<M::Answer, Fault>
-    ensures ends { (start : W) (first : M) (settings : Settings) (log : List ℕ) (meanings : List (Option StampedValue))
-        → Receives settings meanings receiver.pair receiver.lines receiver.counts → ended ≡ ends_in_line_feed log
-        → HasTold M.stands M.script W.Target start first (trace settings meanings) receiver.telling target.old
-        → EndsTelling W.Target (M.script first) (M.answers first) start settings log meanings result target.new }
-    ensures more { (mid : W) (said : List ℕ) (first : M) (settings : Settings) (meanings : List (Option StampedValue))
-        → Receives settings meanings receiver.pair receiver.lines receiver.counts → M.stands first (trace settings meanings) receiver.telling.machine
+    ensures ends { (target_start : W) (machine_start : M)
+        (settings : Settings) (log : List ℕ) (meanings : List (Option StampedValue))
+        → Receives settings meanings receiver.pair receiver.lines receiver.counts
+        → ends_in_line_feed ≡ Spec.ends_in_line_feed log
+        → HasTold M.stands M.script W.Target target_start machine_start (trace settings meanings) receiver.telling target.old
+        → EndsTelling W.Target (M.script machine_start) (M.answers machine_start) target_start
+        settings log meanings result target.new }
+    ensures more { (mid : W) (said : List ℕ) (machine_start : M)
+        (settings : Settings) (meanings : List (Option StampedValue))
+        → Receives settings meanings receiver.pair receiver.lines receiver.counts
+        → M.stands machine_start (trace settings meanings) receiver.telling.machine
         → CarriesPage W.Target mid said receiver.telling.page target.old → Begins (W.taken mid) (W.taken target.new) }
 {
     let Receiver {
@@ -167,7 +178,7 @@ fn finish<M: Machine, W: Target>(
         mut page,
         ..
     } = telling;
-    let summary = sum_up(&pair, lines, counts, &judge, ended);
+    let summary = sum_up(&pair, lines, counts, &judge, ends_in_line_feed);
     let answer = tell_end(machine, target, &mut page, &pair, &summary);
     if !page.settle(target) {
         return Err(Fault::Write);

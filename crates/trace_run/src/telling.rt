@@ -69,17 +69,19 @@ impl<M: Machine, W: Target> Telling<M, W> {
 
     /// Writes what is due, before more is read. Answers whether it could.
     pub(crate) fn settle(&mut self, target: &mut W) -> bool
-        ensures well { result ≡ true → (start : W) (first : M) (T : List Entry)
-            → HasTold M.stands M.script W.Target start first T self.old target.old
-            → HasWritten M.stands M.script W.Target start first T self.new false target.new × HasTold M.stands M.script W.Target start first T self.new target.new }
-        ensures wrong { result ≡ false → (start : W) (first : M) (T : List Entry)
-            → HasTold M.stands M.script W.Target start first T self.old target.old
-            → HasWritten M.stands M.script W.Target start first T self.new true target.new }
-        ensures sure { result ≡ true → (start : W) (first : M) (T : List Entry)
-            → HasTold M.stands M.script W.Target start first T self.old target.old
-            → HasWrittenAtLeast M.script W.Target start first T self.new target.new }
-        ensures kept { (start : W) (first : M) (earlier : List Entry) → HasWrittenAtLeast M.script W.Target start first earlier self.old target.old
-            → HasWrittenAtLeast M.script W.Target start first earlier self.new target.new }
+        ensures well { result ≡ true → (target_start : W) (machine_start : M) (T : List Entry)
+            → HasTold M.stands M.script W.Target target_start machine_start T self.old target.old
+            → HasWritten M.stands M.script W.Target target_start machine_start T self.new false target.new
+            × HasTold M.stands M.script W.Target target_start machine_start T self.new target.new }
+        ensures wrong { result ≡ false → (target_start : W) (machine_start : M) (T : List Entry)
+            → HasTold M.stands M.script W.Target target_start machine_start T self.old target.old
+            → HasWritten M.stands M.script W.Target target_start machine_start T self.new true target.new }
+        ensures sure { result ≡ true → (target_start : W) (machine_start : M) (T : List Entry)
+            → HasTold M.stands M.script W.Target target_start machine_start T self.old target.old
+            → HasWrittenAtLeast M.script W.Target target_start machine_start T self.new target.new }
+        ensures kept { (target_start : W) (machine_start : M) (earlier : List Entry)
+            → HasWrittenAtLeast M.script W.Target target_start machine_start earlier self.old target.old
+            → HasWrittenAtLeast M.script W.Target target_start machine_start earlier self.new target.new }
     {
         self.page.settle(target)
     }
@@ -98,7 +100,7 @@ impl<M: Machine, W: Target> Telling<M, W> {
             event,
         } = frame;
         let message = judged_message(&mut self.judge, dir, event.verdict);
-        match refusal(self.machine.is_strict(), event.verdict) {
+        match stops_for(self.machine.is_strict(), event.verdict) {
             Some(announced) => Err(Fault::Oversize { line, announced }),
             None => {
                 let seen = Seen {
@@ -117,10 +119,10 @@ impl<M: Machine, W: Target> Telling<M, W> {
 /// The message that a frame of this direction completed, judged. Inlined, since most frames complete none.
 #[inline(always)]
 fn judged_message<'a>(judge: &mut Judge, dir: Dir, verdict: Verdict<'a>) -> Option<Judged<'a>>
-    ensures next { (M : List Message) → length M < 2 ^ 62 → IsJudgeOf M judge.old
-        → IsJudgeOf (M ++ told_message dir (seen_verdict verdict.entry)) judge.new }
-    ensures judged { (M : List Message) → length M < 2 ^ 62 → HasJudged M judge.old
-        → IsJudgedOf M (told_message dir (seen_verdict verdict.entry)) result }
+    ensures next { (messages : List Message) → length messages < 2 ^ 62 → IsJudgeOf messages judge.old
+        → IsJudgeOf (messages ++ told_message dir (seen_verdict verdict.entry)) judge.new }
+    ensures judged { (messages : List Message) → length messages < 2 ^ 62 → HasJudged messages judge.old
+        → IsJudgedOf messages (told_message dir (seen_verdict verdict.entry)) result }
 {
     match verdict {
         Verdict::Message(message) => Some(judge.take(dir, message)),
@@ -130,20 +132,20 @@ fn judged_message<'a>(judge: &mut Judge, dir: Dir, verdict: Verdict<'a>) -> Opti
 
 /// The length that a frame announced, where a run stops for that.
 #[inline(always)]
-fn refusal(strict: bool, verdict: Verdict<'_>) -> Option<u32>
+fn stops_for(strict: bool, verdict: Verdict<'_>) -> Option<u32>
     ensures { result ≡ stops_for strict (seen_verdict verdict.entry) }
 {
     if !strict {
         return None;
     }
     match verdict {
-        Verdict::Dropped(reason) => announced(reason),
+        Verdict::Dropped(reason) => announced_by(reason),
         Verdict::Message(_) | Verdict::Began | Verdict::Stored | Verdict::Flow => None,
     }
 }
 
 /// The length that a dropped frame announced, where it was dropped for that.
-fn announced(reason: Reason) -> Option<u32>
+fn announced_by(reason: Reason) -> Option<u32>
     ensures { result ≡ announced_by reason }
 {
     match reason {
@@ -165,12 +167,14 @@ fn tell<M: Machine, W: Target>(
     page: &mut Page,
     seen: Seen<'_>,
 ) -> Result<(), AllocError>
-    ensures ok { OnOk result ((start : M) (T : List Entry) (e : Entry) → IsSeen T e seen.entry → M.stands start T machine.old
-        → M.stands start (T ++ e ∷ []) machine.new
-        × SaysToPage W.Target page.old target.old ((M.script start).word T e) page.new target.new) }
-    ensures err { OnErr result ((start : M) (T : List Entry) → M.stands start T machine.old
+    ensures ok { OnOk result ((machine_start : M) (T : List Entry) (e : Entry) → IsSeen T e seen.entry
+        → M.stands machine_start T machine.old
+        → M.stands machine_start (T ++ e ∷ []) machine.new
+        × SaysToPage W.Target page.old target.old ((M.script machine_start).word T e) page.new target.new) }
+    ensures err { OnErr result ((machine_start : M) (T : List Entry) → M.stands machine_start T machine.old
         → SaysToPage W.Target page.old target.old [] page.new target.new) }
-    ensures needs { OnErr result ((start : M) (T : List Entry) (e : Entry) → IsSeen T e seen.entry → M.stands start T machine.old → M.needs start T e) }
+    ensures needs { OnErr result ((machine_start : M) (T : List Entry) (e : Entry) → IsSeen T e seen.entry
+        → M.stands machine_start T machine.old → M.needs machine_start T e) }
 {
     let mut out = PageSink { target, page };
     machine.event(seen, &mut out)
@@ -184,11 +188,12 @@ pub(crate) fn tell_end<M: Machine, W: Target>(
     pair: &Pair,
     summary: &Summary,
 ) -> Result<M::Answer, Stop>
-    ensures says { (start : M) (T : List Entry) → M.stands start T machine → pair.now.receptions ≡ receptions_after MESSAGE_LIMIT T
-        → KeepsWithin MESSAGE_LIMIT T pair.now
-        → SaysToPage W.Target page.old target.old ((M.script start).last T summary.now) page.new target.new }
-    ensures answered { (start : M) (T : List Entry) → M.stands start T machine → pair.now.receptions ≡ receptions_after MESSAGE_LIMIT T
-        → M.answers start T summary.now result }
+    ensures says { (machine_start : M) (T : List Entry) → M.stands machine_start T machine
+        → pair.now.receptions ≡ receptions_after MESSAGE_LIMIT T → KeepsWithin MESSAGE_LIMIT T pair.now
+        → SaysToPage W.Target page.old target.old ((M.script machine_start).last T summary.now) page.new target.new }
+    ensures answered { (machine_start : M) (T : List Entry) → M.stands machine_start T machine
+        → pair.now.receptions ≡ receptions_after MESSAGE_LIMIT T
+        → M.answers machine_start T summary.now result }
 {
     let mut out = PageSink { target, page };
     machine.end(pair, summary, &mut out)
@@ -203,8 +208,9 @@ pub(crate) fn tell_refusal<M: Machine, W: Target>(
     why: Fault,
     source: Glimpse<'_>,
 )
-    ensures says { (start : M) (T : List Entry) → M.stands start T machine
-        → SaysToPage W.Target page.old target.old (M.refusal start T summary.now why (glimpse_value source.entry)) page.new target.new }
+    ensures says { (machine_start : M) (T : List Entry) → M.stands machine_start T machine
+        → SaysToPage W.Target page.old target.old
+        (M.refusal machine_start T summary.now why (glimpse_value source.entry)) page.new target.new }
 {
     let mut out = PageSink { target, page };
     machine.refused(summary, why, source, &mut out);

@@ -12,24 +12,24 @@ use Rattle.trace_run.specs.declared.telling.FrameEvent.{FrameEvent}
 use Rattle.trace_run.specs.declared.telling.Telling.{Telling}
 use Rattle.trace_run.specs.proving.Carrying.{IsTellingStart, Tells, StopsTelling, WroteTold}
 
--- the frames of the trace were told, since this start and by what the machine first was
+-- the frames of the trace were told, since the target was this and by what the machine was at its start
 abbrev pub HasTold : {M W : Type 0} → (M → List Entry → M → Type 0) → (M → Script) → Ghosts W → W → M → List Entry → Telling M W → W → Type 0
-HasTold stands scripts target start first T telling now =
-    Tells (stands first) target (scripts first) start T telling.machine telling.judge telling.page.failed telling.page.held now
+HasTold stands scripts target target_start machine_start T telling now =
+    Tells (stands machine_start) target (scripts machine_start) target_start T telling.machine telling.judge telling.page.failed telling.page.held now
 
 -- and all that was told is written; or writing failed
 abbrev pub HasWritten : {M W : Type 0} → (M → List Entry → M → Type 0) → (M → Script) → Ghosts W → W → M → List Entry → Telling M W → Bool → W → Type 0
-HasWritten stands scripts target start first T telling failed now =
-    Tells (stands first) target (scripts first) start T telling.machine telling.judge failed [] now
+HasWritten stands scripts target target_start machine_start T telling failed now =
+    Tells (stands machine_start) target (scripts machine_start) target_start T telling.machine telling.judge failed [] now
 
--- since this start at least what is told of this trace was written
+-- since the target was this at least what is told of this trace was written
 abbrev pub HasWrittenAtLeast : {M W : Type 0} → (M → Script) → Ghosts W → W → M → List Entry → Telling M W → W → Type 0
-HasWrittenAtLeast scripts target start first T telling now = WroteTold target (scripts first) start T telling.page.failed telling.page.held now
+HasWrittenAtLeast scripts target target_start machine_start T telling now = WroteTold target (scripts machine_start) target_start T telling.page.failed telling.page.held now
 
 -- the run stopped at the frame e, of which nothing was said
 abbrev pub HasStopped : {M W : Type 0} → (M → Script) → (M → List Entry → Entry → Type 0) → Ghosts W → W → M → List Entry → Entry → Fault → Telling M W → W → Type 0
-HasStopped scripts needs target start first T e fault telling now =
-    StopsTelling target (scripts first) (needs first) start T e fault telling.page.failed telling.page.held now
+HasStopped scripts needs target target_start machine_start T e fault telling now =
+    StopsTelling target (scripts machine_start) (needs machine_start) target_start T e fault telling.page.failed telling.page.held now
 
 -- nothing was told: the machine stands at its start, no message is judged and the page is blank
 abbrev pub HasToldNothing : {M W : Type 0} → (M → List Entry → M → Type 0) → Telling M W → Type 0
@@ -42,11 +42,11 @@ IsFrameEvent T e frame = IsEventOf T e frame.line frame.micros frame.dir frame.e
 -- The frame e was told after the frames T, or the run stopped at it. Whatever was written before is.
 pub record TellsFrame {M W A : Type 0} (stands : M → List Entry → M → Type 0) (scripts : M → Script) (needs : M → List Entry → Entry → Type 0) (target : Ghosts W)
     (T : List Entry) (e : Entry) (before : Telling M W) (old : W) (result : Result A Fault) (after : Telling M W) (new : W) : Type 0 where
-  pub ok : OnOk result ((start : W) (first : M) → HasTold stands scripts target start first T before old → HasTold stands scripts target start first (T ++ e ∷ []) after new)
-  pub err : IfErr result (λ fault. (start : W) (first : M) → HasTold stands scripts target start first T before old
-      → HasStopped scripts needs target start first T e fault after new)
-  pub kept : (start : W) (first : M) (earlier : List Entry) → HasTold stands scripts target start first T before old
-      → HasWrittenAtLeast scripts target start first earlier before old → HasWrittenAtLeast scripts target start first earlier after new
+  pub ok : OnOk result ((target_start : W) (machine_start : M) → HasTold stands scripts target target_start machine_start T before old → HasTold stands scripts target target_start machine_start (T ++ e ∷ []) after new)
+  pub err : IfErr result (λ fault. (target_start : W) (machine_start : M) → HasTold stands scripts target target_start machine_start T before old
+      → HasStopped scripts needs target target_start machine_start T e fault after new)
+  pub kept : (target_start : W) (machine_start : M) (earlier : List Entry) → HasTold stands scripts target target_start machine_start T before old
+      → HasWrittenAtLeast scripts target target_start machine_start earlier before old → HasWrittenAtLeast scripts target target_start machine_start earlier after new
 
 -- A receiver took lines that mean this; where it stood at its start, it received their frames, and this is told of them.
 abbrev pub HasReceived : {M W : Type 0} → (M → List Entry → M → Type 0) → Ghosts W → Receiver M W → W → List (Option Stamped) → Receiver M W → Type 0 → Type 0

@@ -112,7 +112,7 @@ returns-in-Err g c =
     }
 
 -- how the run ends, after lines that mean this
-ends : (g : Over) (c : After-finish g) (log : List ℕ) (meanings : List (Option Stamped)) → c.in-Ok.ended ≡ ends_in_line_feed log
+ends : (g : Over) (c : After-finish g) (log : List ℕ) (meanings : List (Option Stamped)) → c.in-Ok.ends_in_line_feed ≡ ends_in_line_feed log
     → TookLines (ToldEvents g.M.Machine.stands g.M.Machine.script g.M.Machine.needs g.W.Target) (c.start-receiver.result, c.args.writer.now) meanings (c.feed_lines.new.taker, c.feed_lines.new.device)
     → EndsTelling g.W.Target (g.M.Machine.script c.args.machine) (g.M.Machine.answers c.args.machine) c.args.writer.now c.args.config.now log meanings c.finish.result c.finish.new.target
 ends g c log meanings feed lines =
@@ -145,7 +145,7 @@ returns-in-Ok g c =
     let refused = λ (T : List Entry) (summary : Summary) (why : Fault). M.refusal c.args.machine T summary why (glimpse_of g.R.Source c.feed_lines.new.reader) in
     let none = takes_nothing M.stands M.script M.needs W (start g at) in
     let takes = c.in-Ok.ensures.takes (start g at) none in
-    let some = some_log c.in-Ok.ended in
+    let some = some_log c.in-Ok.ends_in_line_feed in
     let end = ends g c some.0 takes.0 some.1 takes.2 in
     let script = M.script c.args.machine in
     let known_of = known_then W script (M.answers c.args.machine) c.args.writer.now c.finish.new.target settings some.0 takes.0 c.finish.result end in
