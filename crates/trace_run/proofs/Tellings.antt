@@ -20,7 +20,9 @@ use Rattle.trace_run.specs.declared.receiver.Receiver.{Receiver}
 use Rattle.trace_run.specs.declared.machine.Stop.{Stop}
 use Rattle.trace_run.specs.declared.machine.Stop.TheVariants as end_stop
 use Rattle.trace_log.specs.declared.summary.Summary.{Summary}
-use Rattle.trace_run.specs.proving.Carrying.{StopsFor, stops_for, Carries, Says, Settles, IsTellingStart, Tells, StopsTelling, EndsSaying, EndsTelling, EndsAs, SettlesAs, SettlesWith, RefusesTelling, GivesUp, WroteTold}
+use Rattle.trace_run.specs.proving.Carrying.{Carries, Says, Settles}
+use Rattle.trace_run.specs.proving.Telling.{StopsFor, stops_for, IsTellingStart, Tells, StopsTelling, WroteTold}
+use Rattle.trace_run.specs.proving.Ending.{EndsSaying, EndsTelling, EndsAs, SettlesAs, SettlesWith, RefusesTelling, GivesUp}
 use Rattle.trace_log.specs.Feeding.{FeedsLog, FeedsSome, CountsRead, WroteBefore, Took, TakesFront, StopsWithin}
 use Rattle.uds_exchange.specs.Judging.{IsJudgeOf}
 use Rattle.trace_log.specs.Failing.{FailedIf}

@@ -3,7 +3,8 @@ ghost use Rattle.std.specs.Prelude.{◌≡◌, ℕ, List, [], length, Err, Optio
 ghost use Rattle.can_log.specs.declared.frame.Stamped.{Stamped as StampedValue};
 ghost use Rattle.isotp_receive.specs.Trace.{Entry};
 ghost use Rattle.trace_io.specs.Counted.{IsLowCount};
-ghost use Rattle.trace_run.specs.proving.Carrying.{Begins, CarriesPage, SettlesPageAs, EndsTelling, GivesUp, RefusesTelling};
+ghost use Rattle.trace_run.specs.proving.Carrying.{CarriesPage};
+ghost use Rattle.trace_run.specs.proving.Ending.{Begins, SettlesPageAs, EndsTelling, GivesUp, RefusesTelling};
 ghost use Rattle.trace_run.specs.proving.Telling.{HasTold};
 ghost use Rattle.trace_log.specs.proving.Receiving.{Receives};
 ghost use Rattle.trace_log.specs.Settings.{Settings};

@@ -10,7 +10,8 @@ ghost use Rattle.isotp_receive.specs.Trace.{Entry};
 ghost use Rattle.isotp_receive.specs.Verdict.{told_message};
 ghost use Rattle.uds_exchange.specs.Judging.{HasJudged, IsJudgeOf, IsJudgedOf};
 ghost use Rattle.trace_run.specs.Seen.{IsSeen, glimpse_value};
-ghost use Rattle.trace_run.specs.proving.Carrying.{SaysToPage, stops_for};
+ghost use Rattle.trace_run.specs.proving.Carrying.{SaysToPage};
+ghost use Rattle.trace_run.specs.proving.Telling.{stops_for};
 
 use crate::machine::{Glimpse, Machine, Seen, Stop};
 use crate::page::{Page, PageSink};

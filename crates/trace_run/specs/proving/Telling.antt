@@ -1,16 +1,70 @@
--- Devices of proof: one more frame is told.
-use Rattle.std.specs.Prelude.{◌≡◌, ◌≤◌, ◌^◌, List, [], ◌∷◌, ◌++◌, Bool, Option, Result, OnOk, IfErr}
+-- Devices of proof: the frames of a trace were told, and one more is.
+use Rattle.std.specs.Prelude.{◌≡◌, ℕ, ◌^◌, ◌≤◌, ◌⊎◌, Bool, true, false, List, [], ◌++◌, Option, Some, None, Result, ◌∷◌, OnOk, IfErr}
 use Rattle.can_log.specs.declared.frame.Stamped.{Stamped}
+use Rattle.isotp_receive.specs.declared.TheConstants.{MESSAGE_LIMIT}
 use Rattle.isotp_receive.specs.Trace.{Entry}
+use Rattle.isotp_receive.specs.Verdict.{messages, VerdictValue}
+use Rattle.isotp_receive.specs.Events.{oversize_in, too_long_in}
+use Rattle.isotp_pdu.specs.Reading.{layout_of}
+use Rattle.std.specs.List.{AllByRecursion}
 use Rattle.trace_io.specs.declared.device.Target.{Ghosts}
 use Rattle.trace_log.specs.declared.fault.Fault.{Fault}
-use Rattle.trace_run.specs.Told.{Script}
-use Rattle.trace_log.specs.proving.Receiving.{IsStart, Receives}
 use Rattle.trace_run.specs.declared.receiver.Receiver.{Receiver}
+use Rattle.uds_exchange.specs.Judging.{IsJudgeOf}
+use Rattle.uds_exchange.specs.declared.judge.Judge.{Judge}
+use Rattle.trace_log.specs.proving.Announcing.{AnnouncesWithin}
+use Rattle.trace_log.specs.proving.Receiving.{Receives, IsStart}
+use Rattle.trace_log.specs.Needing.{IsKeptForMessage}
+use Rattle.trace_run.specs.Told.{Script, told}
 use Rattle.trace_run.specs.Seen.{IsEventOf}
 use Rattle.trace_run.specs.declared.telling.FrameEvent.{FrameEvent}
 use Rattle.trace_run.specs.declared.telling.Telling.{Telling}
-use Rattle.trace_run.specs.proving.Carrying.{IsTellingStart, Tells, StopsTelling, WroteTold}
+use Rattle.trace_log.specs.declared.fault.Fault.TheVariants as fault
+use Rattle.trace_run.specs.proving.Carrying.{Carries}
+
+-- the length for which a run stops at a frame that did this
+abbrev pub stops_for : Bool → VerdictValue → Option ℕ
+stops_for true did = too_long_in did
+stops_for false did = None
+
+-- why a run stopped at the frame e
+abbrev pub StopsFor : Bool → (List Entry → Entry → Type 0) → List Entry → Entry → Fault → Type 0
+StopsFor strict needs T e (fault.Oversize line announced) = (strict ≡ true) × (line ≡ e.line) × (oversize_in MESSAGE_LIMIT (layout_of e.frame) ≡ Some announced)
+StopsFor strict needs T e fault.Memory = (strict ≡ true → AnnouncesWithin e) × (IsKeptForMessage MESSAGE_LIMIT T e ⊎ needs T e)
+StopsFor strict needs T e (fault.BadLine line column) = ⊥
+StopsFor strict needs T e fault.LogLimit = ⊥
+StopsFor strict needs T e fault.OutputLimit = ⊥
+StopsFor strict needs T e fault.Read = ⊥
+StopsFor strict needs T e fault.Write = ⊥
+
+-- A machine stands at its start, no message was judged, and nothing is on the page.
+pub record IsTellingStart (Stands : Type 0) (judge : Judge) (failed : Bool) (held : List ℕ) : Type 0 where
+  pub stands : Stands
+  pub judged : IsJudgeOf [] judge
+  pub well : failed ≡ false
+  pub blank : held ≡ []
+
+-- The frames of the trace were told; of a strict script none announces a message above the limit.
+pub record Tells {M W : Type 0} (stands : List Entry → M → Type 0) (target : Ghosts W) (script : Script) (start : W) (T : List Entry)
+    (machine : M) (judge : Judge) (failed : Bool) (held : List ℕ) (now : W) : Type 0 where
+  pub judged : IsJudgeOf (messages MESSAGE_LIMIT T) judge
+  pub machine_stands : stands T machine
+  pub within : script.strict ≡ true → AllByRecursion AnnouncesWithin T
+  pub carried : Carries target start (told script.word T) failed held now
+
+-- The run stopped at the frame e: nothing of it was said.
+pub record StopsTelling {W : Type 0} (target : Ghosts W) (script : Script) (needs : List Entry → Entry → Type 0) (start : W) (T : List Entry) (e : Entry) (why : Fault) (failed : Bool) (held : List ℕ) (now : W) : Type 0 where
+  pub within : script.strict ≡ true → AllByRecursion AnnouncesWithin T
+  pub reason : StopsFor script.strict needs T e why
+  pub carried : Carries target start (told script.word T) failed held now
+
+-- Since this start, what is told of this trace was written; and after it, what was said to a page that holds this now.
+pub record WroteTold {W : Type 0} (target : Ghosts W) (script : Script) (start : W) (T : List Entry) (failed : Bool) (held : List ℕ) (now : W) : Type 0 where
+  pub within : script.strict ≡ true → AllByRecursion AnnouncesWithin T
+  pub mid : W
+  pub said : List ℕ
+  pub wrote : target.taken mid ≡ target.taken start ++ told script.word T
+  pub carried : Carries target mid said failed held now
 
 -- the frames of the trace were told, since the target was this and by what the machine was at its start
 abbrev pub HasTold : {M W : Type 0} → (M → List Entry → M → Type 0) → (M → Script) → Ghosts W → W → M → List Entry → Telling M W → W → Type 0

@@ -1,6 +1,6 @@
 use Rattle.std.proofs.Common.{inl, inr, sym, subst}
 use Rattle.trace_log.specs.declared.fault.Fault.{Fault}
-use Rattle.trace_run.specs.proving.Carrying.{GivesUp, RefusesTelling}
+use Rattle.trace_run.specs.proving.Ending.{GivesUp, RefusesTelling}
 use Rattle.trace_run.specs.Seen.{glimpse_value}
 use Rattle.trace_run.specs.Told.{Script, with_refusal}
 use Rattle.trace_run.proofs.driver.give_up.Goals as goal

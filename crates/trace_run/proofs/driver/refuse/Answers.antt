@@ -1,5 +1,5 @@
 use Rattle.std.proofs.Common.{◌++◌, [], refl, subst}
-use Rattle.trace_run.specs.proving.Carrying.{EndsAs}
+use Rattle.trace_run.specs.proving.Ending.{EndsAs}
 use Rattle.trace_log.specs.Trace.{trace}
 use Rattle.trace_log.specs.declared.fault.Fault.{Fault}
 use Rattle.trace_log.specs.declared.summary.Summary.{Summary}

@@ -11,7 +11,7 @@ use Rattle.trace_run.specs.declared.receiver.Receiver.{Receiver}
 use Rattle.isotp_receive.specs.Trace.{Entry}
 use Rattle.trace_log.specs.declared.fault.Fault.{Fault}
 use Rattle.trace_log.specs.declared.summary.Summary.{Summary}
-use Rattle.trace_run.specs.proving.Carrying.{EndsTelling, GivesUp}
+use Rattle.trace_run.specs.proving.Ending.{EndsTelling, GivesUp}
 use Rattle.trace_run.specs.Told.{GlimpseValue, Script, StopsNothingWithin, AnswersTold, TellsEagerly, glimpse_of, with_refusal}
 use Rattle.trace_log.specs.Answers.{ReadsWhile}
 use Rattle.trace_log.specs.Feeding.{TakesFront}

@@ -1,5 +1,5 @@
 use Rattle.std.proofs.Common.{[], ◌≤◌, ◌^◌, ◌≡◌, None, Some, refl, sym, subst, ◌∙◌, ap}
-use Rattle.trace_run.specs.proving.Carrying.{IsTellingStart, Tells}
+use Rattle.trace_run.specs.proving.Telling.{IsTellingStart, Tells}
 use Rattle.trace_log.specs.Settings.{direction_of}
 use Rattle.trace_log.proofs.Promises.{foreign_direction, trace_same_foreign, receives_same}
 use Rattle.trace_run.proofs.receiver.ReceiverLineTaker.pass.Goals as goal

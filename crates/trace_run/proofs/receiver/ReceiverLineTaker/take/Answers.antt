@@ -4,7 +4,7 @@ use Rattle.isotp_receive.specs.declared.TheConstants.{MESSAGE_LIMIT}
 use Rattle.isotp_receive.specs.Trace.{Entry}
 use Rattle.isotp_receive.specs.Verdict.{verdict}
 use Rattle.isotp_receive.specs.StandingReception.{receptions_after}
-use Rattle.trace_run.specs.proving.Carrying.{IsTellingStart, Tells, StopsTelling}
+use Rattle.trace_run.specs.proving.Telling.{IsTellingStart, Tells, StopsTelling}
 use Rattle.trace_log.specs.Settings.{direction_of}
 use Rattle.trace_log.specs.Trace.{trace}
 use Rattle.trace_log.specs.Summing.{counted_more}

@@ -4,7 +4,7 @@ use Rattle.isotp_receive.specs.EventSeen.{seen_event}
 use Rattle.isotp_receive.specs.Verdict.{messages}
 use Rattle.isotp_receive.proofs.Promises.{messages_are_few}
 use Rattle.trace_log.specs.declared.fault.Fault.TheVariants.{Oversize}
-use Rattle.trace_run.specs.proving.Carrying.{stops_for}
+use Rattle.trace_run.specs.proving.Telling.{stops_for}
 use Rattle.trace_log.proofs.Promises.{handed_on}
 use Rattle.trace_run.proofs.Tellings.{tells_next, stops_at, stops_before, stopped_for, not_stopped_for}
 use Rattle.trace_run.proofs.telling.Telling.take.Goals as goal
