@@ -19,7 +19,6 @@ ghost use Rattle.trace_log.specs.Devices.{HasLowCounts};
 use crate::machine::{Glimpse, Machine};
 use crate::page::Page;
 use crate::receiver::Receiver;
-use crate::summing::sum_up;
 use crate::telling::{Telling, tell_end, tell_refusal};
 use isotp_receive::Pair;
 use std::alloc::Global;
@@ -118,20 +117,13 @@ fn refuse<M: Machine, W: Target>(
         (λ machine_start. with_refusal (M.script machine_start) (M.refusal machine_start) (glimpse_value source.entry))
         W.Target why receiver target.old result target.new }
 {
-    let Receiver {
-        pair,
-        lines,
-        counts,
-        telling,
-        ..
-    } = receiver;
+    let summary = receiver.summary(false);
+    let Receiver { telling, .. } = receiver;
     let Telling {
         machine,
-        judge,
         mut page,
         ..
     } = telling;
-    let summary = sum_up(&pair, lines, counts, &judge, false);
     tell_refusal(machine, target, &mut page, &summary, why, source);
     settle_before(why, target, &mut page)
 }
@@ -166,20 +158,13 @@ fn finish<M: Machine, W: Target>(
         → M.stands machine_start (trace settings meanings) receiver.telling.machine
         → CarriesPage W.Target mid said receiver.telling.page target.old → Begins (W.taken mid) (W.taken target.new) }
 {
-    let Receiver {
-        pair,
-        lines,
-        counts,
-        telling,
-        ..
-    } = receiver;
+    let summary = receiver.summary(ends_in_line_feed);
+    let Receiver { pair, telling, .. } = receiver;
     let Telling {
         machine,
-        judge,
         mut page,
         ..
     } = telling;
-    let summary = sum_up(&pair, lines, counts, &judge, ends_in_line_feed);
     let answer = tell_end(machine, target, &mut page, &pair, &summary);
     if !page.settle(target) {
         return Err(Fault::Write);
