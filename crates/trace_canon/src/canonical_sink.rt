@@ -53,13 +53,13 @@ impl<'a, S: TextSink> MessageSink for CanonicalSink<'a, S> {
     ghost after_err = { λ s d m e t. ⊥ };
 
     fn put(&mut self, dir: Dir, message: &[u8]) -> Result<(), NoFault> {
-        say_message(self.out, &self.config, self.progress, dir, message);
+        say_canonical(self.out, &self.config, self.progress, dir, message);
         Ok(())
     }
 }
 
 /// Says the lines of a message. Most messages have one frame, which is made and said by itself.
-fn say_message<S: TextSink>(
+fn say_canonical<S: TextSink>(
     out: &mut S,
     config: &Config,
     progress: &mut Progress,
@@ -112,7 +112,8 @@ fn say_frame<S: TextSink>(
     sender: Dir,
     frame: &[u8; 8],
 ) -> bool
-    ensures says { (later : List (DirValue × List ℕ)) → SaysFront S.says config.now progress.old out.old ((sender, frame.now) ∷ later) progress.new out.new later }
+    ensures says { (later : List (DirValue × List ℕ))
+        → SaysFront S.says config.now progress.old out.old ((sender, frame.now) ∷ later) progress.new out.new later }
     ensures over { result ≡ false → progress.new ≡ filled_up progress.old }
 {
     let id = config.id_of(sender);
@@ -152,11 +153,11 @@ fn say_full_frames<'a, S: TextSink>(
 {
     match config.id_of(sender) {
         Id::Std(number) => {
-            let name = lasting_base_name(number);
+            let name = base_name_in_memory(number);
             say_stretch(out, config, progress, sender, name, frames)
         }
         Id::Ext(number) => {
-            let name = lasting_extended_name(number);
+            let name = extended_name_in_memory(number);
             say_stretch(out, config, progress, sender, name, frames)
         }
     }
@@ -164,7 +165,7 @@ fn say_full_frames<'a, S: TextSink>(
 
 /// What a base identifier gives of each of its lines. It is made by a call, so that its parts lie together in memory.
 #[inline(never)]
-fn lasting_base_name(number: u16) -> [u8; BASE_NAME]
+fn base_name_in_memory(number: u16) -> [u8; BASE_NAME]
     ensures { result ≡ canonical_name (Std number) }
 {
     base_name(number)
@@ -172,15 +173,14 @@ fn lasting_base_name(number: u16) -> [u8; BASE_NAME]
 
 /// The same of an extended identifier.
 #[inline(never)]
-fn lasting_extended_name(number: u32) -> [u8; EXTENDED_NAME]
+fn extended_name_in_memory(number: u32) -> [u8; EXTENDED_NAME]
     ensures { result ≡ canonical_name (Ext number) }
 {
     extended_name(number)
 }
 
-/// The same by the name of the sender, beside which time and data alone differ from frame to frame. The three are said as they
-/// lie: none is put together first, to be loaded at once where store-to-load forwarding fails. The frames are moved in and out, so that none of their
-/// parts has to lie in memory meanwhile.
+/// The same by the name of the sender. The three parts of a line are said as they lie: put together first, it would be
+/// loaded by a covering load. The frames are moved in and out, so that none of their parts has to lie in memory meanwhile.
 #[inline(always)]
 fn say_stretch<'a, S: TextSink, const NAME: usize>(
     out: &mut S,
@@ -208,17 +208,19 @@ fn say_stretch<'a, S: TextSink, const NAME: usize>(
 }
 
 /// Takes one more message, and says the lines of all whose place is now known.
-pub(crate) fn order_to<S: TextSink>(
+pub(crate) fn say_due<S: TextSink>(
     orderer: &mut JudgedOrderer,
     config: &Config,
     progress: &mut Progress,
     out: &mut S,
     message: Judged<'_>,
 ) -> Result<(), AllocError>
-    ensures stands { OnOk result ((M : List Message) → orderer.old ≡ orders_after M → IsJudgedAfter M message.entry → orderer.new ≡ orders_after (M ++ sent message.entry ∷ [])) }
+    ensures stands { OnOk result ((M : List Message) → orderer.old ≡ orders_after M → IsJudgedAfter M message.entry
+        → orderer.new ≡ orders_after (M ++ sent message.entry ∷ [])) }
     ensures says { OnOk result ((M : List Message) → orderer.old ≡ orders_after M → IsJudgedAfter M message.entry
         → SaysDue S.says config.now M (sent message.entry) progress.old out.old progress.new out.new) }
-    ensures held { OnErr result ((M : List Message) → orderer.old ≡ orders_after M → IsJudgedAfter M message.entry → IsHeld M (sent message.entry)) }
+    ensures held { OnErr result ((M : List Message) → orderer.old ≡ orders_after M → IsJudgedAfter M message.entry
+        → IsHeld M (sent message.entry)) }
     ensures refused { OnErr result ((progress.new ≡ progress.old) × S.says out.old [] out.new) }
 {
     let mut sink = CanonicalSink {
@@ -228,12 +230,13 @@ pub(crate) fn order_to<S: TextSink>(
     };
     match orderer.take(message, &mut sink) {
         Ok(()) => Ok(()),
+        // A text sink takes all that is said, and a run ends with the first fault: what is left is refused memory.
         Err(_fault) => Err(AllocError),
     }
 }
 
 /// Says the lines of what is held.
-pub(crate) fn finish_to<S: TextSink>(
+pub(crate) fn say_held<S: TextSink>(
     orderer: JudgedOrderer,
     config: &Config,
     progress: &mut Progress,

@@ -94,8 +94,8 @@ impl Machine for Explainer {
     ) {}
 }
 
-/// Says the lines of a frame, which is in this line and was sent by this side. Laid in line, where it is known of most frames
-/// that they have none: a call would hand over what the frame did in memory, where store-to-load forwarding fails.
+/// Says the lines of a frame, which is in this line and was sent by this side. Inlined, where it is known of most frames
+/// that they have none: a call would hand over what the frame did in memory, for a covering load.
 #[inline(always)]
 fn say_event<S: TextSink>(notation: Notation, line: u64, dir: Dir, event: Event<'_>, out: &mut S)
     ensures { S.says out.old (event_text notation line dir (seen_event event.entry)) out.new }

@@ -13,7 +13,7 @@ ghost use Rattle.trace_log.specs.Laws.{IsCanonicalFor, Records, Certifies};
 ghost use Rattle.trace_log.specs.Refusal.{IsNotRefusedWithin};
 ghost use Rattle.trace_io.specs.Counted.{IsLowCount};
 
-use crate::canonical_sink::{finish_to, order_to};
+use crate::canonical_sink::{say_due, say_held};
 use crate::progress::Progress;
 use isotp_receive::Pair;
 use std::alloc::{AllocError, Global};
@@ -113,7 +113,7 @@ impl Machine for Normaliser {
         let Some(message) = seen.message else {
             return Ok(());
         };
-        order_to(
+        say_due(
             &mut self.orderer,
             &self.config,
             &mut self.progress,
@@ -133,7 +133,7 @@ impl Machine for Normaliser {
             mut progress,
             config,
         } = self;
-        finish_to(orderer, &config, &mut progress, out);
+        say_held(orderer, &config, &mut progress, out);
         if progress.is_over() {
             return Err(Stop::OutputLimit);
         }

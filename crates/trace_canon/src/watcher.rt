@@ -87,7 +87,7 @@ impl Machine for Watcher {
         let Some(message) = seen.message else {
             return Ok(());
         };
-        decide_to(
+        say_decided(
             &mut self.decider,
             self.style,
             &mut self.number,
@@ -107,7 +107,7 @@ impl Machine for Watcher {
             style,
             mut number,
         } = self;
-        finish_to(decider, style, &mut number, out);
+        say_undecided(decider, style, &mut number, out);
         Ok(*summary)
     }
 
@@ -143,7 +143,7 @@ impl<'a, S: TextSink> ItemSink for LineSink<'a, S> {
 }
 
 /// Takes one more message, and says the lines of all items that are now decided.
-fn decide_to<S: TextSink>(
+fn say_decided<S: TextSink>(
     decider: &mut Decider,
     style: ItemStyle,
     number: &mut u64,
@@ -161,7 +161,7 @@ fn decide_to<S: TextSink>(
 }
 
 /// Says the lines of the items that are not decided.
-fn finish_to<S: TextSink>(decider: Decider, style: ItemStyle, number: &mut u64, out: &mut S)
+fn say_undecided<S: TextSink>(decider: Decider, style: ItemStyle, number: &mut u64, out: &mut S)
     ensures { (M : List Message) → decider ≡ decides_after M
         → SaysLines S.says style (undecided M) number.old out.old number.new out.new }
 {

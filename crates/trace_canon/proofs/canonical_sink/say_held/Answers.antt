@@ -4,7 +4,7 @@ use Rattle.isotp_segment.specs.Timed.{all_frames}
 use Rattle.uds_exchange.specs.Order.{held}
 use Rattle.trace_canon.specs.proving.Writing.{text_from}
 use Rattle.trace_canon.proofs.CanonicalSayings.{SaysOne, said_all, never_stops}
-use Rattle.trace_canon.proofs.canonical_sink.finish_to.Goals as goal
+use Rattle.trace_canon.proofs.canonical_sink.say_held.Goals as goal
 
 pub returns-in-Err-clause-says : goal.returns-in-Err-clause-says
 returns-in-Err-clause-says g c = λ M stands.

@@ -4,7 +4,7 @@ use Rattle.isotp_segment.specs.Timed.{all_frames}
 use Rattle.uds_exchange.specs.Judging.{sent}
 use Rattle.trace_canon.specs.proving.Writing.{text_from}
 use Rattle.trace_canon.proofs.CanonicalSayings.{SaysOne, said_all, stays_where_it_stops, stops_for_memory}
-use Rattle.trace_canon.proofs.canonical_sink.order_to.Goals as goal
+use Rattle.trace_canon.proofs.canonical_sink.say_due.Goals as goal
 
 pub returns-in-Ok-clause-says : goal.returns-in-Ok-clause-says
 returns-in-Ok-clause-says g c = λ M stands judged.

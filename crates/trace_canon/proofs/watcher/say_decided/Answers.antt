@@ -2,7 +2,7 @@ use Rattle.std.proofs.Common.{[], ap, sym, subst, ◌∙◌}
 use Rattle.std.proofs.lemmas.Result.{on_ok_weaker, on_err_weaker}
 use Rattle.trace_text.specs.ListText.{list_text_from}
 use Rattle.trace_canon.proofs.WatchScripts.{said_items}
-use Rattle.trace_canon.proofs.watcher.decide_to.Goals as goal
+use Rattle.trace_canon.proofs.watcher.say_decided.Goals as goal
 
 pub returns-clause-says : goal.returns-clause-says
 returns-clause-says g c = on_ok_weaker c.take.result (λ puts M decides judged.
