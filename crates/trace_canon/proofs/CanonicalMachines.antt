@@ -12,7 +12,7 @@ use Rattle.uds_exchange.specs.Judging.{sent}
 use Rattle.uds_exchange.specs.declared.judge.Judged.{Judged}
 use Rattle.trace_run.proofs.Promises.{CompletesJudged}
 use Rattle.uds_exchange.specs.Orderer.{IsHeld, JudgedOrdererValue, orders_after}
-use Rattle.trace_canon.specs.Keeping.{CompletesMessage, CompletesHeld}
+use Rattle.trace_canon.specs.MemoryNeeded.{CompletesMessage, CompletesHeld}
 use Rattle.trace_canon.specs.CanonicalScript.{place_behind, lines_due, StandsCanonical}
 use Rattle.trace_canon.specs.proving.Saying.{SaysDue}
 use Rattle.trace_log.specs.Settings.{Settings}

@@ -1,8 +1,8 @@
 -- What is answered of a log by a call that writes nothing.
 use Rattle.std.specs.Prelude.{◌≡◌, ℕ, List, Result, Ok, Err}
 use Rattle.trace_io.specs.declared.device.Source.{Ghosts as SourceGhosts}
-use Rattle.trace_canon.specs.Keeping.{NeedsMemoryToCollect}
-use Rattle.trace_canon.specs.Read.{RanToRead}
+use Rattle.trace_canon.specs.MemoryNeeded.{NeedsMemoryToCollect}
+use Rattle.trace_canon.specs.ReadOnly.{RanToRead}
 use Rattle.trace_canon.specs.declared.collector.Session.{Session}
 use Rattle.trace_log.specs.declared.fault.Fault.{Fault}
 use Rattle.uds_exchange.specs.Meaning.{ItemValue}

@@ -121,7 +121,7 @@ impl Machine for Collector {
     ghost use Rattle.trace_run.specs.Told.{tells_no_refusal};
     ghost use Rattle.isotp_receive.specs.declared.TheConstants.{MESSAGE_LIMIT};
     ghost use Rattle.isotp_receive.specs.Verdict.{messages};
-    ghost use Rattle.trace_canon.specs.Keeping.{CompletesMessage};
+    ghost use Rattle.trace_canon.specs.MemoryNeeded.{CompletesMessage};
     ghost use Rattle.trace_canon.specs.SessionScript.{Collects, answers_session, silent_script};
 
     type Answer = Session;

@@ -2,8 +2,8 @@
 //! the lines of a log, and no machine does it.
 ghost use Rattle.std.specs.Prelude.{◌≡◌, List, ℕ, [], length, IfErr, IfOk, Option};
 ghost use Rattle.can_log.specs.declared.frame.Stamped.{Stamped as StampedValue};
-ghost use Rattle.trace_canon.specs.Found.{GivesFound, IsFoundOf, NeedsMemoryToFind, frames_in, summary_of_lines};
-ghost use Rattle.trace_canon.specs.Read.{RanToRead};
+ghost use Rattle.trace_canon.specs.Finding.{GivesFound, IsFoundOf, NeedsMemoryToFind, frames_in, summary_of_lines};
+ghost use Rattle.trace_canon.specs.ReadOnly.{RanToRead};
 ghost use Rattle.trace_canon.specs.proving.Hearing.{HasHeard};
 ghost use Rattle.trace_log.specs.Devices.{HasLowCounts};
 ghost use Rattle.trace_log.specs.Refusal.{HasNoBadPlaceWithin};
@@ -82,7 +82,7 @@ pub(crate) struct Hearing {
 
 impl LineTaker for Hearing {
     ghost use Rattle.std.specs.Prelude.{◌≡◌, ⊤, [], ◌∷◌, ◌++◌};
-    ghost use Rattle.trace_canon.specs.Found.{frames_in};
+    ghost use Rattle.trace_canon.specs.Finding.{frames_in};
     ghost use Rattle.trace_log.specs.declared.fault.Fault.TheVariants.{Memory};
     ghost use Rattle.trace_canon.specs.proving.Hearing.{HasHeard};
     ghost use Rattle.uds_find.specs.Credit.{HasCredit};

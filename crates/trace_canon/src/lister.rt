@@ -1,7 +1,7 @@
 //! `list`: the items of a log, written once they are known.
 ghost use Rattle.isotp_receive.specs.declared.TheConstants.{MESSAGE_LIMIT};
 ghost use Rattle.trace_text.specs.ListText.{list_text};
-ghost use Rattle.trace_canon.specs.Listed.{RanOverItems};
+ghost use Rattle.trace_canon.specs.ItemText.{RanOverItems};
 ghost use Rattle.trace_io.specs.Counted.{IsLowCount};
 ghost use Rattle.trace_log.specs.Devices.{HasLowCounts};
 

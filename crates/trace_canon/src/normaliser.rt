@@ -7,7 +7,8 @@ ghost use Rattle.trace_log.specs.Answers.{Answers, ReadsWhile, WritesEagerly};
 ghost use Rattle.trace_log.specs.CanonicalLog.{canonical_log, canonical_log_of_lines};
 ghost use Rattle.trace_canon.specs.CanonicalScript.{StandsCanonical};
 ghost use Rattle.trace_log.specs.Devices.{AgreesWith, bytes_given, ReadFrom, WroteTo, HasLowCounts};
-ghost use Rattle.trace_canon.specs.Keeping.{HasTextOf, NeedsMemoryToOrder};
+ghost use Rattle.trace_canon.specs.InMemory.{HasTextOf};
+ghost use Rattle.trace_canon.specs.MemoryNeeded.{NeedsMemoryToOrder};
 ghost use Rattle.trace_log.specs.declared.fault.Fault.TheVariants.{Memory, Write};
 ghost use Rattle.trace_log.specs.Laws.{IsCanonicalFor, Records, Certifies};
 ghost use Rattle.trace_log.specs.Refusal.{IsNotRefusedWithin};
@@ -88,7 +89,7 @@ pub(crate) struct Normaliser {
 impl Machine for Normaliser {
     ghost use Rattle.trace_run.specs.Told.{tells_no_refusal};
     ghost use Rattle.isotp_receive.specs.declared.TheConstants.{MESSAGE_LIMIT};
-    ghost use Rattle.trace_canon.specs.Keeping.{CompletesHeld};
+    ghost use Rattle.trace_canon.specs.MemoryNeeded.{CompletesHeld};
     ghost use Rattle.trace_canon.specs.CanonicalScript.{StandsCanonical, answers_canonical, canonical_script};
 
     type Answer = Summary;

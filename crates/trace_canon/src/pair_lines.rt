@@ -1,5 +1,5 @@
 //! The text of the pairs of a log, said pair by pair.
-ghost use Rattle.trace_canon.specs.Found.{pair_line, pairs_text};
+ghost use Rattle.trace_canon.specs.Finding.{pair_line, pairs_text};
 
 use text_parts::say;
 use trace_io::TextSink;

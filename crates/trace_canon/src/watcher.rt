@@ -5,7 +5,7 @@ ghost use Rattle.isotp_receive.specs.declared.TheConstants.{MESSAGE_LIMIT};
 ghost use Rattle.uds_exchange.specs.Judging.{IsJudgedAfter, sent};
 ghost use Rattle.uds_exchange.specs.Decided.{undecided};
 ghost use Rattle.uds_exchange.specs.Decider.{decides_after, IsKept};
-ghost use Rattle.trace_canon.specs.Keeping.{CompletesKept};
+ghost use Rattle.trace_canon.specs.MemoryNeeded.{CompletesKept};
 ghost use Rattle.trace_run.specs.Told.{RanLenient, answers_counts, command};
 ghost use Rattle.trace_canon.specs.WatchScript.{watching_script, WritesTheList};
 ghost use Rattle.trace_canon.specs.proving.Watching.{SaysDecided, SaysLines};
@@ -60,7 +60,7 @@ pub(crate) struct Watcher {
 
 impl Machine for Watcher {
     ghost use Rattle.isotp_receive.specs.declared.TheConstants.{MESSAGE_LIMIT};
-    ghost use Rattle.trace_canon.specs.Keeping.{CompletesKept};
+    ghost use Rattle.trace_canon.specs.MemoryNeeded.{CompletesKept};
     ghost use Rattle.trace_run.specs.Told.{answers_counts, tells_no_refusal};
     ghost use Rattle.trace_canon.specs.WatchScript.{watching_script};
     ghost use Rattle.trace_canon.specs.proving.Watching.{WatchesItems};

@@ -1,7 +1,7 @@
 use Rattle.std.proofs.Common.{ap, sym, ◌∙◌}
 use Rattle.isotp_receive.specs.declared.TheConstants.{MESSAGE_LIMIT}
 use Rattle.trace_log.specs.Answers.{TellsOutcome}
-use Rattle.trace_canon.specs.Keeping.{NeedsMemoryToCollect}
+use Rattle.trace_canon.specs.MemoryNeeded.{NeedsMemoryToCollect}
 use Rattle.trace_canon.proofs.InMemories.{agrees_in_memory, gathered, taken_is_held, written_in_memory}
 use Rattle.trace_canon.proofs.counted.item_list.Goals as goal
 

@@ -1,5 +1,5 @@
 use Rattle.std.proofs.Common.{ap, sym, ◌∙◌}
-use Rattle.trace_canon.specs.Found.{IsUnheardFor, NeedsMemoryToFind}
+use Rattle.trace_canon.specs.Finding.{IsUnheardFor, NeedsMemoryToFind}
 use Rattle.trace_canon.proofs.InMemories.{agrees_in_memory, gathered, taken_is_held, written_in_memory}
 use Rattle.trace_canon.proofs.counted.pair_lines.Goals as goal
 

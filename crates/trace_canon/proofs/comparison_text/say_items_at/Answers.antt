@@ -1,4 +1,4 @@
-use Rattle.trace_canon.proofs.comparison_lines.say_items_at.Goals as goal
+use Rattle.trace_canon.proofs.comparison_text.say_items_at.Goals as goal
 
 pub returns : goal.returns
 returns g c =

@@ -1,12 +1,11 @@
 -- For which frames of a log a command needs memory, beyond those whose bytes are kept.
-use Rattle.std.specs.Prelude.{◌≡◌, ℕ, ◌⊎◌, ◌<◌, List, length, Option}
-use Rattle.can_log.specs.declared.frame.Stamped.{Stamped}
+use Rattle.std.specs.Prelude.{◌≡◌, ℕ, ◌⊎◌, List}
 use Rattle.isotp_receive.specs.Trace.{Entry}
 use Rattle.isotp_receive.specs.Verdict.{message, messages, verdict}
 use Rattle.uds_exchange.specs.Decider.{IsKept}
 use Rattle.uds_exchange.specs.Orderer.{IsHeld}
 use Rattle.trace_log.specs.Settings.{Settings}
-use Rattle.trace_log.specs.Needing.{BeginsWithLines, HasFrame, IsKeptForMessage}
+use Rattle.trace_log.specs.Needing.{HasFrame, IsKeptForMessage}
 
 -- The frame completes a message that is held: a stray behind a request that waits for its answer.
 abbrev pub CompletesHeld : ℕ → List Entry → Entry → Type 0
@@ -27,9 +26,3 @@ NeedsMemoryToOrder limit = HasFrame (λ T e. IsKeptForMessage limit T e ⊎ Comp
 -- or one that completes any message
 abbrev pub NeedsMemoryToCollect : ℕ → Settings → List ℕ → Type 0
 NeedsMemoryToCollect limit = HasFrame (λ T e. IsKeptForMessage limit T e ⊎ CompletesMessage limit T e)
-
--- The first lines of the log have some text of this kind, of one byte at least.
-pub record HasTextOf (text : List (Option Stamped) → List ℕ) (log : List ℕ) : Type 0 where
-  pub meanings : List (Option Stamped)
-  pub begins : BeginsWithLines log meanings
-  pub some : 0 < length (text meanings)

@@ -1,6 +1,6 @@
 use Rattle.std.proofs.Common.{subst}
 use Rattle.trace_canon.proofs.ComparisonTexts.{different_is, shown_is}
-use Rattle.trace_canon.proofs.comparison_lines.say_lines.Goals as goal
+use Rattle.trace_canon.proofs.comparison_text.say_lines.Goals as goal
 
 pub returns-then-shows_items : goal.returns-then-shows_items
 returns-then-shows_items g c =

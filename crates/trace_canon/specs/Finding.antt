@@ -15,7 +15,7 @@ use Rattle.trace_log.specs.ReadAs.{IsReadAs}
 use Rattle.trace_text.specs.Json.{Members, nothing, member, object_line}
 use Rattle.trace_text.specs.Json as json
 use Rattle.trace_log.specs.Needing.{BeginsWithLines}
-use Rattle.trace_canon.specs.Once.{RanOnce, WritesOnce}
+use Rattle.trace_canon.specs.WrittenAtEnd.{RanOnce, WritesOnce}
 use Rattle.trace_log.specs.Refusal.{HasNoBadPlaceWithin}
 use Rattle.trace_io.specs.declared.device.Source.{Ghosts as SourceGhosts}
 use Rattle.trace_io.specs.declared.device.Target.{Ghosts as TargetGhosts}
