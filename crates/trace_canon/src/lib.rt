@@ -36,15 +36,14 @@
 //! | [`write_comparison`] | `comparison_text`, `comparison_objects`, `compared_items` | `ComparisonText` |
 //! | [`list`], [`write_items`] | `lister`, `item_text` | `ItemText` |
 //! | [`find`] | `finding`, `hearing`, `pair_lines` | `Finding` |
-//! | calls over memory | `counted`, `in_memory` | `InMemory` |
+//! | all of them over memory | [`in_memory`] | `InMemory` |
 //!
 //! What a run comes to that writes a text at the end is in `WrittenAtEnd`, and of one that writes nothing in `ReadOnly`;
 //! for which frames a command needs memory, in `MemoryNeeded`.
 //!
 //! What tells of a log while it comes is a machine of [`trace_run`](trace_run::Machine): those of the first four rows. So
-//! is what collects the meaning of a log, on which the next four stand. [`find`] is none: it hears every frame, whatever
-//! its identifier, and has no receiver. [`counted`] answers of a log in memory with a text and the counts, and
-//! [`in_memory`] with its meaning.
+//! is what collects the meaning of a log: on it stand [`meaning_of`], [`compare`] and [`write_items`]. [`find`] is none:
+//! it hears every frame, whatever its identifier, and has no receiver.
 #![tactic(auto)]
 
 pub mod begun;
@@ -54,7 +53,6 @@ mod compared_items;
 mod comparing;
 mod comparison_objects;
 mod comparison_text;
-pub mod counted;
 mod explainer;
 mod finding;
 mod hearing;

@@ -1,10 +1,10 @@
 use Rattle.std.proofs.Common.{Ok, Err, subst, sym}
 use Rattle.isotp_receive.specs.declared.TheConstants.{MESSAGE_LIMIT}
 use Rattle.trace_canon.specs.InMemory.{ComparesWithCounts}
-use Rattle.trace_canon.specs.declared.counted.CountedComparison.{CountedComparison}
+use Rattle.trace_canon.specs.declared.in_memory.CountedComparison.{CountedComparison}
 use Rattle.trace_log.proofs.Promises.{handed_on}
 use Rattle.trace_canon.proofs.InMemories.{agrees_in_memory, comparison_in_memory}
-use Rattle.trace_canon.proofs.counted.comparison.Goals as goal
+use Rattle.trace_canon.proofs.in_memory.comparison.Goals as goal
 
 pub returns : goal.returns
 returns c =
