@@ -2,7 +2,7 @@ pub mod CanonicalScript
 pub mod ExplainScript
 pub mod MessageLines
 pub mod PlaceLaws
-pub mod Begun
+pub mod ReceptionStarts
 pub mod WatchScript
 pub mod Sessions
 pub mod SessionScript

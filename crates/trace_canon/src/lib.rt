@@ -29,7 +29,7 @@
 //! |---|---|---|
 //! | [`normalise`] | `normaliser`, `canonical_sink`, `progress`, `length` | `CanonicalScript` |
 //! | [`explain`] | `explainer` | `ExplainScript` |
-//! | [`messages`] | `placer`, `begun`, `message_objects`, `message_parts` | `MessageLines`, `PlaceLaws`, `Begun` |
+//! | [`messages`] | `placer`, `reception_starts`, `message_objects`, `message_parts` | `MessageLines`, `PlaceLaws`, `ReceptionStarts` |
 //! | [`watch`] | `watcher` | `WatchScript` |
 //! | [`meaning_of`] | `collector`, `length` | `Sessions`, `SessionScript` |
 //! | [`compare`] | `comparing` | `Compared` |
@@ -46,7 +46,6 @@
 //! it hears every frame, whatever its identifier, and has no receiver.
 #![tactic(auto)]
 
-pub mod begun;
 mod canonical_sink;
 mod collector;
 mod compared_items;
@@ -67,6 +66,7 @@ mod normaliser;
 mod pair_lines;
 mod placer;
 mod progress;
+pub mod reception_starts;
 mod watcher;
 
 pub use collector::{Session, meaning_of};

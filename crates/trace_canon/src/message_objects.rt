@@ -2,8 +2,8 @@
 ghost use Rattle.trace_text.specs.Json.{object_line};
 ghost use Rattle.trace_canon.specs.MessageLines.{judged_at, placed_members};
 
-use crate::begun::FramePlace;
 use crate::message_parts::{Role, Stamp};
+use crate::reception_starts::FramePlace;
 use text_parts::say;
 use trace_io::TextSink;
 use trace_text::{Bytes, Number, Sender};

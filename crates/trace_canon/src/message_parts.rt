@@ -1,5 +1,5 @@
 //! The parts of what `messages` says of a message.
-use crate::begun::FramePlace;
+use crate::reception_starts::FramePlace;
 use text_parts::{Part, say};
 use trace_io::TextSink;
 use trace_text::names::role_name;

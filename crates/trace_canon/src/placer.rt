@@ -5,9 +5,9 @@ ghost use Rattle.trace_run.specs.Told.{RanLenient, answers_counts, command, need
 ghost use Rattle.trace_io.specs.Counted.{IsLowCount};
 ghost use Rattle.trace_log.specs.Devices.{HasLowCounts};
 
-use crate::begun::{Begun, FramePlace};
 use crate::message_objects::say_message_object;
 use crate::message_parts::{Extent, Role};
+use crate::reception_starts::{FramePlace, ReceptionStarts};
 use isotp_receive::Pair;
 use std::alloc::{AllocError, Global};
 use text_parts::say;
@@ -37,7 +37,7 @@ pub fn messages<R: Source, W: Target>(
 {
     let machine = Placer {
         notation,
-        begun: Begun::start(),
+        begun: ReceptionStarts::start(),
     };
     run_lenient(alloc, config, machine, reader, writer)
 }
@@ -46,12 +46,12 @@ pub fn messages<R: Source, W: Target>(
 #[derive(Drop)]
 pub(crate) struct Placer {
     pub notation: Notation,
-    pub begun: Begun,
+    pub begun: ReceptionStarts,
 }
 
 impl Machine for Placer {
     ghost use Rattle.isotp_receive.specs.declared.TheConstants.{MESSAGE_LIMIT};
-    ghost use Rattle.trace_canon.specs.proving.Begun.{PlacesMessages};
+    ghost use Rattle.trace_canon.specs.proving.ReceptionStarts.{PlacesMessages};
     ghost use Rattle.trace_canon.specs.MessageLines.{placing_script};
     ghost use Rattle.trace_run.specs.Told.{answers_counts, tells_no_refusal};
 

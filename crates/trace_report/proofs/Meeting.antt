@@ -22,7 +22,7 @@ use Rattle.uds_exchange.proofs.Promises.{open_request_goes_on}
 use Rattle.uds_message.specs.Message.{sid, is_final_for, is_pending_for, is_suppressing}
 use Rattle.uds_exchange.specs.Meaning.{is_from_tester}
 use Rattle.trace_canon.specs.MessageLines.{first_frame, place_of}
-use Rattle.trace_canon.specs.declared.begun.FramePlace.{FramePlace}
+use Rattle.trace_canon.specs.declared.reception_starts.FramePlace.{FramePlace}
 use Rattle.trace_canon.proofs.Promises.{messages_next}
 use Rattle.trace_report.specs.Events.{asked_in, completes_request, completes_request_by, ended_rows, event_rows, frame_rows, frames_by, is_request_step, is_there, role_of_step, rows_before, verdict_rows}
 use Rattle.trace_report.specs.Rows.{RowValue}

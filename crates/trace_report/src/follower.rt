@@ -19,7 +19,7 @@ use crate::places::{Extent, Places};
 use crate::row::{MessagePlace, Row};
 use direction::Dir;
 use isotp_receive::{Ended, Event, Pair, Verdict};
-use trace_canon::begun::FramePlace;
+use trace_canon::reception_starts::FramePlace;
 use trace_run::Seen;
 use uds_exchange::{Judged, Step};
 use uds_message::is_suppressing;

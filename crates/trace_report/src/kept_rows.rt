@@ -18,7 +18,7 @@ use isotp_receive::{Ended, Reason};
 use std::alloc::{AllocError, Global};
 use std::fmt::{self, Debug, Formatter, Write};
 use std::marker::Model;
-use trace_canon::begun::FramePlace;
+use trace_canon::reception_starts::FramePlace;
 use uds_exchange::Messages;
 
 /// A message that is kept: what a row tells of it, and where its bytes lie.

@@ -8,7 +8,7 @@ use direction::Dir;
 use isotp_pdu::PduFault;
 use isotp_receive::{Cause, Ended, Reason};
 use text_parts::{Part, When, say};
-use trace_canon::begun::FramePlace;
+use trace_canon::reception_starts::FramePlace;
 use trace_io::TextSink;
 use trace_text::{DropReason, EndCause, Length, Number, Sender};
 

@@ -12,12 +12,12 @@ ghost use Rattle.trace_report.specs.proving.Following.{KnowsPlaces};
 use crate::frames::{FrameCounts, frames_carrying};
 use direction::Dir;
 use isotp_receive::Event;
-use trace_canon::begun::{Begun, FramePlace, still_begun};
+use trace_canon::reception_starts::{FramePlace, ReceptionStarts, still_begun};
 
 /// Of the receptions that stand: where they began, and how many frames they took.
 #[derive(Clone, Copy, Debug)]
 pub(crate) struct Places {
-    pub begun: Begun,
+    pub begun: ReceptionStarts,
     pub frames: FrameCounts,
 }
 
@@ -34,7 +34,7 @@ impl Places {
         ensures { KnowsPlaces [] result }
     {
         Places {
-            begun: Begun::start(),
+            begun: ReceptionStarts::start(),
             frames: FrameCounts::start(),
         }
     }

@@ -2,7 +2,7 @@
 
 use direction::Dir;
 use isotp_receive::{Ended, Reason};
-use trace_canon::begun::FramePlace;
+use trace_canon::reception_starts::FramePlace;
 
 /// What a message is to its item. A reply has the time of the last frame of its request.
 #[derive(Clone, Copy, Debug)]

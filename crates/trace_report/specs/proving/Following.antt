@@ -10,8 +10,8 @@ use Rattle.isotp_receive.specs.Verdict.{EventValue, VerdictValue, message, began
 use Rattle.uds_exchange.specs.Judging.{one_more, step_after, waiting_number}
 use Rattle.uds_exchange.specs.Order.{open_request}
 use Rattle.uds_message.specs.Message.{is_suppressing}
-use Rattle.trace_canon.specs.declared.begun.FramePlace.{FramePlace}
-use Rattle.trace_canon.specs.proving.Begun.{IsBegunAt}
+use Rattle.trace_canon.specs.declared.reception_starts.FramePlace.{FramePlace}
+use Rattle.trace_canon.specs.proving.ReceptionStarts.{IsBegunAt}
 use Rattle.trace_report.specs.Blocks.{blocks_of}
 use Rattle.trace_report.specs.Events.{asked_in, is_request_step, is_there, rows_of}
 use Rattle.trace_report.specs.Front.{PageTitle}

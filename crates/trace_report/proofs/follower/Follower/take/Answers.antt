@@ -4,7 +4,7 @@ use Rattle.isotp_receive.specs.EventSeen.{seen_event}
 use Rattle.isotp_receive.specs.Trace.{Entry}
 use Rattle.isotp_receive.specs.Verdict.{EventValue, messages, verdict}
 use Rattle.trace_canon.specs.MessageLines.{place_of}
-use Rattle.trace_canon.specs.declared.begun.FramePlace.{FramePlace}
+use Rattle.trace_canon.specs.declared.reception_starts.FramePlace.{FramePlace}
 use Rattle.trace_run.specs.Seen.{IsSeen}
 use Rattle.trace_run.specs.declared.machine.Seen.{Seen}
 use Rattle.trace_run.proofs.Promises.{completes_judged}

@@ -3,7 +3,7 @@ ghost use Rattle.std.specs.Prelude.{◌≡◌, None, if◌then◌else◌};
 ghost use Rattle.direction.specs.declared.Dir.{Dir as DirValue};
 ghost use Rattle.isotp_receive.specs.EventSeen.{seen_event, seen_verdict};
 ghost use Rattle.isotp_receive.specs.Trace.{same_direction};
-ghost use Rattle.trace_canon.specs.Begun.{began_at, begun_after, begun_of, left_by, moved_by};
+ghost use Rattle.trace_canon.specs.ReceptionStarts.{began_at, begun_after, begun_of, left_by, moved_by};
 
 use direction::Dir;
 use isotp_receive::{Ended, Event, Verdict};
@@ -17,17 +17,17 @@ pub struct FramePlace {
 
 /// Of each direction the place of the first frame of the reception that stands, if one does.
 #[derive(Clone, Copy, Debug)]
-pub struct Begun {
+pub struct ReceptionStarts {
     pub tester: Option<FramePlace>,
     pub unit: Option<FramePlace>,
 }
 
-impl Begun {
+impl ReceptionStarts {
     /// Before the first frame.
-    pub fn start() -> Begun
+    pub fn start() -> ReceptionStarts
         ensures { (d : DirValue) → begun_of result d ≡ None }
     {
-        Begun {
+        ReceptionStarts {
             tester: None,
             unit: None,
         }
@@ -43,16 +43,17 @@ impl Begun {
         }
     }
 
-    /// Takes what a frame in this place did, and answers where the message began that it completed. Where it completed none,
-    /// the answer says nothing.
+    /// Takes what a frame in this place did, and answers where the message began that it completed. Where it completed
+    /// none, the answer says nothing.
     #[inline(always)]
     pub fn take(&mut self, here: FramePlace, dir: Dir, event: Event<'_>) -> FramePlace
-        ensures stands { (d : DirValue) → begun_of self.new d ≡ begun_after d dir (seen_event event.entry) here (begun_of self.old d) }
+        ensures stands { (d : DirValue)
+            → begun_of self.new d ≡ begun_after d dir (seen_event event.entry) here (begun_of self.old d) }
         ensures first { result ≡ began_at dir (seen_event event.entry) here (begun_of self.old dir) }
     {
         self.end(event.ended);
         let begun = self.of(dir);
-        self.go_on(here, dir, event.verdict);
+        self.move_by(here, dir, event.verdict);
         begun.unwrap_or(here)
     }
 
@@ -62,25 +63,26 @@ impl Begun {
         ensures { (d : DirValue) → begun_of self.new d ≡ left_by d ended (begun_of self.old d) }
     {
         if let Some(ended) = ended {
-            self.put(ended.dir, None);
+            self.set(ended.dir, None);
         }
     }
 
     /// Takes what became of a frame, beside such an end.
     #[inline(always)]
-    fn go_on(&mut self, here: FramePlace, dir: Dir, verdict: Verdict<'_>)
-        ensures { (d : DirValue) → begun_of self.new d ≡ moved_by (same_direction d dir) (seen_verdict verdict.entry) here (begun_of self.old d) }
+    fn move_by(&mut self, here: FramePlace, dir: Dir, verdict: Verdict<'_>)
+        ensures { (d : DirValue)
+            → begun_of self.new d ≡ moved_by (same_direction d dir) (seen_verdict verdict.entry) here (begun_of self.old d) }
     {
         match verdict {
-            Verdict::Message(_) => self.put(dir, None),
-            Verdict::Began => self.put(dir, Some(here)),
+            Verdict::Message(_) => self.set(dir, None),
+            Verdict::Began => self.set(dir, Some(here)),
             Verdict::Stored | Verdict::Flow | Verdict::Dropped(_) => {}
         }
     }
 
-    /// Where the reception of a direction began is this now.
+    /// Takes where the reception of a direction began, if one stands.
     #[inline(always)]
-    fn put(&mut self, dir: Dir, begun: Option<FramePlace>)
+    fn set(&mut self, dir: Dir, begun: Option<FramePlace>)
         ensures { (d : DirValue) → begun_of self.new d ≡ (if same_direction d dir then begun else begun_of self.old d) }
     {
         match dir {

@@ -1,5 +1,5 @@
 use Rattle.trace_canon.proofs.Begins.{of_tester, of_unit}
-use Rattle.trace_canon.proofs.begun.Begun.put.Goals as goal
+use Rattle.trace_canon.proofs.reception_starts.ReceptionStarts.set.Goals as goal
 
 pub returns-in-Tester : goal.returns-in-Tester
 returns-in-Tester c = λ d. rw (c.in-Tester.is) (of_tester c.args.begun c.args.self.now d)

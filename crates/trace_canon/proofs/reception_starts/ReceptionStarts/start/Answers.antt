@@ -1,5 +1,5 @@
 use Rattle.trace_canon.proofs.Begins.{none_begun}
-use Rattle.trace_canon.proofs.begun.Begun.start.Goals as goal
+use Rattle.trace_canon.proofs.reception_starts.ReceptionStarts.start.Goals as goal
 
 pub returns : goal.returns
 returns c = none_begun

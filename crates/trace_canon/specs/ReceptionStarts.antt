@@ -5,11 +5,11 @@ use Rattle.direction.specs.declared.Dir.TheVariants.{Tester, Unit}
 use Rattle.isotp_receive.specs.declared.event.Ended.{Ended}
 use Rattle.isotp_receive.specs.Trace.{same_direction}
 use Rattle.isotp_receive.specs.Verdict.{VerdictValue, message, began, stored, flowed, dropped, EventValue}
-use Rattle.trace_canon.specs.declared.begun.Begun.{Begun}
-use Rattle.trace_canon.specs.declared.begun.FramePlace.{FramePlace}
+use Rattle.trace_canon.specs.declared.reception_starts.ReceptionStarts.{ReceptionStarts}
+use Rattle.trace_canon.specs.declared.reception_starts.FramePlace.{FramePlace}
 
 -- where the reception of d began, if one stands
-abbrev pub begun_of : Begun → Dir → Option FramePlace
+abbrev pub begun_of : ReceptionStarts → Dir → Option FramePlace
 begun_of begun Tester = begun.tester
 begun_of begun Unit = begun.unit
 
