@@ -46,8 +46,8 @@ impl<'a, S: TextSink> MessageSink for CanonicalSink<'a, S> {
 
     type Fault = NoFault;
 
-    ghost after_ok = { λ s d m t. (t.out.ghost_name ≡ s.out.ghost_name) × (t.progress.ghost_name ≡ s.progress.ghost_name) × (t.config ≡ s.config)
-        × (t.progress.now ≡ progress_after s.config s.progress.now (canonical_frames MESSAGE_LIMIT d m))
+    ghost after_ok = { λ s d m t. (t.out.ghost_name ≡ s.out.ghost_name) × (t.progress.ghost_name ≡ s.progress.ghost_name)
+        × (t.config ≡ s.config) × (t.progress.now ≡ progress_after s.config s.progress.now (canonical_frames MESSAGE_LIMIT d m))
         × S.says s.out.now (text_from s.config s.progress.now (canonical_frames MESSAGE_LIMIT d m)) t.out.now };
 
     ghost after_err = { λ s d m e t. ⊥ };

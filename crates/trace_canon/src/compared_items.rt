@@ -17,6 +17,7 @@ pub(crate) fn say_item_at<S: TextSink>(
 )
     ensures { S.says out.old (shown_text notation (place + 1) (slice_get meaning.now place)) out.new }
 {
+    // Asked here, too, so that its number is known to be a u64.
     if place >= meaning.len() {
         say_nothing(notation, out);
         return;

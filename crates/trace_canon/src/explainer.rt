@@ -17,8 +17,8 @@ use trace_log::{Config, Fault, Summary};
 use trace_run::{Glimpse, Machine, Seen, Stop, run_lenient};
 use trace_text::{Notation, Remark, say_remark};
 
-/// Reads a log and writes a line for each reception that ended without its message and for each frame that was dropped, as
-/// they come; then the receptions that stand at the end, and the counts. In words or as objects of JSON.
+/// Reads a log and writes a line for each reception that ended without its message and for each frame that was dropped,
+/// as they come; then the receptions that stand at the end, and the counts. In words or as objects of JSON.
 ///
 /// The target is not flushed.
 pub fn explain<R: Source, W: Target>(
@@ -32,10 +32,13 @@ pub fn explain<R: Source, W: Target>(
     requires writer { IsLowCount (W.failures writer.old) }
 
     // What is answered and written; that it is written before more is read; and what was done with the devices.
-    ensures ran { RanLenient R.Source W.Target (command (explain_script notation MESSAGE_LIMIT) answers_counts needs_none) config.now reader.old writer.old result reader.new writer.new }
+    ensures ran { RanLenient R.Source W.Target
+        (command (explain_script notation MESSAGE_LIMIT) answers_counts needs_none)
+        config.now reader.old writer.old result reader.new writer.new }
 
     // Where nothing was dropped, ended or left unfinished, the log is a recording.
-    ensures certificate { (log : List ℕ) → AgreesWith R.Source reader.old reader.new log → IfOk result (Certifies MESSAGE_LIMIT config.now log) }
+    ensures certificate { (log : List ℕ) → AgreesWith R.Source reader.old reader.new log
+        → IfOk result (Certifies MESSAGE_LIMIT config.now log) }
 {
     run_lenient(alloc, config, Explainer { notation }, reader, writer)
 }
@@ -49,7 +52,7 @@ struct Explainer {
 impl Machine for Explainer {
     ghost use Rattle.std.specs.Prelude.{◌≡◌};
     ghost use Rattle.isotp_receive.specs.declared.TheConstants.{MESSAGE_LIMIT};
-    ghost use Rattle.trace_run.specs.Told.{answers_counts, tells_no_refusal};
+    ghost use Rattle.trace_run.specs.Told.{answers_counts, needs_none, tells_no_refusal};
     ghost use Rattle.trace_canon.specs.ExplainScript.{explain_script};
 
     type Answer = Summary;
@@ -62,7 +65,7 @@ impl Machine for Explainer {
 
     ghost answers = { λ start. answers_counts };
 
-    ghost needs = { λ start T e. ⊥ };
+    ghost needs = { λ start. needs_none };
 
     #[inline(always)]
     fn is_strict(&self) -> bool {

@@ -38,7 +38,8 @@ pub fn write_items<T: ItemText, R: Source, W: Target>(
 ) -> Result<Summary, Fault>
     requires reader { HasLowCounts R.Source reader.old }
     requires writer { IsLowCount (W.failures writer.old) }
-    ensures ran { RanOverItems R.Source W.Target (T.text text.now) MESSAGE_LIMIT config.now reader.old writer.old result reader.new writer.new }
+    ensures ran { RanOverItems R.Source W.Target (T.text text.now) MESSAGE_LIMIT
+        config.now reader.old writer.old result reader.new writer.new }
 {
     let session = session_of(alloc, config, reader)?;
     let items = &session.meaning;

@@ -24,7 +24,8 @@ pub fn list<R: Source, W: Target>(
 ) -> Result<Summary, Fault>
     requires reader { HasLowCounts R.Source reader.old }
     requires writer { IsLowCount (W.failures writer.old) }
-    ensures ran { RanOverItems R.Source W.Target (list_text style) MESSAGE_LIMIT config.now reader.old writer.old result reader.new writer.new }
+    ensures ran { RanOverItems R.Source W.Target (list_text style) MESSAGE_LIMIT
+        config.now reader.old writer.old result reader.new writer.new }
 {
     write_items(alloc, config, &style, reader, writer)
 }

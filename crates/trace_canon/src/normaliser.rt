@@ -37,11 +37,13 @@ pub fn normalise<R: Source, W: Target>(
 
     // What is answered and written, for each log with which the bytes that were read agree.
     ensures answer { (log : List ℕ) → AgreesWith R.Source reader.old reader.new log
-        → Answers MESSAGE_LIMIT config.now log (bytes_given R.Source reader.old reader.new) result (W.taken writer.old) (W.taken writer.new) }
+        → Answers MESSAGE_LIMIT config.now log (bytes_given R.Source reader.old reader.new)
+        result (W.taken writer.old) (W.taken writer.new) }
 
     // Before each read all is written whose place the lines so far decide.
     ensures eager { (log : List ℕ) → AgreesWith R.Source reader.old reader.new log
-        → WritesEagerly MESSAGE_LIMIT config.now log (bytes_given R.Source reader.old reader.new) (W.taken writer.old) (W.taken writer.new) }
+        → WritesEagerly MESSAGE_LIMIT config.now log (bytes_given R.Source reader.old reader.new)
+        (W.taken writer.old) (W.taken writer.new) }
 
     // What is written is accepted, is its own canonical log, and has the meaning of the log.
     ensures again { (log : List ℕ) → AgreesWith R.Source reader.old reader.new log
@@ -49,14 +51,17 @@ pub fn normalise<R: Source, W: Target>(
 
     // For a recording of messages their meaning's canonical log is written; and a summary that counts nothing dropped,
     // ended or unfinished certifies that the log is one.
-    ensures recording { (log : List ℕ) → AgreesWith R.Source reader.old reader.new log → OnOk result ((M : List Message) → Records MESSAGE_LIMIT config.now log M
+    ensures recording { (log : List ℕ) → AgreesWith R.Source reader.old reader.new log
+        → OnOk result ((M : List Message) → Records MESSAGE_LIMIT config.now log M
         → W.taken writer.new ≡ W.taken writer.old ++ canonical_log MESSAGE_LIMIT config.now (flattened (meaning M))) }
-    ensures certificate { (log : List ℕ) → AgreesWith R.Source reader.old reader.new log → IfOk result (λ summary. Certifies MESSAGE_LIMIT config.now log summary) }
+    ensures certificate { (log : List ℕ) → AgreesWith R.Source reader.old reader.new log
+        → IfOk result (λ summary. Certifies MESSAGE_LIMIT config.now log summary) }
 
     // Reading stops within one piece: of all bytes given but the last 4,096 none refuses the log, and of all where a read
     // failed.
     ensures near { (log : List ℕ) → AgreesWith R.Source reader.old reader.new log
-        → ReadsWhile (IsNotRefusedWithin MESSAGE_LIMIT config.now log) (bytes_given R.Source reader.old reader.new) (R.failures reader.old) (R.failures reader.new) }
+        → ReadsWhile (IsNotRefusedWithin MESSAGE_LIMIT config.now log)
+        (bytes_given R.Source reader.old reader.new) (R.failures reader.old) (R.failures reader.new) }
 
     // Memory is refused only for a log that needs it: for a message of several frames, or for one that is held.
     ensures memory { (log : List ℕ) → AgreesWith R.Source reader.old reader.new log

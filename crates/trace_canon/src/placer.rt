@@ -33,7 +33,9 @@ pub fn messages<R: Source, W: Target>(
     requires writer { IsLowCount (W.failures writer.old) }
 
     // What is answered and written; that it is written before more is read; and what was done with the devices.
-    ensures ran { RanLenient R.Source W.Target (command (placing_script notation MESSAGE_LIMIT) answers_counts needs_none) config.now reader.old writer.old result reader.new writer.new }
+    ensures ran { RanLenient R.Source W.Target
+        (command (placing_script notation MESSAGE_LIMIT) answers_counts needs_none)
+        config.now reader.old writer.old result reader.new writer.new }
 {
     let machine = Placer {
         notation,
@@ -53,7 +55,7 @@ impl Machine for Placer {
     ghost use Rattle.isotp_receive.specs.declared.TheConstants.{MESSAGE_LIMIT};
     ghost use Rattle.trace_canon.specs.proving.ReceptionStarts.{PlacesMessages};
     ghost use Rattle.trace_canon.specs.MessageLines.{placing_script};
-    ghost use Rattle.trace_run.specs.Told.{answers_counts, tells_no_refusal};
+    ghost use Rattle.trace_run.specs.Told.{answers_counts, needs_none, tells_no_refusal};
 
     type Answer = Summary;
 
@@ -65,7 +67,7 @@ impl Machine for Placer {
 
     ghost answers = { λ start. answers_counts };
 
-    ghost needs = { λ start T e. ⊥ };
+    ghost needs = { λ start. needs_none };
 
     #[inline(always)]
     fn is_strict(&self) -> bool {

@@ -35,7 +35,9 @@ pub fn watch<R: Source, W: Target>(
     requires writer { IsLowCount (W.failures writer.old) }
 
     // What is answered and written; that it is written before more is read; and what was done with the devices.
-    ensures ran { RanLenient R.Source W.Target (command (watching_script style) answers_counts (CompletesKept MESSAGE_LIMIT)) config.now reader.old writer.old result reader.new writer.new }
+    ensures ran { RanLenient R.Source W.Target
+        (command (watching_script style) answers_counts (CompletesKept MESSAGE_LIMIT))
+        config.now reader.old writer.old result reader.new writer.new }
 
     // At the end of the log that is the list of its meaning.
     ensures whole { (log : List ℕ) → AgreesWith R.Source reader.old reader.new log
@@ -133,8 +135,8 @@ impl<'a, S: TextSink> ItemSink for LineSink<'a, S> {
     ghost use Rattle.uds_exchange.specs.Judging.{one_more};
     ghost use Rattle.trace_text.specs.ListText.{item_line};
 
-    ghost takes = { λ s item t. (t.out.ghost_name ≡ s.out.ghost_name) × (t.number.ghost_name ≡ s.number.ghost_name) × (t.style ≡ s.style)
-        × (t.number.now ≡ one_more s.number.now) × S.says s.out.now (item_line s.style s.number.now item) t.out.now };
+    ghost takes = { λ s item t. (t.out.ghost_name ≡ s.out.ghost_name) × (t.number.ghost_name ≡ s.number.ghost_name)
+        × (t.style ≡ s.style) × (t.number.now ≡ one_more s.number.now) × S.says s.out.now (item_line s.style s.number.now item) t.out.now };
 
     fn put(&mut self, item: Item<'_>) {
         say_item(*self.number, self.style, item, self.out);
@@ -150,10 +152,12 @@ fn say_decided<S: TextSink>(
     out: &mut S,
     message: Judged<'_>,
 ) -> Result<(), AllocError>
-    ensures stands { OnOk result ((M : List Message) → decider.old ≡ decides_after M → IsJudgedAfter M message.entry → decider.new ≡ decides_after (M ++ sent message.entry ∷ [])) }
+    ensures stands { OnOk result ((M : List Message) → decider.old ≡ decides_after M → IsJudgedAfter M message.entry
+        → decider.new ≡ decides_after (M ++ sent message.entry ∷ [])) }
     ensures says { OnOk result ((M : List Message) → decider.old ≡ decides_after M → IsJudgedAfter M message.entry
         → SaysDecided S.says style M (sent message.entry) number.old out.old number.new out.new) }
-    ensures kept { OnErr result ((M : List Message) → decider.old ≡ decides_after M → IsJudgedAfter M message.entry → IsKept M (sent message.entry)) }
+    ensures kept { OnErr result ((M : List Message) → decider.old ≡ decides_after M → IsJudgedAfter M message.entry
+        → IsKept M (sent message.entry)) }
     ensures quiet { OnErr result (S.says out.old [] out.new) }
 {
     let mut sink = LineSink { out, number, style };

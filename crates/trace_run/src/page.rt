@@ -146,7 +146,8 @@ impl<'a, W: Target> TextSink for PageSink<'a, W> {
     ghost onward = { λ s m t a b one two. (
       two.0 ∙ one.0,
       two.1 ∙ one.1,
-      says_onward W.Target s.page.now.failed m.page.now.failed t.page.now.failed s.page.now.held m.page.now.held t.page.now.held s.target.now m.target.now t.target.now a b one.2 two.2,
+      says_onward W.Target s.page.now.failed m.page.now.failed t.page.now.failed s.page.now.held m.page.now.held
+          t.page.now.held s.target.now m.target.now t.target.now a b one.2 two.2,
     ) };
 
     #[inline(always)]
