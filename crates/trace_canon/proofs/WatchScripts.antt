@@ -20,7 +20,7 @@ use Rattle.trace_log.specs.Messages.{meaning_of_lines}
 use Rattle.trace_canon.specs.MemoryNeeded.{CompletesKept}
 use Rattle.trace_log.specs.Settings.{Settings}
 use Rattle.trace_log.specs.Summing.{summary_of}
-use Rattle.trace_run.specs.Told.{AnswersTold, answers_counts, told_after}
+use Rattle.trace_run.specs.Told.{AnswersTold, answers_counts, tells_no_refusal, told_after}
 use Rattle.trace_log.specs.Trace.{trace}
 use Rattle.trace_canon.specs.WatchScript.{decided_of, decided_by, text_behind, watching_script, WatchTellsDecided, WatchTellsTheList, WritesTheList}
 use Rattle.trace_canon.specs.proving.Watching.{SaysLines, SaysDecided, WatchesItems}
@@ -169,7 +169,7 @@ watch_tells_the_list style T summary =
 
 -- so where a run comes to the end of the log, that was written
 pub writes_the_list : (style : ItemStyle) (settings : Settings) (log : List ℕ) (given : ℕ) (result : Result Summary Fault) (old new : List ℕ)
-    → AnswersTold (watching_script style) answers_counts MESSAGE_LIMIT settings log given result old new → OnOk result (WritesTheList style MESSAGE_LIMIT settings log old new)
+    → AnswersTold (watching_script style) tells_no_refusal answers_counts MESSAGE_LIMIT settings log given result old new → OnOk result (WritesTheList style MESSAGE_LIMIT settings log old new)
 writes_the_list style settings log given (Ok summary) old new (all, meanings, is, counted, wrote) = (
   meaning_of_lines MESSAGE_LIMIT settings meanings,
   record { meanings = meanings; means = is.1; found = refl },

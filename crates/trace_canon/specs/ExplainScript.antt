@@ -53,5 +53,4 @@ explain_script notation limit = record {
   strict = false;
   word = λ T e. event_text notation e.line e.dir (verdict limit T e);
   last = λ T summary. end_text notation (receptions_after limit T) summary;
-  refused = λ T summary why. [];
 }

@@ -31,7 +31,6 @@ watching_script style = record {
   strict = false;
   word = λ T e. text_behind style T (decided_by T e);
   last = λ T summary. text_behind style T (undecided (messages MESSAGE_LIMIT T));
-  refused = λ T summary why. [];
 }
 
 -- what is told of the frames of a trace is the list of the items that they decide

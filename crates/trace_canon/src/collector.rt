@@ -121,7 +121,6 @@ fn has_place(step: Step) -> bool
 }
 
 impl Machine for Collector {
-    ghost use Rattle.trace_run.specs.Told.{tells_no_refusal};
     ghost use Rattle.isotp_receive.specs.declared.TheConstants.{MESSAGE_LIMIT};
     ghost use Rattle.isotp_receive.specs.Verdict.{messages};
     ghost use Rattle.trace_canon.specs.MemoryNeeded.{CompletesMessage};
@@ -133,8 +132,6 @@ impl Machine for Collector {
         Collects start.config (messages MESSAGE_LIMIT T) now.pairing now.length now.config };
 
     ghost script = { λ start. silent_script };
-
-    ghost refusal = { λ start. tells_no_refusal };
 
     ghost answers = { λ start. answers_session start.config };
 

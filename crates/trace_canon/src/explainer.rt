@@ -5,7 +5,7 @@ ghost use Rattle.isotp_receive.specs.declared.TheConstants.{MESSAGE_LIMIT};
 ghost use Rattle.trace_canon.specs.ExplainScript.{dropped_text, end_text, ended_text, event_text, unfinished_line};
 ghost use Rattle.trace_canon.specs.ExplainScript.{explain_script};
 ghost use Rattle.trace_log.specs.Laws.{Certifies};
-ghost use Rattle.trace_run.specs.Told.{RanLenient, answers_counts, command, needs_none};
+ghost use Rattle.trace_run.specs.Told.{RanLenient, answers_counts, command, needs_none, tells_no_refusal};
 ghost use Rattle.trace_io.specs.Counted.{IsLowCount};
 ghost use Rattle.trace_log.specs.Devices.{AgreesWith, HasLowCounts};
 
@@ -33,7 +33,7 @@ pub fn explain<R: Source, W: Target>(
 
     // What is answered and written; that it is written before more is read; and what was done with the devices.
     ensures ran { RanLenient R.Source W.Target
-        (command (explain_script notation MESSAGE_LIMIT) answers_counts needs_none)
+        (command (explain_script notation MESSAGE_LIMIT) tells_no_refusal answers_counts needs_none)
         config.now reader.old writer.old result reader.new writer.new }
 
     // Where nothing was dropped, ended or left unfinished, the log is a recording.
@@ -52,7 +52,7 @@ struct Explainer {
 impl Machine for Explainer {
     ghost use Rattle.std.specs.Prelude.{◌≡◌};
     ghost use Rattle.isotp_receive.specs.declared.TheConstants.{MESSAGE_LIMIT};
-    ghost use Rattle.trace_run.specs.Told.{answers_counts, needs_none, tells_no_refusal};
+    ghost use Rattle.trace_run.specs.Told.{answers_counts, needs_none};
     ghost use Rattle.trace_canon.specs.ExplainScript.{explain_script};
 
     type Answer = Summary;
@@ -60,8 +60,6 @@ impl Machine for Explainer {
     ghost stands = { λ start T now. now.notation ≡ start.notation };
 
     ghost script = { λ start. explain_script start.notation MESSAGE_LIMIT };
-
-    ghost refusal = { λ start. tells_no_refusal };
 
     ghost answers = { λ start. answers_counts };
 

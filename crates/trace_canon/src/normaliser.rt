@@ -92,7 +92,6 @@ pub(crate) struct Normaliser {
 }
 
 impl Machine for Normaliser {
-    ghost use Rattle.trace_run.specs.Told.{tells_no_refusal};
     ghost use Rattle.isotp_receive.specs.declared.TheConstants.{MESSAGE_LIMIT};
     ghost use Rattle.trace_canon.specs.MemoryNeeded.{CompletesHeld};
     ghost use Rattle.trace_canon.specs.CanonicalScript.{StandsCanonical, answers_canonical, canonical_script};
@@ -102,8 +101,6 @@ impl Machine for Normaliser {
     ghost stands = { λ start T now. StandsCanonical start.config T now.orderer now.config now.progress };
 
     ghost script = { λ start. canonical_script start.config };
-
-    ghost refusal = { λ start. tells_no_refusal };
 
     ghost answers = { λ start. answers_canonical start.config };
 

@@ -1,7 +1,7 @@
 //! `messages`: a machine that says each message with its place in the log, as it is delivered.
 ghost use Rattle.isotp_receive.specs.declared.TheConstants.{MESSAGE_LIMIT};
 ghost use Rattle.trace_canon.specs.MessageLines.{judged_at, placed_line, placed_text, placing_script};
-ghost use Rattle.trace_run.specs.Told.{RanLenient, answers_counts, command, needs_none};
+ghost use Rattle.trace_run.specs.Told.{RanLenient, answers_counts, command, needs_none, tells_no_refusal};
 ghost use Rattle.trace_io.specs.Counted.{IsLowCount};
 ghost use Rattle.trace_log.specs.Devices.{HasLowCounts};
 
@@ -34,7 +34,7 @@ pub fn messages<R: Source, W: Target>(
 
     // What is answered and written; that it is written before more is read; and what was done with the devices.
     ensures ran { RanLenient R.Source W.Target
-        (command (placing_script notation MESSAGE_LIMIT) answers_counts needs_none)
+        (command (placing_script notation MESSAGE_LIMIT) tells_no_refusal answers_counts needs_none)
         config.now reader.old writer.old result reader.new writer.new }
 {
     let machine = Placer {
@@ -55,15 +55,13 @@ impl Machine for Placer {
     ghost use Rattle.isotp_receive.specs.declared.TheConstants.{MESSAGE_LIMIT};
     ghost use Rattle.trace_canon.specs.proving.ReceptionStarts.{PlacesMessages};
     ghost use Rattle.trace_canon.specs.MessageLines.{placing_script};
-    ghost use Rattle.trace_run.specs.Told.{answers_counts, needs_none, tells_no_refusal};
+    ghost use Rattle.trace_run.specs.Told.{answers_counts, needs_none};
 
     type Answer = Summary;
 
     ghost stands = { λ start T now. PlacesMessages start.notation T now.notation now.begun };
 
     ghost script = { λ start. placing_script start.notation MESSAGE_LIMIT };
-
-    ghost refusal = { λ start. tells_no_refusal };
 
     ghost answers = { λ start. answers_counts };
 

@@ -6,7 +6,7 @@ ghost use Rattle.uds_exchange.specs.Judging.{IsJudgedAfter, sent};
 ghost use Rattle.uds_exchange.specs.Decided.{undecided};
 ghost use Rattle.uds_exchange.specs.Decider.{decides_after, IsKept};
 ghost use Rattle.trace_canon.specs.MemoryNeeded.{CompletesKept};
-ghost use Rattle.trace_run.specs.Told.{RanLenient, answers_counts, command};
+ghost use Rattle.trace_run.specs.Told.{RanLenient, answers_counts, command, tells_no_refusal};
 ghost use Rattle.trace_canon.specs.WatchScript.{watching_script, WritesTheList};
 ghost use Rattle.trace_canon.specs.proving.Watching.{SaysDecided, SaysLines};
 ghost use Rattle.trace_io.specs.Counted.{IsLowCount};
@@ -36,7 +36,7 @@ pub fn watch<R: Source, W: Target>(
 
     // What is answered and written; that it is written before more is read; and what was done with the devices.
     ensures ran { RanLenient R.Source W.Target
-        (command (watching_script style) answers_counts (CompletesKept MESSAGE_LIMIT))
+        (command (watching_script style) tells_no_refusal answers_counts (CompletesKept MESSAGE_LIMIT))
         config.now reader.old writer.old result reader.new writer.new }
 
     // At the end of the log that is the list of its meaning.
@@ -63,7 +63,7 @@ pub(crate) struct Watcher {
 impl Machine for Watcher {
     ghost use Rattle.isotp_receive.specs.declared.TheConstants.{MESSAGE_LIMIT};
     ghost use Rattle.trace_canon.specs.MemoryNeeded.{CompletesKept};
-    ghost use Rattle.trace_run.specs.Told.{answers_counts, tells_no_refusal};
+    ghost use Rattle.trace_run.specs.Told.{answers_counts};
     ghost use Rattle.trace_canon.specs.WatchScript.{watching_script};
     ghost use Rattle.trace_canon.specs.proving.Watching.{WatchesItems};
 
@@ -72,8 +72,6 @@ impl Machine for Watcher {
     ghost stands = { λ start T now. WatchesItems start.style T now.decider now.style now.number };
 
     ghost script = { λ start. watching_script start.style };
-
-    ghost refusal = { λ start. tells_no_refusal };
 
     ghost answers = { λ start. answers_counts };
 

@@ -8,7 +8,7 @@ use Rattle.trace_log.proofs.Promises.{has_own_frame}
 use Rattle.trace_log.specs.Needing.{HasFrame}
 use Rattle.trace_log.specs.Settings.{Settings}
 use Rattle.trace_log.specs.Summing.{summary_of}
-use Rattle.trace_run.specs.Told.{AnswersTold, IsUnreadFor, TellsNothing}
+use Rattle.trace_run.specs.Told.{AnswersTold, IsUnreadFor, TellsNothing, tells_no_refusal}
 use Rattle.trace_log.specs.Trace.{trace}
 use Rattle.trace_log.specs.declared.fault.Fault.{Fault}
 use Rattle.trace_log.specs.declared.fault.Fault.TheVariants.{BadLine, Oversize, LogLimit, OutputLimit, Read, Write, Memory}
@@ -26,7 +26,7 @@ use Rattle.trace_report.proofs.Steps.{span_next}
 
 -- nothing is told
 pub quiet_tells_nothing : TellsNothing quiet_script
-quiet_tells_nothing = record { of_frames = λ T e. refl; at_the_end = λ T summary. refl; of_refusals = λ T summary why. refl }
+quiet_tells_nothing = record { of_frames = λ T e. refl; at_the_end = λ T summary. refl }
 
 -- the times with one more frame
 pub span_goes_on : (T : List Entry) (e : Entry) (span : Span) (micros : ℕ) → Some span ≡ times_of T → e.micros ≡ micros
@@ -52,7 +52,7 @@ last_known (x ∷ T) span is = ap last_of_span is
 
 module _ (settings : Settings) (log : List ℕ) (given : ℕ) (old new : List ℕ) where
   -- what is answered of a log that can't be read
-  pub unread_so : (fault : Fault) → AnswersTold quiet_script answers_heard MESSAGE_LIMIT settings log given (Err fault) old new
+  pub unread_so : (fault : Fault) → AnswersTold quiet_script tells_no_refusal answers_heard MESSAGE_LIMIT settings log given (Err fault) old new
       → IsUnreadFor false MESSAGE_LIMIT settings log fault
   unread_so (BadLine line column) answered = answered.0
   unread_so (Oversize line announced) answered = answered.0
@@ -65,12 +65,12 @@ module _ (settings : Settings) (log : List ℕ) (given : ℕ) (old new : List �
   -- and of one that can, where this session is of what was heard
   pub read_so : (heard : Heard) (session : SessionValue)
       → ((T : List Entry) (summary : Summary) → IsHeardOf T summary heard → session ≡ session_of MESSAGE_LIMIT T summary)
-      → AnswersTold quiet_script answers_heard MESSAGE_LIMIT settings log given (Ok heard) old new → HoldsOne MESSAGE_LIMIT settings log (Ok session)
+      → AnswersTold quiet_script tells_no_refusal answers_heard MESSAGE_LIMIT settings log given (Ok heard) old new → HoldsOne MESSAGE_LIMIT settings log (Ok session)
   read_so heard session is (all, meanings, read, answer, wrote) =
       (meanings, read, is (trace settings meanings) (summary_of MESSAGE_LIMIT settings log meanings) answer)
 
   -- the log has a frame where a row of its end is there
-  pub has_own_where_held : (heard : Heard) → rows_in heard.last ≢ [] → AnswersTold quiet_script answers_heard MESSAGE_LIMIT settings log given (Ok heard) old new
+  pub has_own_where_held : (heard : Heard) → rows_in heard.last ≢ [] → AnswersTold quiet_script tells_no_refusal answers_heard MESSAGE_LIMIT settings log given (Ok heard) old new
       → HasOwnFrame settings log
   has_own_where_held heard some (all, meanings, read, answer, wrote) =
       has_own_frame settings log meanings read.1 (λ none. some (answer.last ∙ ap (λ (T : List Entry). end_rows MESSAGE_LIMIT T) none))

@@ -64,18 +64,13 @@ last_text title limit T summary =
 
 -- what is told where a log is refused for this reason, behind the frames T, with its cause by what is seen of the
 -- source. What is open there is neither unfinished nor without an answer: so no row is told of it.
-abbrev pub refused_text : PageTitle → ℕ → Refusal
-refused_text title limit T summary why source =
+abbrev pub refused_text : PageTitle → ℕ → GlimpseValue → Refusal
+refused_text title limit source T summary why =
     front_before title T ++ refused_end why (cause_of why title.most source) (blocks_of (rows_of limit T)) (tally_of (rows_of limit T)) summary (first_time T) (last_time 0 T)
 
--- the script of a report of a log of whose source this is seen where it is refused
-abbrev pub report_script : PageTitle → ℕ → GlimpseValue → Script
-report_script title limit source = record {
-  strict = false;
-  word = frame_text title limit;
-  last = last_text title limit;
-  refused = λ T summary why. refused_text title limit T summary why source;
-}
+-- the script of a report
+abbrev pub report_script : PageTitle → ℕ → Script
+report_script title limit = record { strict = false; word = frame_text title limit; last = last_text title limit }
 
 -- nothing is seen of a source
 abbrev pub nothing_seen : GlimpseValue

@@ -157,15 +157,12 @@ pub(crate) struct Keeper {
 impl Machine for Keeper {
     ghost use Rattle.std.specs.Prelude.{⊤};
     ghost use Rattle.trace_report.specs.proving.Heard.{Keeps, answers_heard, quiet_script};
-    ghost use Rattle.trace_run.specs.Told.{tells_no_refusal};
 
     type Answer = Heard;
 
     ghost stands = { λ start T now. Keeps T now };
 
     ghost script = { λ start. quiet_script };
-
-    ghost refusal = { λ start. tells_no_refusal };
 
     ghost answers = { λ start. answers_heard };
 

@@ -5,7 +5,7 @@ ghost use Rattle.isotp_receive.specs.Trace.{Entry};
 ghost use Rattle.trace_run.specs.Told.{RanLenient, answers_counts, command, glimpse_of, needs_none};
 ghost use Rattle.trace_io.specs.Counted.{IsLowCount};
 ghost use Rattle.trace_report.specs.Front.{page_title};
-ghost use Rattle.trace_report.specs.Page.{first_time, front_before, report_script};
+ghost use Rattle.trace_report.specs.Page.{first_time, front_before, refused_text, report_script};
 ghost use Rattle.trace_report.specs.proving.Following.{times_of};
 ghost use Rattle.trace_report.specs.proving.Pages.{title_of};
 ghost use Rattle.trace_log.specs.Devices.{HasLowCounts};
@@ -42,7 +42,11 @@ pub fn report<R: Source, W: Target>(
     requires writer { IsLowCount (W.failures writer.old) }
 
     // What is answered and written; that it is written before more is read; and what was done with the devices.
-    ensures ran { RanLenient R.Source W.Target (command (report_script (page_title style.now name.now config.now) MESSAGE_LIMIT (glimpse_of R.Source reader.new)) answers_counts needs_none) config.now reader.old writer.old result reader.new writer.new }
+    ensures ran { RanLenient R.Source W.Target
+        (command (report_script (page_title style.now name.now config.now) MESSAGE_LIMIT)
+        (refused_text (page_title style.now name.now config.now) MESSAGE_LIMIT (glimpse_of R.Source reader.new))
+        answers_counts needs_none)
+        config.now reader.old writer.old result reader.new writer.new }
 {
     let machine = Reporter {
         title: Title {
@@ -72,7 +76,7 @@ pub(crate) struct Reporter<'a> {
 impl<'a> Machine for Reporter<'a> {
     ghost use Rattle.isotp_receive.specs.declared.TheConstants.{MESSAGE_LIMIT};
     ghost use Rattle.trace_run.specs.Told.{answers_counts};
-    ghost use Rattle.trace_report.specs.Page.{nothing_seen, refused_text, report_script};
+    ghost use Rattle.trace_report.specs.Page.{refused_text, report_script};
     ghost use Rattle.trace_report.specs.proving.Following.{Reports};
     ghost use Rattle.trace_report.specs.proving.Pages.{title_of};
 
@@ -80,7 +84,7 @@ impl<'a> Machine for Reporter<'a> {
 
     ghost stands = { λ start T now. Reports (title_of start.title) T now };
 
-    ghost script = { λ start. report_script (title_of start.title) MESSAGE_LIMIT nothing_seen };
+    ghost script = { λ start. report_script (title_of start.title) MESSAGE_LIMIT };
 
     ghost refusal = { λ start. refused_text (title_of start.title) MESSAGE_LIMIT };
 

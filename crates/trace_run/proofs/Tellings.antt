@@ -29,7 +29,7 @@ use Rattle.trace_log.specs.Failing.{FailedIf}
 use Rattle.trace_log.specs.LinesRead.{counts_last, AreGiven, AreLinesRead, AreReadBefore, WritesTextOfRead}
 use Rattle.trace_log.specs.Settings.{Settings}
 use Rattle.trace_log.specs.Summing.{summary_of}
-use Rattle.trace_run.specs.Told.{WritesFrontOfTold, HasToldSome, FailsToTell, Answering, EndsWith, passing, IsReadToEnd, IsUnreadFor, StopsNothingWithin, WritesFrontOfWhole, Script, told_after, told, told_of_lines, refusal_of_lines, told_and_refusal_of_lines, is_told, WritesToldAndRefusal, whole_of_lines, AnswersTold, TellsEagerly}
+use Rattle.trace_run.specs.Told.{WritesFrontOfTold, HasToldSome, FailsToTell, Answering, EndsWith, passing, IsReadToEnd, IsUnreadFor, StopsNothingWithin, WritesFrontOfWhole, Script, Refusal, told_after, told, told_of_lines, refusal_of_lines, told_and_refusal_of_lines, is_told, WritesToldAndRefusal, whole_of_lines, AnswersTold, TellsEagerly}
 use Rattle.trace_log.specs.Trace.{trace, trace_from}
 use Rattle.std.specs.List.{AllByRecursion}
 use Rattle.can_log.specs.Scanning.{Standing}
@@ -229,11 +229,11 @@ told_some script limit settings log given meanings come some =
     record { meanings = read.0; read = read.1; some = omega arith }
 
 -- only a front of the text of the lines that were read was written
-front_of_read : (script : Script) (limit : ℕ) (settings : Settings) (log : List ℕ) (given : ℕ) (why : Fault) (meanings : List (Option Stamped)) (old new : List ℕ)
+front_of_read : (script : Script) (refusal : Refusal) (limit : ℕ) (settings : Settings) (log : List ℕ) (given : ℕ) (why : Fault) (meanings : List (Option Stamped)) (old new : List ℕ)
     → WritesTextOfRead (passing script.strict limit settings) (told_of_lines script settings) settings log given why [] (told_of_lines script settings meanings)
     → HasFront old (told_of_lines script settings meanings) new → 0 < length (told_of_lines script settings meanings)
-    → FailsToTell script limit settings log given old new
-front_of_read script limit settings log given why meanings old new read front some =
+    → FailsToTell script refusal limit settings log given old new
+front_of_read script refusal limit settings log given why meanings old new read front some =
     let come = had_come (passing script.strict limit settings) (counts_last why) (min given settings.max_bytes) log read.meanings read.read in
     inl (
       front_of_whole script limit settings log given fault.Write old new
@@ -242,17 +242,18 @@ front_of_read script limit settings log given why meanings old new read front so
     )
 
 -- only a front of what is told of a log that is refused was written
-front_of_refused : (script : Script) (limit : ℕ) (settings : Settings) (log : List ℕ) (given : ℕ) (why : Fault) (meanings : List (Option Stamped)) (old new : List ℕ)
+front_of_refused : (script : Script) (refusal : Refusal) (limit : ℕ) (settings : Settings) (log : List ℕ) (given : ℕ) (why : Fault) (meanings : List (Option Stamped)) (old new : List ℕ)
     → is_told why ≡ true → IsUnreadFor script.strict limit settings log why → AreReadBefore (passing script.strict limit settings) settings log given why meanings
-    → HasFront old (told_and_refusal_of_lines script limit settings why meanings) new → 0 < length (told_and_refusal_of_lines script limit settings why meanings)
-    → FailsToTell script limit settings log given old new
-front_of_refused script limit settings log given why meanings old new tells unread read front some = by (refusal_of_lines script limit settings why meanings) refl
+    → HasFront old (told_and_refusal_of_lines script refusal limit settings why meanings) new
+    → 0 < length (told_and_refusal_of_lines script refusal limit settings why meanings)
+    → FailsToTell script refusal limit settings log given old new
+front_of_refused script refusal limit settings log given why meanings old new tells unread read front some = by (refusal_of_lines refusal limit settings why meanings) refl
   where
-    by : (refusal : List ℕ) → refusal_of_lines script limit settings why meanings ≡ refusal → FailsToTell script limit settings log given old new
+    by : (text : List ℕ) → refusal_of_lines refusal limit settings why meanings ≡ text → FailsToTell script refusal limit settings log given old new
     by [] none =
         let lines = told_of_lines script settings meanings in
-        let same : told_and_refusal_of_lines script limit settings why meanings ≡ lines = ap (λ x. lines ++ x) none ∙ append-nil lines in
-        front_of_read script limit settings log given why meanings old new (record { meanings = meanings; read = read; wrote = refl }) (subst (λ text. HasFront old text new) same front)
+        let same : told_and_refusal_of_lines script refusal limit settings why meanings ≡ lines = ap (λ x. lines ++ x) none ∙ append-nil lines in
+        front_of_read script refusal limit settings log given why meanings old new (record { meanings = meanings; read = read; wrote = refl }) (subst (λ text. HasFront old text new) same front)
         (subst (λ (text : List ℕ). 0 < length text) same some)
     by (b ∷ rest) is = inr (record {
       why = why;
@@ -429,25 +430,21 @@ module _ {M W : Type 0} (stands : M → List Entry → M → Type 0) (scripts : 
         (stops.0, stops.1, stops.2, stops.3, stops.4 begun.fresh low)
 
     -- where a refusal is told so
-    module _ (refusal : M → List Entry → Summary → Fault → List ℕ) (new : W) where
-      -- the script of this machine then
-      abbrev pub ending : M → Script
-      ending first = record (scripts first) { refused = refusal first }
-
+    module _ (refusals : M → Refusal) (new : W) where
       -- how the run ends on a refusal that is told, after these lines
-      refuses : (why answer : Fault) (meanings : List (Option Stamped)) → TookLines ToldEvents start meanings now → RefusesTelling stands ending target why now.0 now.1 answer new
-          → SettlesWith (refusal_of_lines (ending start.0.telling.machine) MESSAGE_LIMIT settings why meanings) why target now.0.telling.page.failed now.0.telling.page.held now.1 answer new
+      refuses : (why answer : Fault) (meanings : List (Option Stamped)) → TookLines ToldEvents start meanings now → RefusesTelling stands refusals target why now.0 now.1 answer new
+          → SettlesWith (refusal_of_lines (refusals start.0.telling.machine) MESSAGE_LIMIT settings why meanings) why target now.0.telling.page.failed now.0.telling.page.held now.1 answer new
       refuses why answer meanings taken up =
           let told_so = gives meanings taken in
           up start.0.telling.machine settings meanings (has_received ToldEvents settings start now begun meanings taken) told_so.judged told_so.machine_stands
 
-      refuses_all : (why answer : Fault) (meanings : List (Option Stamped)) → TookLines ToldEvents start meanings now → RefusesTelling stands ending target why now.0 now.1 answer new
-          → EndsAs why target start.1 (told_and_refusal_of_lines (ending start.0.telling.machine) MESSAGE_LIMIT settings why meanings) answer new
+      refuses_all : (why answer : Fault) (meanings : List (Option Stamped)) → TookLines ToldEvents start meanings now → RefusesTelling stands refusals target why now.0 now.1 answer new
+          → EndsAs why target start.1 (told_and_refusal_of_lines (scripts start.0.telling.machine) (refusals start.0.telling.machine) MESSAGE_LIMIT settings why meanings) answer new
       refuses_all why answer meanings taken up =
           refuses why answer meanings taken up start.1 (told_of_lines (scripts start.0.telling.machine) settings meanings) (gives meanings taken).carried
 
       -- only more is written
-      pub more_given_up : (B : Type 0) (why answer : Fault) → FedSome start {A = B} (Err why) now → GivesUp stands ending target why now.0 now.1 answer new
+      pub more_given_up : (B : Type 0) (why answer : Fault) → FedSome start {A = B} (Err why) now → GivesUp stands refusals target why now.0 now.1 answer new
           → (mid : W) (said : List ℕ) → Carries target mid said now.0.telling.page.failed now.0.telling.page.held now.1 → Begins (target.taken mid) (target.taken new)
       more_given_up B (fault.BadLine line column) answer (meanings, taken) up mid said carries =
           more_at_fault (fault.BadLine line column) answer mid _ new (refuses (fault.BadLine line column) answer meanings taken up mid said carries)
@@ -461,12 +458,15 @@ module _ {M W : Type 0} (stands : M → List Entry → M → Type 0) (scripts : 
 
       -- what is answered on a fault of the lines
       pub told_of_fault : {B : Type 0} (replies : Answering B) (log : List ℕ) (given : ℕ) (why : Fault) (answer : Fault) (m : ℕ) → m ≡ settings.max_bytes
-          → Fed start m log given (Err why) now → GivesUp stands ending target why now.0 now.1 answer new
-          → AnswersTold (ending start.0.telling.machine) replies MESSAGE_LIMIT settings log given (Err answer) (target.taken start.1) (target.taken new)
+          → Fed start m log given (Err why) now → GivesUp stands refusals target why now.0 now.1 answer new
+          → AnswersTold (scripts start.0.telling.machine) (refusals start.0.telling.machine) replies MESSAGE_LIMIT settings log given (Err answer) (target.taken start.1) (target.taken new)
       told_of_fault replies log given why answer m is read up = by why (subst (λ k. Fed start k log given (Err why) now) is read) up
         where
           script : Script
-          script = ending start.0.telling.machine
+          script = scripts start.0.telling.machine
+
+          refusal : Refusal
+          refusal = refusals start.0.telling.machine
 
           text : List (Option Stamped) → List ℕ
           text = told_of_lines script settings
@@ -475,7 +475,7 @@ module _ {M W : Type 0} (stands : M → List Entry → M → Type 0) (scripts : 
           old = target.taken start.1
 
           Answers : Fault → Type 0
-          Answers f = AnswersTold script replies MESSAGE_LIMIT settings log given (Err f) old (target.taken new)
+          Answers f = AnswersTold script refusal replies MESSAGE_LIMIT settings log given (Err f) old (target.taken new)
 
           passes : Option Stamped → Bool
           passes = passing script.strict MESSAGE_LIMIT settings
@@ -492,18 +492,18 @@ module _ {M W : Type 0} (stands : M → List Entry → M → Type 0) (scripts : 
           -- a line or the limit refuses the log
           refused : (why : Fault) (meanings : List (Option Stamped)) → is_told why ≡ true → TookLines ToldEvents start meanings now
               → IsUnreadFor script.strict MESSAGE_LIMIT settings log why → AreReadBefore passes settings log given why meanings
-              → RefusesTelling stands ending target why now.0 now.1 answer new
-              → (WritesToldAndRefusal script MESSAGE_LIMIT settings log given why old (target.taken new) → Answers why) → Answers answer
+              → RefusesTelling stands refusals target why now.0 now.1 answer new
+              → (WritesToldAndRefusal script refusal MESSAGE_LIMIT settings log given why old (target.taken new) → Answers why) → Answers answer
           refused why meanings tells taken unread read up answers =
-              let all = told_and_refusal_of_lines script MESSAGE_LIMIT settings why meanings in
+              let all = told_and_refusal_of_lines script refusal MESSAGE_LIMIT settings why meanings in
               elim (refuses_all why answer meanings taken up) [
                 | inl well ↦ subst Answers (sym well.0) (answers (record { meanings = meanings; read = read; wrote = wrote all well.1 }))
                 | inr wrong ↦ subst Answers (sym wrong.0)
-                    (front_of_refused script MESSAGE_LIMIT settings log given why meanings old (target.taken new) tells unread read (front true all wrong.1) (wrong.1.spoke refl))
+                    (front_of_refused script refusal MESSAGE_LIMIT settings log given why meanings old (target.taken new) tells unread read (front true all wrong.1) (wrong.1.spoke refl))
               ]
 
           bad : (line column bytes : ℕ) (meanings : List (Option Stamped)) → IsBadBehind log line column meanings bytes → bytes ≤ settings.max_bytes → bytes ≤ given
-              → TookLines ToldEvents start meanings now → RefusesTelling stands ending target (fault.BadLine line column) now.0 now.1 answer new → Answers answer
+              → TookLines ToldEvents start meanings now → RefusesTelling stands refusals target (fault.BadLine line column) now.0 now.1 answer new → Answers answer
           bad line column bytes meanings place few come taken up =
               let passed = each meanings (gives meanings taken).within in
               let unread = unread_for_place settings log script.strict line column meanings bytes place few passed in
@@ -528,7 +528,7 @@ module _ {M W : Type 0} (stands : M → List Entry → M → Type 0) (scripts : 
                   record { meanings = meanings; read = read; wrote = wrote (text meanings) well.1 },
                 )
                 | inr wrong ↦ subst Answers (sym wrong.0)
-                    (front_of_read script MESSAGE_LIMIT settings log given (fault.Oversize line announced) meanings old (target.taken new)
+                    (front_of_read script refusal MESSAGE_LIMIT settings log given (fault.Oversize line announced) meanings old (target.taken new)
                     (record { meanings = meanings; read = read; wrote = refl }) (front true (text meanings) wrong.1) (wrong.1.spoke refl))
               ]
 
@@ -567,7 +567,7 @@ module _ {M W : Type 0} (stands : M → List Entry → M → Type 0) (scripts : 
               told_some script MESSAGE_LIMIT settings log given (meanings ++ what ∷ []) (came meanings what line place) (omega arith)
 
           by : (why : Fault) → Fed start settings.max_bytes log given (Err why) now
-              → GivesUp stands ending target why now.0 now.1 answer new → Answers answer
+              → GivesUp stands refusals target why now.0 now.1 answer new → Answers answer
           by (fault.BadLine line column) (meanings, taken, inl (few, refuses)) up =
               bad line column given meanings (bad_in_front log given line column meanings refuses) few (omega arith) taken up
           by (fault.BadLine line column) (meanings, taken, inr (short, all, place)) up =
@@ -591,7 +591,7 @@ module _ {M W : Type 0} (stands : M → List Entry → M → Type 0) (scripts : 
               let told_so = settled true meanings taken in
               let carries = subst (λ w. Carries target start.1 (text meanings) true [] w) (sym up.1) told_so.carried in
               subst Answers (sym up.0)
-              (front_of_read script MESSAGE_LIMIT settings log given fault.Read meanings old (target.taken new)
+              (front_of_read script refusal MESSAGE_LIMIT settings log given fault.Read meanings old (target.taken new)
               (writes_to_failed_read passes text settings log given meanings [] (text meanings) (take given log) (drop given log) standing stood
               (sym (take-append-drop given log)) (each meanings told_so.within) refl (length-take-le given log inside) few) (front true (text meanings) carries) (carries.spoke refl))
           by fault.OutputLimit read up = absurd read
@@ -608,7 +608,7 @@ module _ {M W : Type 0} (stands : M → List Entry → M → Type 0) (scripts : 
       -- what is known of the devices then
       -- a frame of the log needed memory, where it was refused
       pub needed : (log : List ℕ) (given : ℕ) (why : Fault) (answer : Fault) (m : ℕ) → m ≡ settings.max_bytes
-          → Fed start m log given (Err why) now → GivesUp stands ending target why now.0 now.1 answer new → answer ≡ fault.Memory
+          → Fed start m log given (Err why) now → GivesUp stands refusals target why now.0 now.1 answer new → answer ≡ fault.Memory
           → HasFrame (λ T e. IsKeptForMessage MESSAGE_LIMIT T e ⊎ needs start.0.telling.machine T e) settings log
       needed log given why answer m is read up refused = by why (subst (λ k. Fed start k log given (Err why) now) is read) up
         where
@@ -620,7 +620,7 @@ module _ {M W : Type 0} (stands : M → List Entry → M → Type 0) (scripts : 
           other name said apart (inr wrong) = absurd (cc (wrong.0, refused))
 
           by : (why : Fault) → Fed start settings.max_bytes log given (Err why) now
-              → GivesUp stands ending target why now.0 now.1 answer new → Needed
+              → GivesUp stands refusals target why now.0 now.1 answer new → Needed
           by fault.Memory (meanings, what, line_stopped, place) up =
               let halted = halts meanings what fault.Memory line_stopped in
               has_frame (λ T e. IsKeptForMessage MESSAGE_LIMIT T e ⊎ needs start.0.telling.machine T e) settings log given meanings what halted.0 halted.1 place halted.2 halted.3 halted.4.reason.1
@@ -636,7 +636,7 @@ module _ {M W : Type 0} (stands : M → List Entry → M → Type 0) (scripts : 
           by fault.Write read up = absurd (cc (up.0, refused))
 
       pub known : (B : Type 0) (why : Fault) (answer : Fault) → FedSome start {A = B} (Err why) now
-          → GivesUp stands ending target why now.0 now.1 answer new
+          → GivesUp stands refusals target why now.0 now.1 answer new
           → (said : List ℕ) × (failed : Bool) × Carries target start.1 said failed [] new × IsOutcomeOf failed answer × IsReadOnly why answer
       known B why answer takes up = by why takes up
         where
@@ -648,7 +648,7 @@ module _ {M W : Type 0} (stands : M → List Entry → M → Type 0) (scripts : 
           on name said apart other (inr wrong) = (said, true, wrong.1, wrong.0, subst (λ f. f ≢ fault.Read) (sym wrong.0) (λ is. absurd (cc is)))
 
           by : (why : Fault) → FedSome start {A = B} (Err why) now
-              → GivesUp stands ending target why now.0 now.1 answer new
+              → GivesUp stands refusals target why now.0 now.1 answer new
               → (said : List ℕ) × (failed : Bool) × Carries target start.1 said failed [] new × IsOutcomeOf failed answer × IsReadOnly why answer
           by (fault.BadLine line column) (meanings, taken) up =
               on (fault.BadLine line column) _ (λ is. absurd (cc is)) (λ is. absurd (cc is)) (refuses_all (fault.BadLine line column) answer meanings taken up)
@@ -676,25 +676,6 @@ module _ {M W : Type 0} (stands : M → List Entry → M → Type 0) (scripts : 
               (up start.1 _ (halts meanings what (fault.Oversize place announced) line).4.carried)
           by fault.Memory (meanings, what, line) up =
               on fault.Memory (told_of_lines (scripts start.0.telling.machine) settings meanings) (λ is. absurd (cc is)) (λ is. absurd (cc is)) (up start.1 _ (halts meanings what fault.Memory line).4.carried)
-
--- what is told eagerly stays so, whatever is told of a refusal
-pub eagerly_with : (script : Script) (refused : List Entry → Summary → Fault → List ℕ) (limit : ℕ) (settings : Settings) (log : List ℕ) (given : ℕ) (old new : List ℕ)
-    → TellsEagerly script limit settings log given old new → TellsEagerly (record script { refused = refused }) limit settings log given old new
-eagerly_with script refused limit settings log given old new eager =
-    record { meanings = eager.meanings; read = eager.read; more = eager.more; wrote = eager.wrote }
-
--- and so does the end
-pub ends_with : {A W : Type 0} (target : Ghosts W) (script : Script) (refused : List Entry → Summary → Fault → List ℕ) (answers : Answering A) (start : W) (settings : Settings) (log : List ℕ)
-    (meanings : List (Option Stamped)) (result : Result A Fault) (new : W)
-    → EndsTelling target script answers start settings log meanings result new → EndsTelling target (record script { refused = refused }) answers start settings log meanings result new
-ends_with target script refused answers start settings log meanings (Ok value) new ends = ends
-ends_with target script refused answers start settings log meanings (Err fault.OutputLimit) new ends = ends
-ends_with target script refused answers start settings log meanings (Err fault.Write) new ends = ends
-ends_with target script refused answers start settings log meanings (Err fault.Read) new ends = ends
-ends_with target script refused answers start settings log meanings (Err fault.Memory) new ends = ends
-ends_with target script refused answers start settings log meanings (Err fault.LogLimit) new ends = ends
-ends_with target script refused answers start settings log meanings (Err (fault.BadLine line column)) new ends = ends
-ends_with target script refused answers start settings log meanings (Err (fault.Oversize line announced)) new ends = ends
 
 -- so the fault of the target is answered exactly where it failed
 pub fails_so : {A W : Type 0} (target : Ghosts W) (start new : W) (answer : Fault) (said : List ℕ) (failed : Bool) → Carries target start said failed [] new → IsOutcomeOf failed answer
@@ -730,11 +711,11 @@ reads_so fault.Memory answer before after counts apart = reads_other answer befo
 
 module _ {A W : Type 0} (target : Ghosts W) (script : Script) (answers : Answering A) (start new : W) (settings : Settings) where
   -- what it answers at the end of the log
-  pub told_at_the_end : (log : List ℕ) (given : ℕ) (meanings : List (Option Stamped)) (result : Result A Fault) → length log ≤ settings.max_bytes
+  pub told_at_the_end : (refusal : Refusal) (log : List ℕ) (given : ℕ) (meanings : List (Option Stamped)) (result : Result A Fault) → length log ≤ settings.max_bytes
       → given ≡ length log → LogMeans log meanings → (script.strict ≡ true → AllByRecursion AnnouncesWithin (trace settings meanings))
       → EndsTelling target script answers start settings log meanings result new
-      → AnswersTold script answers MESSAGE_LIMIT settings log given result (target.taken start) (target.taken new)
-  told_at_the_end log given meanings result short all means within = by result
+      → AnswersTold script refusal answers MESSAGE_LIMIT settings log given result (target.taken start) (target.taken new)
+  told_at_the_end refusal log given meanings result short all means within = by result
     where
       each : EachPasses (passing script.strict MESSAGE_LIMIT settings) meanings
       each = all_pass script.strict settings meanings within
@@ -750,7 +731,7 @@ module _ {A W : Type 0} (target : Ghosts W) (script : Script) (answers : Answeri
       )
 
       by : (result : Result A Fault) → EndsTelling target script answers start settings log meanings result new
-          → AnswersTold script answers MESSAGE_LIMIT settings log given result (target.taken start) (target.taken new)
+          → AnswersTold script refusal answers MESSAGE_LIMIT settings log given result (target.taken start) (target.taken new)
       by (Ok value) ends = with_answer (Ok value) ends
       by (Err fault.OutputLimit) ends = with_answer (Err end_stop.OutputLimit) ends
       by (Err fault.Write) ends =

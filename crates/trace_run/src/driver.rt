@@ -1,5 +1,5 @@
 //! A log told by a machine: where a run reads, writes and fails.
-ghost use Rattle.std.specs.Prelude.{◌≡◌, ℕ, List, [], length, Err, Option, false};
+ghost use Rattle.std.specs.Prelude.{◌≡◌, ℕ, List, [], Err, Option, false};
 ghost use Rattle.can_log.specs.declared.frame.Stamped.{Stamped as StampedValue};
 ghost use Rattle.isotp_receive.specs.Trace.{Entry};
 ghost use Rattle.trace_io.specs.Counted.{IsLowCount};
@@ -10,7 +10,7 @@ ghost use Rattle.trace_log.specs.proving.Receiving.{Receives};
 ghost use Rattle.trace_log.specs.Settings.{Settings};
 ghost use Rattle.trace_log.specs.Summing as Spec;
 ghost use Rattle.trace_run.specs.Seen.{glimpse_value};
-ghost use Rattle.trace_run.specs.Told.{Ran, RanLenient, command, glimpse_of, with_refusal};
+ghost use Rattle.trace_run.specs.Told.{Ran, RanLenient, command, glimpse_of};
 ghost use Rattle.trace_log.specs.Trace.{trace};
 ghost use Rattle.trace_run.specs.declared.machine.Stop.TheVariants.{OutputLimit};
 ghost use Rattle.trace_log.specs.declared.summary.Summary.{Summary as SummaryValue};
@@ -39,7 +39,7 @@ pub fn run<M: Machine + Drop, R: Source, W: Target>(
     requires reader { HasLowCounts R.Source reader.old }
     requires writer { IsLowCount (W.failures writer.old) }
     ensures ran { Ran R.Source W.Target
-        (command (with_refusal (M.script machine) (M.refusal machine) (glimpse_of R.Source reader.new))
+        (command (M.script machine) (M.refusal machine (glimpse_of R.Source reader.new))
         (M.answers machine) (M.needs machine))
         config.now reader.old writer.old result reader.new writer.new }
 {
@@ -65,7 +65,7 @@ pub fn run_lenient<M: Machine + Drop, R: Source, W: Target>(
     requires reader { HasLowCounts R.Source reader.old }
     requires writer { IsLowCount (W.failures writer.old) }
     ensures ran { RanLenient R.Source W.Target
-        (command (with_refusal (M.script machine) (M.refusal machine) (glimpse_of R.Source reader.new))
+        (command (M.script machine) (M.refusal machine (glimpse_of R.Source reader.new))
         (M.answers machine) (M.needs machine))
         config.now reader.old writer.old result reader.new writer.new }
 {
@@ -81,7 +81,7 @@ fn give_up<M: Machine + Drop, W: Target>(
     target: &mut W,
 ) -> Fault
     ensures { GivesUp M.stands
-        (λ machine_start. with_refusal (M.script machine_start) (M.refusal machine_start) (glimpse_value source.entry))
+        (λ machine_start. M.refusal machine_start (glimpse_value source.entry))
         W.Target fault receiver target.old result target.new }
 {
     match fault {
@@ -114,7 +114,7 @@ fn refuse<M: Machine, W: Target>(
     target: &mut W,
 ) -> Fault
     ensures { RefusesTelling M.stands
-        (λ machine_start. with_refusal (M.script machine_start) (M.refusal machine_start) (glimpse_value source.entry))
+        (λ machine_start. M.refusal machine_start (glimpse_value source.entry))
         W.Target why receiver target.old result target.new }
 {
     let summary = receiver.summary(false);

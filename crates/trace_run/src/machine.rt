@@ -5,7 +5,7 @@ ghost use Rattle.isotp_receive.specs.Capacities.{KeepsWithin};
 ghost use Rattle.isotp_receive.specs.StandingReception.{receptions_after};
 ghost use Rattle.isotp_receive.specs.Trace.{Entry};
 ghost use Rattle.trace_run.specs.Seen.{IsSeen, glimpse_value};
-ghost use Rattle.trace_run.specs.Told.{Refusal, Script};
+ghost use Rattle.trace_run.specs.Told.{GlimpseValue, Refusal, Script, tells_no_refusal};
 ghost use Rattle.trace_run.specs.declared.machine.Stop.{Stop as StopValue};
 ghost use Rattle.trace_log.specs.declared.fault.Fault.TheVariants.{OutputLimit};
 ghost use Rattle.trace_log.specs.declared.summary.Summary.{Summary as SummaryValue};
@@ -81,12 +81,11 @@ pub trait Machine {
     /// What it is after a trace, by what it was at the start.
     ghost stands: { Self → List Entry → Self → Type 0 };
 
-    /// What it says, by what it was at the start. Of a refusal a run takes what `refusal` says, and not what this has of
-    /// one.
+    /// What it says, by what it was at the start.
     ghost script: { Self → Script };
 
-    /// What it says where the log is refused, by what it was at the start.
-    ghost refusal: { Self → Refusal };
+    /// What it says where the log is refused, by what it was at the start, and by what is then seen of the source.
+    ghost refusal: { Self → GlimpseValue → Refusal } = { λ _ _. tells_no_refusal };
 
     /// What it may answer at the end of a trace with these counts, by what it was at the start.
     ghost answers: { Self → List Entry → SummaryValue → Result Self.Answer StopValue → Type 0 };
@@ -127,5 +126,5 @@ pub trait Machine {
     /// what is seen of the source. No event and no end follows. The counts are those of a log that ends in no line feed.
     fn refused<S: TextSink>(self, summary: &Summary, why: Fault, source: Glimpse<'_>, out: &mut S)
         ensures says { (machine_start : Self) (T : List Entry) → stands machine_start T self
-            → S.says out.old (refusal machine_start T summary.now why (glimpse_value source.entry)) out.new };
+            → S.says out.old (refusal machine_start (glimpse_value source.entry) T summary.now why) out.new };
 }

@@ -211,7 +211,7 @@ pub(crate) fn tell_refusal<M: Machine, W: Target>(
 )
     ensures says { (machine_start : M) (T : List Entry) → M.stands machine_start T machine
         → SaysToPage W.Target page.old target.old
-        (M.refusal machine_start T summary.now why (glimpse_value source.entry)) page.new target.new }
+        (M.refusal machine_start (glimpse_value source.entry) T summary.now why) page.new target.new }
 {
     let mut out = PageSink { target, page };
     machine.refused(summary, why, source, &mut out);

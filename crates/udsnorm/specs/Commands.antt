@@ -21,7 +21,7 @@ use Rattle.trace_log.specs.Needing.{HasFrame, IsKeptForMessage, NeedsMemoryToRec
 use Rattle.trace_canon.specs.MemoryNeeded.{CompletesKept, NeedsMemoryToCollect, NeedsMemoryToOrder}
 use Rattle.trace_log.specs.Refusal.{HasNoBadPlaceWithin, IsNotRefusedWithin}
 use Rattle.trace_log.specs.Settings.{Settings}
-use Rattle.trace_run.specs.Told.{GlimpseValue, Script, AnswersTold, RanLenient, TellsEagerly, answers_counts, command, needs_none}
+use Rattle.trace_run.specs.Told.{GlimpseValue, Script, Refusal, AnswersTold, RanLenient, TellsEagerly, answers_counts, command, needs_none, tells_no_refusal}
 use Rattle.trace_canon.specs.WatchScript.{watching_script}
 use Rattle.trace_canon.specs.declared.comparing.Compared.{Compared}
 use Rattle.trace_canon.specs.declared.comparison_text.ComparisonStyle.{ComparisonStyle}
@@ -37,7 +37,7 @@ use Rattle.trace_io.specs.declared.device.Target.{Ghosts as TargetGhosts}
 use Rattle.trace_difference.specs.Written.{difference_text}
 use Rattle.trace_report.specs.Front.{page_title}
 use Rattle.trace_report.specs.Held.{HasOwnFrame, HoldsTwo, TwoValue, comparison_in}
-use Rattle.trace_report.specs.Page.{report_script}
+use Rattle.trace_report.specs.Page.{refused_text, report_script}
 use Rattle.trace_report.specs.PairPage.{cause_of_pair, held_page, pair_page, pair_title}
 use Rattle.udsnorm.specs.Ending.{has_unclean}
 use Rattle.udsnorm.specs.Status.{is_refusal}
@@ -141,22 +141,23 @@ command_entries =
 
 -- What is known of the call that does a job over one log: it is `normalise`, or writes a text of the items of the
 -- meaning, or of the pairs of identifiers, at the end; or it is the run of a machine, of which all is known by its
--- script and by the frames for which the machine needs memory. A page's script is in some style.
+-- script and by the frames for which the machine needs memory. A page's script is in some style, and so is what it
+-- tells of a refusal, of which the others tell nothing.
 pub data Engine : Type 1 where
   normalises : Engine
   writes : TextOfItems → Engine
   finds : Notation → Engine
   runs : (ℕ → Script) → (ℕ → List Entry → Entry → Type 0) → Engine
-  runs_in_style : (List ℕ → Settings → ℕ → Script) → Engine
+  runs_in_style : (List ℕ → Settings → ℕ → Script) → (List ℕ → Settings → ℕ → Refusal) → Engine
 
 -- what it answers, and what it then writes
 abbrev pub answers_of : Engine → ℕ → Settings → List ℕ → ℕ → Result Summary Fault → List ℕ → List ℕ → Type 0
 answers_of normalises limit settings log given result old new = Answers limit settings log given result old new
 answers_of (writes text) limit settings log given result old new = WritesItems text limit settings log result old new
 answers_of (finds notation) limit settings log given result old new = Finds notation settings log result old new
-answers_of (runs script needs) limit settings log given result old new = AnswersTold (script limit) answers_counts limit settings log given result old new
-answers_of (runs_in_style script) limit settings log given result old new =
-    (style : List ℕ) × AnswersTold (script style settings limit) answers_counts limit settings log given result old new
+answers_of (runs script needs) limit settings log given result old new = AnswersTold (script limit) tells_no_refusal answers_counts limit settings log given result old new
+answers_of (runs_in_style script refusal) limit settings log given result old new =
+    (style : List ℕ) × AnswersTold (script style settings limit) (refusal style settings limit) answers_counts limit settings log given result old new
 
 -- What it has written of a log of which so many bytes were given: at least all that is told of the lines that had ended
 -- among all of these but the last 4,096, as many as one read may bring. So whoever follows a session sees its messages
@@ -166,7 +167,7 @@ tells_eagerly_of normalises limit settings log given old new = WritesEagerly lim
 tells_eagerly_of (writes text) limit settings log given old new = ⊤
 tells_eagerly_of (finds notation) limit settings log given old new = ⊤
 tells_eagerly_of (runs script needs) limit settings log given old new = TellsEagerly (script limit) limit settings log given old new
-tells_eagerly_of (runs_in_style script) limit settings log given old new =
+tells_eagerly_of (runs_in_style script refusal) limit settings log given old new =
     (style : List ℕ) × TellsEagerly (script style settings limit) limit settings log given old new
 
 -- nothing refuses the log for it among so many of its bytes; no length that is announced does this for one that is
@@ -176,7 +177,7 @@ unrefused_of normalises limit settings log = IsNotRefusedWithin limit settings l
 unrefused_of (writes text) limit settings log = IsNotRefusedWithin limit settings log
 unrefused_of (finds notation) limit settings log = HasNoBadPlaceWithin log
 unrefused_of (runs script needs) limit settings log = HasNoBadPlaceWithin log
-unrefused_of (runs_in_style script) limit settings log = HasNoBadPlaceWithin log
+unrefused_of (runs_in_style script refusal) limit settings log = HasNoBadPlaceWithin log
 
 -- The log needs memory for it: it has a frame whose bytes are kept for a message of several, or one that completes a
 -- message which the engine keeps; or, for `find`, an answer that is credited.
@@ -185,7 +186,7 @@ needs_of normalises limit settings log = NeedsMemoryToOrder limit settings log
 needs_of (writes text) limit settings log = NeedsMemoryToCollect limit settings log
 needs_of (finds notation) limit settings log = NeedsMemoryToFind log
 needs_of (runs script needs) limit settings log = HasFrame (λ T e. IsKeptForMessage limit T e ⊎ needs limit T e) settings log
-needs_of (runs_in_style script) limit settings log = NeedsMemoryToReceive limit settings log
+needs_of (runs_in_style script refusal) limit settings log = NeedsMemoryToReceive limit settings log
 
 -- What is known of a run of any engine: what was answered and written, that it was written before more was read, that
 -- memory was refused only for a log that needs it, how near to what refuses the log it stopped reading, and what it did with its devices.
@@ -205,8 +206,8 @@ abbrev pub RanBy : {R W : Type 0} → SourceGhosts R → TargetGhosts W → Engi
 RanBy source target normalises settings = RanAny source target normalises MESSAGE_LIMIT settings
 RanBy source target (writes text) settings = RanOverItems source target text MESSAGE_LIMIT settings
 RanBy source target (finds notation) settings = RanToFind source target notation settings
-RanBy source target (runs script needs) settings = RanLenient source target (command (script MESSAGE_LIMIT) answers_counts (needs MESSAGE_LIMIT)) settings
-RanBy source target (runs_in_style script) settings = RanAny source target (runs_in_style script) MESSAGE_LIMIT settings
+RanBy source target (runs script needs) settings = RanLenient source target (command (script MESSAGE_LIMIT) tells_no_refusal answers_counts (needs MESSAGE_LIMIT)) settings
+RanBy source target (runs_in_style script refusal) settings = RanAny source target (runs_in_style script refusal) MESSAGE_LIMIT settings
 
 -- the engine that does this job over one log, which has this name on a page, and of whose source this is seen where it is
 -- refused
@@ -216,7 +217,9 @@ engine_of (job.List style) name seen = writes (list_text style)
 engine_of (job.Watch style) name seen = runs (λ limit. watching_script style) CompletesKept
 engine_of (job.Explain notation) name seen = runs (explain_script notation) (λ limit. needs_none)
 engine_of (job.Messages notation) name seen = runs (placing_script notation) (λ limit. needs_none)
-engine_of job.Report name seen = runs_in_style (λ style settings limit. report_script (page_title style name settings) limit seen)
+engine_of job.Report name seen =
+    runs_in_style (λ style settings limit. report_script (page_title style name settings) limit)
+    (λ style settings limit. refused_text (page_title style name settings) limit seen)
 engine_of (job.Find notation) name seen = finds notation
 
 -- what it answers, and what it writes

@@ -12,7 +12,7 @@ use Rattle.trace_report.specs.proving.Following.{Follows, rows_in, times_of}
 
 -- nothing is said
 abbrev pub quiet_script : Script
-quiet_script = record { strict = false; word = λ T e. []; last = λ T summary. []; refused = λ T summary why. [] }
+quiet_script = record { strict = false; word = λ T e. []; last = λ T summary. [] }
 
 -- the rows of the frames T are kept
 pub record Keeps (T : List Entry) (keeper : Keeper) : Type 0 where

@@ -16,7 +16,7 @@ use Rattle.uds_exchange.specs.Judging.{IsJudgeOf}
 use Rattle.trace_log.specs.proving.Receiving.{Receives}
 use Rattle.trace_log.specs.Settings.{Settings}
 use Rattle.trace_log.specs.Summing.{summary_of}
-use Rattle.trace_run.specs.Told.{Script, Answering, refusal_of_lines, whole_of_lines}
+use Rattle.trace_run.specs.Told.{Script, Refusal, Answering, refusal_of_lines, whole_of_lines}
 use Rattle.trace_run.specs.proving.Carrying.{Carries}
 
 -- since this start this was said, and is written before the fault with this name; or that failed, which is then the fault
@@ -39,23 +39,23 @@ SettlesWith {W = W} text name target failed held old result new =
     (start : W) (said : List ℕ) → Carries target start said failed held old → EndsAs name target start (said ++ text) result new
 
 -- a run ends on a refusal that is told: whatever lines it has taken, what is told of it is said and written
-abbrev pub RefusesTelling : {M W : Type 0} → (M → List Entry → M → Type 0) → (M → Script) → Ghosts W → Fault → Receiver M W → W → Fault → W → Type 0
-RefusesTelling {M = M} stands scripts target why receiver old result new =
+abbrev pub RefusesTelling : {M W : Type 0} → (M → List Entry → M → Type 0) → (M → Refusal) → Ghosts W → Fault → Receiver M W → W → Fault → W → Type 0
+RefusesTelling {M = M} stands refusals target why receiver old result new =
     (first : M) (settings : Settings) (meanings : List (Option Stamped)) → Receives settings meanings receiver.pair receiver.lines receiver.counts
     → IsJudgeOf (messages MESSAGE_LIMIT (trace settings meanings)) receiver.telling.judge → stands first (trace settings meanings) receiver.telling.machine
-    → SettlesWith (refusal_of_lines (scripts first) MESSAGE_LIMIT settings why meanings) why target receiver.telling.page.failed receiver.telling.page.held old result new
+    → SettlesWith (refusal_of_lines (refusals first) MESSAGE_LIMIT settings why meanings) why target receiver.telling.page.failed receiver.telling.page.held old result new
 
 -- how a run ends on a fault, with what it has taken: that of a device stands as it is, and before others all that is
 -- said is written
-abbrev pub GivesUp : {M W : Type 0} → (M → List Entry → M → Type 0) → (M → Script) → Ghosts W → Fault → Receiver M W → W → Fault → W → Type 0
-GivesUp stands scripts target (fault.BadLine line column) receiver old result new = RefusesTelling stands scripts target (fault.BadLine line column) receiver old result new
-GivesUp stands scripts target fault.LogLimit receiver old result new = RefusesTelling stands scripts target fault.LogLimit receiver old result new
-GivesUp stands scripts target (fault.Oversize line announced) receiver old result new =
+abbrev pub GivesUp : {M W : Type 0} → (M → List Entry → M → Type 0) → (M → Refusal) → Ghosts W → Fault → Receiver M W → W → Fault → W → Type 0
+GivesUp stands refusals target (fault.BadLine line column) receiver old result new = RefusesTelling stands refusals target (fault.BadLine line column) receiver old result new
+GivesUp stands refusals target fault.LogLimit receiver old result new = RefusesTelling stands refusals target fault.LogLimit receiver old result new
+GivesUp stands refusals target (fault.Oversize line announced) receiver old result new =
     SettlesPageAs (fault.Oversize line announced) target receiver.telling.page old result new
-GivesUp stands scripts target fault.OutputLimit receiver old result new = SettlesPageAs fault.OutputLimit target receiver.telling.page old result new
-GivesUp stands scripts target fault.Memory receiver old result new = SettlesPageAs fault.Memory target receiver.telling.page old result new
-GivesUp stands scripts target fault.Read receiver old result new = (result ≡ fault.Read) × (new ≡ old)
-GivesUp stands scripts target fault.Write receiver old result new = (result ≡ fault.Write) × (new ≡ old)
+GivesUp stands refusals target fault.OutputLimit receiver old result new = SettlesPageAs fault.OutputLimit target receiver.telling.page old result new
+GivesUp stands refusals target fault.Memory receiver old result new = SettlesPageAs fault.Memory target receiver.telling.page old result new
+GivesUp stands refusals target fault.Read receiver old result new = (result ≡ fault.Read) × (new ≡ old)
+GivesUp stands refusals target fault.Write receiver old result new = (result ≡ fault.Write) × (new ≡ old)
 
 -- a run ends with this answer of the machine, and all that it told was written
 abbrev pub EndsSaying : {A W : Type 0} → Ghosts W → Script → Answering A → W → Settings → List ℕ → List (Option Stamped) → Result A Stop → W → Type 0
