@@ -15,7 +15,8 @@ use Rattle.trace_log.specs.ReadAs.{IsReadAs}
 use Rattle.trace_text.specs.Json.{Members, nothing, member, object_line}
 use Rattle.trace_text.specs.Json as json
 use Rattle.trace_log.specs.Needing.{BeginsWithLines}
-use Rattle.trace_canon.specs.WrittenAtEnd.{RanOnce, WritesOnce}
+use Rattle.trace_canon.specs.ReadOnly.{Reading}
+use Rattle.trace_canon.specs.WrittenAtEnd.{RanOnce, TextOfLog, WritesOnce}
 use Rattle.trace_log.specs.Refusal.{HasNoBadPlaceWithin}
 use Rattle.trace_io.specs.declared.device.Source.{Ghosts as SourceGhosts}
 use Rattle.trace_io.specs.declared.device.Target.{Ghosts as TargetGhosts}
@@ -83,7 +84,19 @@ pairs_text notation pairs = flat_map (pair_line notation) pairs
 abbrev pub Finds : Notation → Settings → List ℕ → Result Summary Fault → List ℕ → List ℕ → Type 0
 Finds notation settings log = WritesOnce (pairs_text notation) (IsFoundIn settings log) (IsUnheardFor settings log)
 
--- the run that writes them, which needs memory where an answer is credited
+-- how a log is read for them: memory is needed where an answer is credited
+abbrev pub reading_to_find : Settings → Reading
+reading_to_find settings = record { unrefused = HasNoBadPlaceWithin; needs = NeedsMemoryToFind; max_bytes = settings.max_bytes }
+
+-- these lines, as a call writes them
+abbrev pub text_of_pairs : Notation → Settings → TextOfLog (List CreditLine)
+text_of_pairs notation settings = record {
+  text = pairs_text notation;
+  gives = IsFoundIn settings;
+  lacks = IsUnheardFor settings;
+  reading = reading_to_find settings;
+}
+
+-- the run that writes them
 abbrev pub RanToFind : {R W : Type 0} → SourceGhosts R → TargetGhosts W → Notation → Settings → R → W → Result Summary Fault → R → W → Type 0
-RanToFind source target notation settings =
-    RanOnce source target (pairs_text notation) (IsFoundIn settings) (IsUnheardFor settings) HasNoBadPlaceWithin NeedsMemoryToFind settings.max_bytes
+RanToFind source target notation settings = RanOnce source target (text_of_pairs notation settings)

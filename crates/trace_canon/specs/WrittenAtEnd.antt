@@ -1,8 +1,9 @@
 -- A text of a log that is written by itself, once all of it is known.
-use Rattle.std.specs.Prelude.{◌≡◌, ◌≢◌, ◌-◌, ◌<◌, List, ℕ, ◌++◌, length, Result, Ok, Err, IfErr}
+use Rattle.std.specs.Prelude.{◌≡◌, ◌≢◌, ◌<◌, List, ℕ, ◌++◌, length, Result, Ok, Err, IfErr}
 use Rattle.trace_io.specs.Written.{HasFront}
 use Rattle.trace_io.specs.declared.device.Source.{Ghosts as SourceGhosts}
 use Rattle.trace_io.specs.declared.device.Target.{Ghosts}
+use Rattle.trace_canon.specs.ReadOnly.{Reading}
 use Rattle.trace_log.specs.declared.fault.Fault.{Fault}
 use Rattle.trace_log.specs.declared.fault.Fault.TheVariants.{BadLine, Oversize, LogLimit, OutputLimit, Read, Write, Memory}
 use Rattle.trace_log.specs.declared.summary.Summary.{Summary}
@@ -26,21 +27,30 @@ abbrev pub WritesOnce : {V : Type 0} → (V → List ℕ) → (V → Summary →
 WritesOnce {V = V} text Is IsFault (Ok summary) old new = (value : V) × Is value summary × (new ≡ old ++ text value)
 WritesOnce text Is IsFault (Err fault) old new = IsFault fault × LeavesOnce text Is fault old new
 
--- A run that reads a log, and then writes a text of it by itself: all that a caller knows of it. `Is` says of which
--- logs what is the text's, `IsFault` why a log has none, `IsUnrefused` that nothing refuses a log among so many of its
--- bytes, and `NeedsMemory` which logs may need some.
-pub record RanOnce {V R W : Type 0} (source : SourceGhosts R) (target : Ghosts W) (text : V → List ℕ) (Is : List ℕ → V → Summary → Type 0) (IsFault : List ℕ → Fault → Type 0) (IsUnrefused : List ℕ → ℕ → Type 0)
-    (NeedsMemory : List ℕ → Type 0) (max_bytes : ℕ) (before : R) (old : W) (result : Result Summary Fault) (after : R) (new : W) : Type 0 where
+-- A text that a call writes of a log.
+pub record TextOfLog (V : Type 0) : Type 1 where
+  -- the text of such a value
+  pub text : V → List ℕ
+  -- this value is that of the log, with these counts
+  pub gives : List ℕ → V → Summary → Type 0
+  -- for this fault the log has none
+  pub lacks : List ℕ → Fault → Type 0
+  -- how the call reads a log
+  pub reading : Reading
+
+-- A run that reads a log, and then writes a text of it by itself: all that a caller knows of it.
+pub record RanOnce {V R W : Type 0} (source : SourceGhosts R) (target : Ghosts W) (of : TextOfLog V)
+    (before : R) (old : W) (result : Result Summary Fault) (after : R) (new : W) : Type 0 where
   -- what is answered and written, for each log with which the bytes that were read agree
   pub answer : (log : List ℕ) → AgreesWith source before after log
-      → WritesOnce text (Is log) (IsFault log) result (target.taken old) (target.taken new)
+      → WritesOnce of.text (of.gives log) (of.lacks log) result (target.taken old) (target.taken new)
   -- where there is no such text, the target is left alone
   pub unwritten : IfErr result (λ fault. fault ≢ Write → new ≡ old)
   -- reading stops within one piece
   pub near : (log : List ℕ) → AgreesWith source before after log
-      → ReadsWhile (IsUnrefused log) (bytes_given source before after) (source.failures before) (source.failures after)
+      → ReadsWhile (of.reading.unrefused log) (bytes_given source before after) (source.failures before) (source.failures after)
   -- memory is refused only for a log that needs it
-  pub memory : (log : List ℕ) → AgreesWith source before after log → result ≡ Err Memory → NeedsMemory log
+  pub memory : (log : List ℕ) → AgreesWith source before after log → result ≡ Err Memory → of.reading.needs log
   -- what it did with its devices
-  pub read : ReadFrom source Read max_bytes result before after
+  pub read : ReadFrom source Read of.reading.max_bytes result before after
   pub wrote : WroteTo target Write result old new

@@ -2,11 +2,10 @@
 //! on the lines of a log, and no machine does it.
 ghost use Rattle.std.specs.Prelude.{◌≡◌, List, ℕ, [], length, IfErr, IfOk, Option};
 ghost use Rattle.can_log.specs.declared.frame.Stamped.{Stamped as StampedValue};
-ghost use Rattle.trace_canon.specs.Finding.{GivesFound, IsFoundOf, NeedsMemoryToFind, frames_in, summary_of_lines};
+ghost use Rattle.trace_canon.specs.Finding.{GivesFound, IsFoundOf, frames_in, reading_to_find, summary_of_lines};
 ghost use Rattle.trace_canon.specs.ReadOnly.{RanToRead};
 ghost use Rattle.trace_canon.specs.proving.Hearing.{HasHeard};
 ghost use Rattle.trace_log.specs.Devices.{HasLowCounts};
-ghost use Rattle.trace_log.specs.Refusal.{HasNoBadPlaceWithin};
 ghost use Rattle.trace_log.specs.Summing as Spec;
 ghost use Rattle.uds_find.specs.Credit.{HasCredit};
 
@@ -30,8 +29,7 @@ pub(crate) fn found_in<R: Source>(
     reader: &mut R,
 ) -> Result<Found, Fault>
     requires reader { HasLowCounts R.Source reader.old }
-    ensures ran { RanToRead R.Source (GivesFound config.now) HasNoBadPlaceWithin NeedsMemoryToFind
-        config.now.max_bytes reader.old result reader.new }
+    ensures ran { RanToRead R.Source (GivesFound config.now) (reading_to_find config.now) reader.old result reader.new }
 {
     let mut hearing = Hearing::start(alloc);
     let ends_in_line_feed = feed_lines(config.max_bytes(), reader, &mut hearing, &mut ())?;
