@@ -1,3 +1,4 @@
+-- The sink was put each message that is due; where memory was refused, none.
 use Rattle.std.proofs.Common.{Err, [], ap, sym, subst, ◌∙◌}
 use Rattle.isotp_receive.specs.declared.TheConstants.{MESSAGE_LIMIT}
 use Rattle.isotp_segment.specs.Timed.{all_frames}

@@ -1,3 +1,4 @@
+-- The item of each log is said behind its own word.
 use Rattle.trace_canon.proofs.comparison_text.say_items_at.Goals as goal
 
 pub returns : goal.returns

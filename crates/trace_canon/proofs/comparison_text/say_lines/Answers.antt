@@ -1,3 +1,4 @@
+-- The line of a difference, and the items where they are shown, are the text of the definition.
 use Rattle.std.proofs.Common.{subst}
 use Rattle.trace_canon.proofs.ComparisonTexts.{different_is, shown_is}
 use Rattle.trace_canon.proofs.comparison_text.say_lines.Goals as goal

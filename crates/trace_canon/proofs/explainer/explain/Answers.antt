@@ -1,3 +1,4 @@
+-- The counts certify what those of a run that is not strict do.
 use Rattle.isotp_receive.specs.declared.TheConstants.{MESSAGE_LIMIT}
 use Rattle.trace_canon.specs.ExplainScript.{explain_script}
 use Rattle.trace_run.proofs.Promises.{certifies}

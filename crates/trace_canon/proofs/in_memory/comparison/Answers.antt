@@ -1,3 +1,4 @@
+-- Neither source is a device: so a fault is why a log is refused, or refused memory.
 use Rattle.std.proofs.Common.{Ok, Err, subst, sym}
 use Rattle.isotp_receive.specs.declared.TheConstants.{MESSAGE_LIMIT}
 use Rattle.trace_canon.specs.InMemory.{ComparesWithCounts}

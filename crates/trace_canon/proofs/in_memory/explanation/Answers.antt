@@ -1,3 +1,4 @@
+-- What the call wrote is the text; each log has one, so memory may be refused to any.
 use Rattle.std.proofs.Common.{ap, sym, ◌∙◌}
 use Rattle.isotp_receive.specs.declared.TheConstants.{MESSAGE_LIMIT}
 use Rattle.trace_canon.specs.ExplainScript.{explain_script}

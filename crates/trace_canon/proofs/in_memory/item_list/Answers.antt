@@ -1,3 +1,4 @@
+-- What the call wrote at its end is the text, and a failed write refused memory.
 use Rattle.std.proofs.Common.{ap, sym, ◌∙◌}
 use Rattle.isotp_receive.specs.declared.TheConstants.{MESSAGE_LIMIT}
 use Rattle.trace_log.specs.Answers.{TellsOutcome}

@@ -1,3 +1,4 @@
+-- What the call wrote is the text; a failed write is refused memory, for a message that was delivered.
 use Rattle.std.proofs.Common.{inl, ap, sym, ◌∙◌}
 use Rattle.isotp_receive.specs.declared.TheConstants.{MESSAGE_LIMIT}
 use Rattle.trace_canon.specs.InMemory.{NeedsMemoryForPlacing}

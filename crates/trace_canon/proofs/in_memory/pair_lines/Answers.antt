@@ -1,3 +1,4 @@
+-- What the call wrote at its end is the text, and a failed write refused memory.
 use Rattle.std.proofs.Common.{ap, sym, ◌∙◌}
 use Rattle.trace_canon.specs.Finding.{IsUnheardFor, NeedsMemoryToFind}
 use Rattle.trace_canon.proofs.InMemories.{agrees_in_memory, gathered, taken_is_held, written_in_memory}

@@ -1,3 +1,4 @@
+-- The parts that are said are the object of the definition.
 use Rattle.std.proofs.Common.{subst}
 use Rattle.uds_exchange.specs.Judging.{sent}
 use Rattle.trace_canon.proofs.PlacingScripts.{object_parts}

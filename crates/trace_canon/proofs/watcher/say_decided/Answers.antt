@@ -1,3 +1,4 @@
+-- The sink was put each item that the message decides.
 use Rattle.std.proofs.Common.{[], ap, sym, subst, ◌∙◌}
 use Rattle.std.proofs.lemmas.Result.{on_ok_weaker, on_err_weaker}
 use Rattle.trace_text.specs.ListText.{list_text_from}

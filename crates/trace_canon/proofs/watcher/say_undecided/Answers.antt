@@ -1,3 +1,4 @@
+-- The sink was put each item that is left.
 use Rattle.std.proofs.Common.{sym, subst, ◌∙◌}
 use Rattle.uds_exchange.specs.Decided.{undecided}
 use Rattle.trace_text.specs.ListText.{list_text_from}

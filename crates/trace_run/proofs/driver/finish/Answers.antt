@@ -1,3 +1,4 @@
+-- What was said at the end was settled, or writing failed: by what is carried to the page and what the machine answers.
 use Rattle.std.proofs.Common.{not, [], subst, Ok, Err}
 use Rattle.isotp_receive.specs.declared.TheConstants.{MESSAGE_LIMIT}
 use Rattle.trace_run.specs.declared.machine.Stop.TheVariants.{OutputLimit}

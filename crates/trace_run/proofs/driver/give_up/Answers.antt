@@ -1,3 +1,4 @@
+-- A bad line and the limit are one arm: each fault is what its own case says.
 use Rattle.std.proofs.Common.{inl, inr, sym, subst}
 use Rattle.trace_log.specs.declared.fault.Fault.{Fault}
 use Rattle.trace_run.specs.proving.Ending.{GivesUp, RefusesTelling}

@@ -1,3 +1,4 @@
+-- A run is what its lines told, and how it ended: each part of `Ran` is read off one of the two.
 use Rattle.std.proofs.Common.{◌⊎◌, ◌≡◌, ◌-◌, List, length, arith, ap, subst, ◌∙◌, Option, Err, ℕ, Bool, true}
 use Rattle.can_log.specs.declared.frame.Stamped.{Stamped}
 use Rattle.std.specs.List.{AllByRecursion}

@@ -1,3 +1,4 @@
+-- Two stores that overlap lay each byte where it lies in the bytes that are copied.
 use Rattle.std.proofs.Common.{◌≡◌, ◌≤◌, ◌-◌, ◌+◌, ℕ, List, ◌++◌, length, take, drop, arith, ap, ap₂, sym, ◌∙◌, length-drop}
 use Rattle.std.proofs.lemmas.List.{take_all, take-take, take-append-drop}
 use Rattle.std.proofs.lemmas.Simd.{length-chunk, length-put_chunk, take_more_put_chunk}

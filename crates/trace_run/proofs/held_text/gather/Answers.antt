@@ -1,3 +1,4 @@
+-- What was held, and the text behind it: all is written but what the next page holds, or a front of it.
 use Rattle.std.proofs.Common.{◌≡◌, ◌+◌, ◌++◌, ap, ap₂, subst, ◌∙◌, append_assoc}
 use Rattle.std.proofs.lemmas.List.{take-append-drop}
 use Rattle.std.specs.Prelude.{MatchResult}

@@ -1,3 +1,4 @@
+-- Sixteen bytes in one store are the bytes from there on.
 use Rattle.std.proofs.Common.{◌+◌, length, take, arith, refl, ap, ◌∙◌}
 use Rattle.std.proofs.lemmas.List.{take_all}
 use Rattle.std.proofs.lemmas.Simd.{take_more_put_chunk}

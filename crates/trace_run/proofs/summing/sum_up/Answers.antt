@@ -1,3 +1,4 @@
+-- The counts of the lines, with what stands and what is pending, are the summary.
 use Rattle.std.proofs.Common.{arith, ◌∙◌}
 use Rattle.isotp_receive.specs.declared.TheConstants.{MESSAGE_LIMIT}
 use Rattle.trace_log.specs.Messages.{messages_of_lines}

@@ -1,3 +1,4 @@
+-- The judge has taken the one message that the frame told.
 use Rattle.std.proofs.Common.{◌++◌, ap, subst, sym}
 use Rattle.isotp_receive.specs.EventSeen.{seen_verdict}
 use Rattle.isotp_receive.specs.Verdict.{told_message}

@@ -1,3 +1,4 @@
+-- The same of what is said at the end.
 use Rattle.std.proofs.Common.{sym, subst}
 use Rattle.trace_run.specs.proving.Carrying.{Says}
 use Rattle.trace_run.specs.declared.page.Page.{Page}

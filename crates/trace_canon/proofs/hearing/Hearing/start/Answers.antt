@@ -1,3 +1,4 @@
+-- Before the first line nothing was heard.
 use Rattle.std.proofs.Common.{refl}
 use Rattle.trace_canon.proofs.Hearings.{heard_none}
 use Rattle.trace_canon.proofs.hearing.Hearing.start.Goals as goal

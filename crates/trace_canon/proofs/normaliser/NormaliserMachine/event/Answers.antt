@@ -1,3 +1,4 @@
+-- A frame that completes a message has what is then due said; another one says nothing.
 use Rattle.std.proofs.lemmas.Result.{on_err_weaker}
 use Rattle.isotp_receive.specs.declared.TheConstants.{MESSAGE_LIMIT}
 use Rattle.isotp_receive.specs.Verdict.{messages}

@@ -1,3 +1,4 @@
+-- A reception that ended has no start any more; where none did, all stay.
 use Rattle.std.proofs.Common.{ap, sym, ◌∙◌}
 use Rattle.trace_canon.specs.ReceptionStarts.{begun_of, left_by}
 use Rattle.trace_canon.proofs.reception_starts.ReceptionStarts.end.Goals as goal

@@ -1,3 +1,4 @@
+-- A message ends its reception, a first frame begins one, and the others leave both.
 use Rattle.std.proofs.Common.{ap, sym, ◌∙◌, inl, inr}
 use Rattle.isotp_receive.specs.EventSeen.{seen_verdict}
 use Rattle.isotp_receive.specs.Trace.{same_direction}

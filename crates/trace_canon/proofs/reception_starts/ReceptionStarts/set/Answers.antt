@@ -1,3 +1,4 @@
+-- One direction has this start, and the other one its own.
 use Rattle.trace_canon.proofs.Begins.{of_tester, of_unit}
 use Rattle.trace_canon.proofs.reception_starts.ReceptionStarts.set.Goals as goal
 

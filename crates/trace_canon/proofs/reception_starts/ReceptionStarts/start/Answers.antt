@@ -1,3 +1,4 @@
+-- No reception stands.
 use Rattle.trace_canon.proofs.Begins.{none_begun}
 use Rattle.trace_canon.proofs.reception_starts.ReceptionStarts.start.Goals as goal
 

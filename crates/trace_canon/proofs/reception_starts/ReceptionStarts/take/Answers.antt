@@ -1,3 +1,4 @@
+-- The end first, and then what became of the frame.
 use Rattle.std.proofs.Common.{ap, ◌∙◌}
 use Rattle.std.specs.Prelude.{unwrap_or}
 use Rattle.isotp_receive.specs.EventSeen.{seen_verdict}

@@ -1,3 +1,4 @@
+-- The items that are not decided are said behind those that were.
 use Rattle.isotp_receive.specs.declared.TheConstants.{MESSAGE_LIMIT}
 use Rattle.isotp_receive.specs.Verdict.{messages}
 use Rattle.trace_canon.proofs.WatchScripts.{watched}

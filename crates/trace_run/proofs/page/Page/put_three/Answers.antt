@@ -1,3 +1,4 @@
+-- Three texts that found room are held behind what was, as one.
 use Rattle.std.proofs.Common.{◌++◌}
 use Rattle.trace_run.proofs.Carryings.{held_more}
 use Rattle.trace_run.proofs.page.Page.put_three.Goals as goal

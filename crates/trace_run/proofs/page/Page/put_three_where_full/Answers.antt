@@ -1,3 +1,4 @@
+-- What was held is settled; then the three are held, or said one after another.
 use Rattle.std.proofs.Common.{◌++◌, sym, subst}
 use Rattle.trace_run.specs.proving.Carrying.{Carries}
 use Rattle.trace_run.specs.proving.PageSinks.{says_onward}

@@ -1,3 +1,4 @@
+-- The text was gathered, writing failed, or it had failed before, where only a front is known.
 use Rattle.std.proofs.Common.{◌<◌, arith, length, length-append, refl, ◌+◌, ◌++◌, true, false, ap, sym, subst, ◌∙◌}
 use Rattle.trace_io.proofs.Promises.{took_more}
 use Rattle.trace_run.specs.proving.Carrying.{Carries}

@@ -1,3 +1,4 @@
+-- A text that found room is held behind what was.
 use Rattle.trace_run.proofs.Carryings.{held_more}
 use Rattle.trace_run.proofs.page.Page.put_whole.Goals as goal
 

@@ -1,3 +1,4 @@
+-- The frame was handed on as an event, or memory was refused to its reception, and nothing was told.
 use Rattle.std.proofs.Common.{refl, inl}
 use Rattle.trace_log.specs.proving.Receiving.{entry_at}
 use Rattle.trace_log.specs.declared.fault.Fault.TheVariants.{Memory}

@@ -1,3 +1,4 @@
+-- A passed line means no frame: the trace stays as it was.
 use Rattle.std.proofs.Common.{[], ◌≤◌, ◌^◌, ◌≡◌, None, Some, refl, sym, subst, ◌∙◌, ap}
 use Rattle.trace_run.specs.proving.Telling.{IsTellingStart, Tells}
 use Rattle.trace_log.specs.Settings.{direction_of}

@@ -1,3 +1,4 @@
+-- A line without a frame of a side leaves the trace; another one adds its frame, which is told, or stops the run.
 use Rattle.std.proofs.Common.{◌≤◌, ◌^◌, arith, ◌≡◌, ℕ, ◌+◌, [], ◌∷◌, ◌++◌, length, Some, None, ap, sym, subst, ◌∙◌}
 use Rattle.std.proofs.lemmas.Result.{IfErr-weaker}
 use Rattle.isotp_receive.specs.declared.TheConstants.{MESSAGE_LIMIT}

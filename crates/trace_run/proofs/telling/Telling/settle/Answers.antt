@@ -1,3 +1,4 @@
+-- What is on the page is settled: so all that was told is written, or writing failed.
 use Rattle.std.proofs.Common.{[], false, arith, sym, subst}
 use Rattle.std.specs.Prelude.{not}
 use Rattle.trace_run.specs.proving.Carrying.{Carries}

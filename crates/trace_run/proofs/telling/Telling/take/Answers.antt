@@ -1,3 +1,4 @@
+-- The message is judged; then the run stops for its length, or the machine says its word, or is refused memory.
 use Rattle.std.proofs.Common.{◌<◌, ◌^◌, length, ◌++◌, [], ◌≡◌, arith, sym, subst, ◌∙◌, None, Some}
 use Rattle.isotp_receive.specs.declared.TheConstants.{MESSAGE_LIMIT}
 use Rattle.isotp_receive.specs.EventSeen.{seen_event}
