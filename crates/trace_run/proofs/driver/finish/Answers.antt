@@ -6,7 +6,8 @@ use Rattle.trace_run.specs.proving.Carrying.{Carries}
 use Rattle.trace_run.specs.Told.{whole_of_lines}
 use Rattle.trace_log.specs.Trace.{trace}
 use Rattle.trace_log.proofs.Promises.{handed_on}
-use Rattle.trace_run.proofs.Tellings.{carried_at_the_end, only_stop, only_more}
+use Rattle.trace_run.proofs.EndedRuns.{carried_at_the_end, only_stop}
+use Rattle.trace_run.proofs.ToldFronts.{only_more}
 use Rattle.trace_run.proofs.driver.finish.Goals as goal
 
 pub returns-then-not-settle-clause-ends : goal.returns-then-not-settle-clause-ends

@@ -11,7 +11,7 @@ use Rattle.trace_log.specs.Trace.{trace}
 use Rattle.trace_log.specs.Summing.{counted_more}
 use Rattle.trace_log.specs.proving.Receiving.{entry_at, entry_in}
 use Rattle.trace_log.proofs.Promises.{four_ok, few_frames, trace_same_blank, trace_same_foreign, trace_next, receives_same, receives_next}
-use Rattle.trace_run.proofs.Tellings.{on_ok_of_each, if_err_of_each}
+use Rattle.trace_run.proofs.ToldFrames.{on_ok_of_each, if_err_of_each}
 use Rattle.trace_run.proofs.receiver.ReceiverLineTaker.take.Goals as goal
 
 pub returns-in_default-clause-ok : goal.returns-in_default-clause-ok

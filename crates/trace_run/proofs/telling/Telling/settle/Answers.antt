@@ -5,7 +5,8 @@ use Rattle.trace_run.specs.proving.Carrying.{Carries}
 use Rattle.trace_run.specs.proving.Telling.{Tells}
 use Rattle.trace_run.specs.Told.{told}
 use Rattle.trace_run.proofs.Carryings.{wrote_all}
-use Rattle.trace_run.proofs.Tellings.{settled_as, same_page, blank_page}
+use Rattle.trace_run.proofs.ToldFrames.{settled_as, same_page}
+use Rattle.trace_run.proofs.ToldRuns.{blank_page}
 use Rattle.trace_run.proofs.telling.Telling.settle.Goals as goal
 
 pub returns-clause-well : goal.returns-clause-well

@@ -7,7 +7,8 @@ use Rattle.isotp_receive.proofs.Promises.{messages_are_few}
 use Rattle.trace_log.specs.declared.fault.Fault.TheVariants.{Oversize}
 use Rattle.trace_run.specs.proving.Telling.{stops_for}
 use Rattle.trace_log.proofs.Promises.{handed_on}
-use Rattle.trace_run.proofs.Tellings.{tells_next, stops_at, stops_before, stopped_for, not_stopped_for}
+use Rattle.trace_run.proofs.ToldFrames.{tells_next, stops_at, stops_before}
+use Rattle.trace_run.proofs.StoppedLines.{stopped_for, not_stopped_for}
 use Rattle.trace_run.proofs.telling.Telling.take.Goals as goal
 
 pub returns-in-Some-clause-told : goal.returns-in-Some-clause-told
