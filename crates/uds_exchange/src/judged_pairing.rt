@@ -17,7 +17,7 @@ use std::marker::Model;
 /// a list of items: the meaning of the messages, where each was judged behind those before it.
 #[derive(Debug, Drop)]
 pub struct JudgedPairing {
-    meaning: Meaning,
+    pub(crate) meaning: Meaning,
     /// The place of the exchange that waits for its answer, if one does.
     waits_at: Option<usize>,
 }
@@ -43,11 +43,6 @@ impl JudgedPairing {
             meaning: Meaning::new(alloc),
             waits_at: None,
         }
-    }
-
-    /// What the messages so far mean.
-    pub(crate) fn so_far(&self) -> &Meaning {
-        &self.meaning
     }
 
     /// Takes one more message. A reply that is left out is not copied. After an `Err` nothing has changed, and the call may be

@@ -29,6 +29,7 @@ mod messages;
 mod order_fault;
 mod orderer;
 mod pairing;
+mod shown;
 mod sides;
 mod sink;
 mod step;

@@ -13,15 +13,14 @@ use crate::order_fault::OrderFault;
 use crate::sink::MessageSink;
 use direction::Dir;
 use std::alloc::Global;
-use std::fmt::{self, Debug, Formatter, Write};
 use std::marker::Model;
 
 /// Puts the messages of a meaning in order into a sink, each as soon as its place is known. After a request without
 /// answer that is when the answer comes, the next request, or the end: until then other messages are held.
 #[derive(Drop)]
 pub struct Orderer {
-    judge: Judge,
-    orderer: JudgedOrderer,
+    pub(crate) judge: Judge,
+    pub(crate) orderer: JudgedOrderer,
 }
 
 impl Model for Orderer {
@@ -94,16 +93,5 @@ impl Orderer {
     {
         let Orderer { orderer, .. } = self;
         orderer.finish(sink)
-    }
-}
-
-/// What was printed while it kept what follows the request itself.
-impl Debug for Orderer {
-    fn fmt<W: Write>(&self, f: &mut Formatter<W>) -> fmt::Result {
-        f.debug_struct("Orderer")
-            .field("has_failed", &self.orderer.has_failed)
-            .field("open_sid", &self.judge.open_sid)
-            .field("held", &self.orderer.held)
-            .finish()
     }
 }
