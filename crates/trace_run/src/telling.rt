@@ -8,7 +8,7 @@ ghost use Rattle.isotp_receive.specs.Events.{announced_by};
 ghost use Rattle.isotp_receive.specs.StandingReception.{receptions_after};
 ghost use Rattle.isotp_receive.specs.Trace.{Entry};
 ghost use Rattle.isotp_receive.specs.Verdict.{told_message};
-ghost use Rattle.uds_exchange.specs.Judging.{HasJudged, IsJudgeOf, IsJudgedOf};
+ghost use Rattle.uds_exchange.specs.Judging.{HasCounted, IsJudgeOf, IsJudgmentOf};
 ghost use Rattle.trace_run.specs.Seen.{IsSeen, glimpse_value};
 ghost use Rattle.trace_run.specs.proving.Carrying.{SaysToPage, stops_for};
 
@@ -119,8 +119,8 @@ impl<M: Machine, W: Target> Telling<M, W> {
 fn judged_message<'a>(judge: &mut Judge, dir: Dir, verdict: Verdict<'a>) -> Option<Judged<'a>>
     ensures next { (M : List Message) → length M < 2 ^ 62 → IsJudgeOf M judge.old
         → IsJudgeOf (M ++ told_message dir (seen_verdict verdict.entry)) judge.new }
-    ensures judged { (M : List Message) → length M < 2 ^ 62 → HasJudged M judge.old
-        → IsJudgedOf M (told_message dir (seen_verdict verdict.entry)) result }
+    ensures judged { (M : List Message) → length M < 2 ^ 62 → HasCounted M judge.old
+        → IsJudgmentOf M (told_message dir (seen_verdict verdict.entry)) result }
 {
     match verdict {
         Verdict::Message(message) => Some(judge.take(dir, message)),

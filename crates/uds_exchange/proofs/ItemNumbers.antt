@@ -14,7 +14,7 @@ use Rattle.uds_exchange.specs.WaitingExchange.{waiting, waiting_sid}
 use Rattle.uds_exchange.specs.proving.Pairing.{join_for, join_by, join}
 use Rattle.uds_exchange.specs.OneMessage.{step_of}
 use Rattle.uds_exchange.specs.proving.Steps.{Standing, standing_after, stand_for}
-use Rattle.uds_exchange.specs.Judging.{step_after, number_by, number_after, items_with, waiting_number, waits_with, IsOpenSid, HasJudged}
+use Rattle.uds_exchange.specs.Judging.{step_after, number_by, number_after, items_with, waiting_number, waits_with, IsOpenSid, HasCounted}
 use Rattle.uds_exchange.specs.declared.judge.Judge.{Judge}
 use Rattle.uds_exchange.specs.Exchanged.{is_tester_response, is_unit_non_response, sides_of}
 use Rattle.uds_exchange.specs.proving.Judging.{advanced, noted, number_in}
@@ -138,10 +138,10 @@ sides-next M x =
     sym (list_any-append is_so M (x ∷ []) ∙ ap (λ b. list_any is_so M || b) (or-false (is_so x))) in
     rw (sym (any-next is_tester_request), sym (any-next is_tester_response), sym (any-next is_unit_non_response)) refl
 
-next-by : (s : Step) (M : List Message) (x : Message) (judge : Judge) (seen : Sides) → length M < 2 ^ 62 → HasJudged M judge
+next-by : (s : Step) (M : List Message) (x : Message) (judge : Judge) (seen : Sides) → length M < 2 ^ 62 → HasCounted M judge
     → standing_after (M ++ x ∷ []) ≡ stand_for s (standing_after M) x → length (meaning (M ++ x ∷ [])) ≡ items_with s (length (meaning M))
     → length (removed_messages (M ++ x ∷ [])) ≡ length (removed_messages M) + left-out-by s
-    → HasJudged (M ++ x ∷ []) (advanced s (record judge { sides = seen }))
+    → HasCounted (M ++ x ∷ []) (advanced s (record judge { sides = seen }))
 next-by (step.Request service) M x judge seen few counts stands grown gone =
     let few_items = few-items M in let is = counts.items in record {
       waits = ap (λ (o : Standing). o.open_sid) (sym stands);
@@ -180,8 +180,8 @@ next-by step.Pass M x judge seen few counts stands grown gone =
     }
 
 -- what is kept is advanced by one more message
-pub counts-next : (M : List Message) (x : Message) (judge now : Judge) (s : Step) (seen : Sides) → length M < 2 ^ 62 → HasJudged M judge
-    → s ≡ step_of judge.open_sid x → now ≡ advanced s (record judge { sides = seen }) → HasJudged (M ++ x ∷ []) now
+pub counts-next : (M : List Message) (x : Message) (judge now : Judge) (s : Step) (seen : Sides) → length M < 2 ^ 62 → HasCounted M judge
+    → s ≡ step_of judge.open_sid x → now ≡ advanced s (record judge { sides = seen }) → HasCounted (M ++ x ∷ []) now
 counts-next M x judge now s seen few counts s_is now_is =
     let found : s ≡ step_after M x = s_is ∙ ap (λ o. step_of o x) counts.waits in
     rw (now_is, found) (next-by (step_after M x) M x judge seen few counts (sym (stands-next M x)) (items-next M x) (removed-next M x))
@@ -199,7 +199,7 @@ pub sides-found : (M : List Message) (x : Message) (judge now : Judge) (s : Step
 sides-found M x judge now s seen were seen_is now_is =
     ap (λ (j : Judge). j.sides) now_is ∙ sides-kept s judge seen ∙ seen_is ∙ ap (noted x) were ∙ sides-next M x
 
-number-by : (s : Step) (M : List Message) (judge : Judge) (seen : Sides) → length M < 2 ^ 62 → HasJudged M judge → number_in s (record judge { sides = seen }) ≡ number_by s M
+number-by : (s : Step) (M : List Message) (judge : Judge) (seen : Sides) → length M < 2 ^ 62 → HasCounted M judge → number_in s (record judge { sides = seen }) ≡ number_by s M
 number-by (step.Request service) M judge seen few counts = let few_items = few-items M in let is = counts.items in omega arith
 number-by step.Answer M judge seen few counts = let items_are = counts.items in let held_are = counts.held in omega arith
 number-by step.Removed M judge seen few counts = let items_are = counts.items in let held_are = counts.held in omega arith
@@ -228,7 +228,7 @@ waits-found M x judge now s seen waits s_is now_is =
     ∙ ap (λ (o : Standing). o.open_sid) (stands-next M x)
 
 -- and the number of its item
-pub number-found : (M : List Message) (x : Message) (judge : Judge) (s : Step) (seen : Sides) (number : ℕ) → length M < 2 ^ 62 → HasJudged M judge
+pub number-found : (M : List Message) (x : Message) (judge : Judge) (s : Step) (seen : Sides) (number : ℕ) → length M < 2 ^ 62 → HasCounted M judge
     → s ≡ step_of judge.open_sid x → number ≡ number_in s (record judge { sides = seen }) → number ≡ number_after M x
 number-found M x judge s seen number few counts s_is is =
     is ∙ number-by s M judge seen few counts ∙ ap (λ t. number_by t M) (step-found M x judge s counts.waits s_is)

@@ -61,17 +61,17 @@ items_with step.Pass count = count + 1
 abbrev pub IsOpenSid : List Message → Option ℕ → Type 0
 IsOpenSid M open_sid = open_sid ≡ option_map sid (open_request M)
 
--- This is what is kept of these messages: which request waits, how many items there are, how many strays are held, and how
--- many messages are left out.
-pub record HasJudged (M : List Message) (judge : Judge) : Type 0 where
+-- A judge has counted these messages: it keeps which request is open, how many items there are, how many strays are held, and
+-- how many messages are left out.
+pub record HasCounted (M : List Message) (judge : Judge) : Type 0 where
   pub waits : IsOpenSid M judge.open_sid
   pub items : judge.items ≡ length (meaning M)
   pub held : judge.held_count ≡ length (order.held M)
   pub removed : judge.removed ≡ length (removed_messages M)
 
--- A judge has judged these messages, and gathered what tells whether tester and unit look exchanged.
+-- It is the judge of these messages: it has also gathered what tells whether tester and unit look exchanged.
 pub record IsJudgeOf (M : List Message) (judge : Judge) : Type 0 where
-  pub judged : HasJudged M judge
+  pub counted : HasCounted M judge
   pub sides : judge.sides ≡ sides_of M
 
 -- a message that was judged, without where it lies in memory
@@ -82,10 +82,10 @@ sent judged = (judged.dir, judged.bytes.now)
 abbrev pub IsJudgedAfter : List Message → Judged → Type 0
 IsJudgedAfter M judged = judged.step ≡ step_after M (sent judged)
 
--- what was judged of these messages behind M, of which there is one at the most
-abbrev pub IsJudgedOf : List Message → List Message → Option Judged → Type 0
-IsJudgedOf M told None = told ≡ []
-IsJudgedOf M told (Some judged) = (told ≡ sent judged ∷ []) × IsJudgedAfter M judged × (judged.item ≡ number_after M (sent judged))
+-- This was judged of what came behind the messages M: of the one message that did, or none where no message came.
+abbrev pub IsJudgmentOf : List Message → List Message → Option Judged → Type 0
+IsJudgmentOf M came None = came ≡ []
+IsJudgmentOf M came (Some judged) = (came ≡ sent judged ∷ []) × IsJudgedAfter M judged × (judged.item ≡ number_after M (sent judged))
 
 -- a count that stays at the largest number of 64 bits
 abbrev pub one_more : ℕ → ℕ

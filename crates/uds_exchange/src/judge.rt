@@ -3,7 +3,7 @@
 ghost use Rattle.std.specs.Prelude.{◌≡◌, ◌^◌, ◌<◌, ◌++◌, ◌∷◌, [], List, length};
 ghost use Rattle.direction.specs.Dir.{Message};
 ghost use Rattle.uds_exchange.specs.Exchanged.{sides_of};
-ghost use Rattle.uds_exchange.specs.Judging.{HasJudged, IsJudgeOf, IsOpenSid, number_after, one_more, sent, step_after};
+ghost use Rattle.uds_exchange.specs.Judging.{HasCounted, IsJudgeOf, IsOpenSid, number_after, one_more, sent, step_after};
 ghost use Rattle.uds_exchange.specs.proving.Judging.{advanced, number_in};
 
 use crate::sides::Sides;
@@ -55,11 +55,11 @@ impl Judge {
     /// store-to-load forwarding fails.
     #[inline(always)]
     pub fn take<'a>(&mut self, dir: Dir, message: &'a [u8]) -> Judged<'a>
-        ensures next { (M : List Message) → length M < 2 ^ 62 → HasJudged M self.old → HasJudged (M ++ (dir, message.now) ∷ []) self.new }
+        ensures next { (M : List Message) → length M < 2 ^ 62 → HasCounted M self.old → HasCounted (M ++ (dir, message.now) ∷ []) self.new }
         ensures sent { sent result ≡ (dir, message.now) }
         ensures waits { (M : List Message) → IsOpenSid M self.old.open_sid → IsOpenSid (M ++ (dir, message.now) ∷ []) self.new.open_sid }
         ensures step { (M : List Message) → IsOpenSid M self.old.open_sid → result.step ≡ step_after M (dir, message.now) }
-        ensures item { (M : List Message) → length M < 2 ^ 62 → HasJudged M self.old → result.item ≡ number_after M (dir, message.now) }
+        ensures item { (M : List Message) → length M < 2 ^ 62 → HasCounted M self.old → result.item ≡ number_after M (dir, message.now) }
         ensures sides { (M : List Message) → self.old.sides ≡ sides_of M → self.new.sides ≡ sides_of (M ++ (dir, message.now) ∷ []) }
     {
         let step = step_of(self.open_sid, dir, message);
