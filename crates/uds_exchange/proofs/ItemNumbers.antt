@@ -14,9 +14,10 @@ use Rattle.uds_exchange.specs.WaitingExchange.{waiting, waiting_sid}
 use Rattle.uds_exchange.specs.proving.Pairing.{join_for, join_by, join}
 use Rattle.uds_exchange.specs.OneMessage.{step_of}
 use Rattle.uds_exchange.specs.proving.Steps.{Standing, standing_after, stand_for}
-use Rattle.uds_exchange.specs.Judging.{step_after, number_by, number_after, items_with, waiting_number, waits_with, IsOpenSid, HasCounted}
+use Rattle.uds_exchange.specs.Judging.{step_after, number_by, number_after, IsOpenSid, HasCounted}
 use Rattle.uds_exchange.specs.declared.judge.Judge.{Judge}
 use Rattle.uds_exchange.specs.Exchanged.{is_tester_response, is_unit_non_response, sides_of}
+use Rattle.uds_exchange.specs.proving.ItemNumbers.{item_count_after_step, open_number_if_any, open_number_after_step}
 use Rattle.uds_exchange.specs.proving.Judging.{advanced, noted, number_in}
 use Rattle.uds_exchange.specs.declared.sides.Sides.{Sides}
 use Rattle.uds_exchange.specs.declared.step.Step.{Step}
@@ -38,7 +39,7 @@ one-longer : (its : List ItemValue) (item : ItemValue) → length (its ++ item �
 one-longer its item = length-append its (item ∷ [])
 
 join-by-length : (its : List ItemValue) (x : Message) (w : Option (ℕ × List ℕ)) → is_tester_request x ≡ false
-    → length (join_by w its x) ≡ items_with (step_of (sid_of w) x) (length its)
+    → length (join_by w its x) ≡ item_count_after_step (step_of (sid_of w) x) (length its)
 join-by-length its x None r = rw r (one-longer its (stray_of x))
 join-by-length its x (Some w) r =
     elim (cases_Bool (is_answer_to w.1 x)) [
@@ -49,7 +50,7 @@ join-by-length its x (Some w) r =
       ]
     ]
 
-join-length : (its : List ItemValue) (x : Message) → length (join its x) ≡ items_with (step_of (waiting_sid its) x) (length its)
+join-length : (its : List ItemValue) (x : Message) → length (join its x) ≡ item_count_after_step (step_of (waiting_sid its) x) (length its)
 join-length its x =
     elim (cases_Bool (is_tester_request x)) [
       | inl e ↦ rw e (one-longer its (exchange x.1 None))
@@ -64,9 +65,9 @@ pub joined-found : (M : List Message) (x : Message) (s : Step) (its : List ItemV
 joined-found M x s its is step_is =
     (λ i. join_for ((step_is ∙ sym (step-is M x)) i) (waiting (is i)) (is i) x) ∙ sym (join-step (meaning M) x) ∙ sym (meaning-append M x)
 
-pub items-next : (M : List Message) (x : Message) → length (meaning (M ++ x ∷ [])) ≡ items_with (step_after M x) (length (meaning M))
+pub items-next : (M : List Message) (x : Message) → length (meaning (M ++ x ∷ [])) ≡ item_count_after_step (step_after M x) (length (meaning M))
 items-next M x =
-    ap length (meaning-append M x) ∙ join-length (meaning M) x ∙ ap (λ s. items_with s (length (meaning M))) (step-is M x)
+    ap length (meaning-append M x) ∙ join-length (meaning M) x ∙ ap (λ s. item_count_after_step s (length (meaning M))) (step-is M x)
 
 -- each item has a message, so that there are no more items than messages
 pub items-few : (its : List ItemValue) → length its ≤ length (flattened its)
@@ -139,7 +140,7 @@ sides-next M x =
     rw (sym (any-next is_tester_request), sym (any-next is_tester_response), sym (any-next is_unit_non_response)) refl
 
 next-by : (s : Step) (M : List Message) (x : Message) (judge : Judge) (seen : Sides) → length M < 2 ^ 62 → HasCounted M judge
-    → standing_after (M ++ x ∷ []) ≡ stand_for s (standing_after M) x → length (meaning (M ++ x ∷ [])) ≡ items_with s (length (meaning M))
+    → standing_after (M ++ x ∷ []) ≡ stand_for s (standing_after M) x → length (meaning (M ++ x ∷ [])) ≡ item_count_after_step s (length (meaning M))
     → length (removed_messages (M ++ x ∷ [])) ≡ length (removed_messages M) + left-out-by s
     → HasCounted (M ++ x ∷ []) (advanced s (record judge { sides = seen }))
 next-by (step.Request service) M x judge seen few counts stands grown gone =
@@ -263,13 +264,13 @@ passed-by None items held_ones x is = refl
 passed-by (Some service) items held_ones x is = absurd (never-passes service x is)
 
 number-by-step : (s : Step) (M : List Message) (x : Message) → step_after M x ≡ s
-    → number-of (stand_for s (standing_after M) x) (items_with s (length (meaning M))) ≡ waits_with s (number_by s M) (waiting_number M)
+    → number-of (stand_for s (standing_after M) x) (item_count_after_step s (length (meaning M))) ≡ open_number_after_step s (number_by s M) (open_number_if_any M)
 number-by-step (step.Request service) M x is = ap (λ n. Some n) (omega arith)
 number-by-step step.Answer M x is = refl
 number-by-step step.Removed M x is = refl
 number-by-step step.Hold M x is = held-on (option_map sid (open_request M)) (length (meaning M)) (held M) x
 number-by-step step.Pass M x is = passed-by (option_map sid (open_request M)) (length (meaning M)) (length (held M)) x is
 
-pub waits-next : (M : List Message) (x : Message) → waiting_number (M ++ x ∷ []) ≡ waits_with (step_after M x) (number_after M x) (waiting_number M)
+pub waits-next : (M : List Message) (x : Message) → open_number_if_any (M ++ x ∷ []) ≡ open_number_after_step (step_after M x) (number_after M x) (open_number_if_any M)
 waits-next M x =
     (λ i. number-of (sym (stands-next M x) i) (items-next M x i)) ∙ number-by-step (step_after M x) M x refl

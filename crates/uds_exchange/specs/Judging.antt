@@ -24,18 +24,6 @@ next_number M = length (meaning M) + 1
 abbrev pub open_number : List Message → ℕ
 open_number M = length (meaning M) - length (held M)
 
--- the number of the exchange that waits for its answer, if one does
-abbrev pub waiting_number : List Message → Option ℕ
-waiting_number M = option_map (λ service. open_number M) (option_map sid (open_request M))
-
--- the number of the exchange that waits after a message of which this becomes, where its item has this number and that one waited
-abbrev pub waits_with : Step → ℕ → Option ℕ → Option ℕ
-waits_with (step.Request service) number waits = Some number
-waits_with step.Answer number waits = None
-waits_with step.Removed number waits = waits
-waits_with step.Hold number waits = waits
-waits_with step.Pass number waits = waits
-
 -- the number of the item of a message of which this becomes: a request or a stray is the next item, and an answer or a pending
 -- reply belongs to the open exchange
 abbrev pub number_by : Step → List Message → ℕ
@@ -48,14 +36,6 @@ number_by step.Pass M = next_number M
 -- the number of the item of one more message
 abbrev pub number_after : List Message → Message → ℕ
 number_after M message = number_by (step_after M message) M
-
--- how many items there are with one more message of which this becomes, where there were so many
-abbrev pub items_with : Step → ℕ → ℕ
-items_with (step.Request service) count = count + 1
-items_with step.Answer count = count
-items_with step.Removed count = count
-items_with step.Hold count = count + 1
-items_with step.Pass count = count + 1
 
 -- This is the first byte of the request that waits after the messages M, if one does.
 abbrev pub IsOpenSid : List Message → Option ℕ → Type 0
