@@ -9,7 +9,7 @@ ghost use Rattle.isotp_segment.specs.CanonicalFrames.{IsFullNext, canonical_fram
 ghost use Rattle.isotp_segment.specs.Timed.{all_frames};
 ghost use Rattle.uds_exchange.specs.Judging.{IsJudgedAfter, sent};
 ghost use Rattle.uds_exchange.specs.Order.{held as held_after};
-ghost use Rattle.uds_exchange.specs.Orderer.{IsHeld, orders_after};
+ghost use Rattle.uds_exchange.specs.Orderer.{IsHeld, judged_orderer_after};
 ghost use Rattle.trace_log.specs.Settings.{id_of};
 ghost use Rattle.trace_canon.specs.proving.Saying.{SaysDue, SaysFront};
 ghost use Rattle.trace_canon.specs.proving.Writing.{filled_up, text_from, progress_after};
@@ -215,10 +215,10 @@ pub(crate) fn order_to<S: TextSink>(
     out: &mut S,
     message: Judged<'_>,
 ) -> Result<(), AllocError>
-    ensures stands { OnOk result ((M : List Message) → orderer.old ≡ orders_after M → IsJudgedAfter M message.entry → orderer.new ≡ orders_after (M ++ sent message.entry ∷ [])) }
-    ensures says { OnOk result ((M : List Message) → orderer.old ≡ orders_after M → IsJudgedAfter M message.entry
+    ensures stands { OnOk result ((M : List Message) → orderer.old ≡ judged_orderer_after M → IsJudgedAfter M message.entry → orderer.new ≡ judged_orderer_after (M ++ sent message.entry ∷ [])) }
+    ensures says { OnOk result ((M : List Message) → orderer.old ≡ judged_orderer_after M → IsJudgedAfter M message.entry
         → SaysDue S.says config.now M (sent message.entry) progress.old out.old progress.new out.new) }
-    ensures held { OnErr result ((M : List Message) → orderer.old ≡ orders_after M → IsJudgedAfter M message.entry → IsHeld M (sent message.entry)) }
+    ensures held { OnErr result ((M : List Message) → orderer.old ≡ judged_orderer_after M → IsJudgedAfter M message.entry → IsHeld M (sent message.entry)) }
     ensures refused { OnErr result ((progress.new ≡ progress.old) × S.says out.old [] out.new) }
 {
     let mut sink = CanonicalSink {
@@ -239,9 +239,9 @@ pub(crate) fn finish_to<S: TextSink>(
     progress: &mut Progress,
     out: &mut S,
 )
-    ensures progress { (M : List Message) → orderer ≡ orders_after M
+    ensures progress { (M : List Message) → orderer ≡ judged_orderer_after M
         → progress.new ≡ progress_after config.now progress.old (all_frames MESSAGE_LIMIT (held_after M)) }
-    ensures says { (M : List Message) → orderer ≡ orders_after M
+    ensures says { (M : List Message) → orderer ≡ judged_orderer_after M
         → S.says out.old (text_from config.now progress.old (all_frames MESSAGE_LIMIT (held_after M))) out.new }
 {
     let mut sink = CanonicalSink {

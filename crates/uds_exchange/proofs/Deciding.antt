@@ -7,7 +7,7 @@ use Rattle.std.proofs.lemmas.Option.{same_Some, none-some}
 use Rattle.direction.specs.Dir.{Message}
 use Rattle.direction.specs.declared.Dir.{Dir}
 use Rattle.uds_exchange.specs.Decided.{decided_in, decided, exchange_items}
-use Rattle.uds_exchange.specs.Decider.{DeciderValue, decides_after, AreDecidedBy, IsKept}
+use Rattle.uds_exchange.specs.Decider.{DeciderValue, decider_after, AreDecidedBy, IsKept}
 use Rattle.uds_exchange.specs.Laws.{open_with, DecidedThenUndecided, DecidedGrows, UndecidedMustWait}
 use Rattle.uds_exchange.specs.Meaning.{ItemValue, exchange, stray, stray_of, is_tester_request, is_answer_to, is_pending_reply_to, meaning, flattened}
 use Rattle.uds_exchange.specs.Order.{has_exchange, open_request_in, open_request, held_in, held, rejection_of}
@@ -134,7 +134,7 @@ more its x =
     ]
 
 -- what one more message decides, by what a decider keeps
-pub decided-by : (M : List Message) (x : Message) (d : DeciderValue) → d ≡ decides_after M → AreDecidedBy M x (items_by d x)
+pub decided-by : (M : List Message) (x : Message) (d : DeciderValue) → d ≡ decider_after M → AreDecidedBy M x (items_by d x)
 decided-by M x d is =
     ap decided_in (meaning-append M x) ∙ more (meaning M) x
     ∙ ap (λ (o : Option (List ℕ)). let s : DeciderValue = record { request = o; holds = held M } in decided M ++ items_by s x) (sym (open-request-waits (meaning M)))
@@ -160,22 +160,22 @@ holds-same step.Removed d o x is = is
 holds-same step.Hold d o x is = ap (λ l. l ++ x ∷ []) is
 holds-same step.Pass d o x is = is
 
-holds-kept : (M : List Message) (x : Message) → (keep (decides_after M) x).holds ≡ held (M ++ x ∷ [])
-holds-kept M x = holds-same (step_in (decides_after M) x) (decides_after M) (standing_after M) x refl ∙ ap (λ (o : Standing). o.holds) (stands-next M x)
+holds-kept : (M : List Message) (x : Message) → (keep (decider_after M) x).holds ≡ held (M ++ x ∷ [])
+holds-kept M x = holds-same (step_in (decider_after M) x) (decider_after M) (standing_after M) x refl ∙ ap (λ (o : Standing). o.holds) (stands-next M x)
 
 -- it is where it stands after the longer list
-pub keeps-next : (M : List Message) (x : Message) → keep (decides_after M) x ≡ decides_after (M ++ x ∷ [])
+pub keeps-next : (M : List Message) (x : Message) → keep (decider_after M) x ≡ decider_after (M ++ x ∷ [])
 keeps-next M x =
     let request = request-kept (open_request M) (held M) x ∙ sym (open_request_goes_on M x) in
     let holds = holds-kept M x in
     (λ i. record { request = request i; holds = holds i })
 
 -- by the step that was found
-pub keeps-found : (M : List Message) (x : Message) (s : Step) (d : DeciderValue) → d ≡ decides_after M → s ≡ step_after M x → keep_for s d x ≡ decides_after (M ++ x ∷ [])
+pub keeps-found : (M : List Message) (x : Message) (s : Step) (d : DeciderValue) → d ≡ decider_after M → s ≡ step_after M x → keep_for s d x ≡ decider_after (M ++ x ∷ [])
 keeps-found M x s d is step_is = (λ i. keep_for (step_is i) (is i) x) ∙ keeps-next M x
 
-pub decided-found : (M : List Message) (x : Message) (s : Step) (d : DeciderValue) → d ≡ decides_after M → s ≡ step_after M x → AreDecidedBy M x (items_for s d x)
-decided-found M x s d is step_is = decided-by M x (decides_after M) refl ∙ (λ i. decided M ++ items_for (sym step_is i) (sym is i) x)
+pub decided-found : (M : List Message) (x : Message) (s : Step) (d : DeciderValue) → d ≡ decider_after M → s ≡ step_after M x → AreDecidedBy M x (items_for s d x)
+decided-found M x s d is step_is = decided-by M x (decider_after M) refl ∙ (λ i. decided M ++ items_for (sym step_is i) (sym is i) x)
 
 -- a step that begins an exchange is one of a request
 asks : (M : List Message) (x : Message) (service : ℕ) → step_after M x ≡ step.Request service → is_tester_request x ≡ true
@@ -186,7 +186,7 @@ asks M x service is =
     ]
 
 -- where memory is refused, the message is one that is kept
-pub refuses-kept : (M : List Message) (x : Message) (s : Step) (d : DeciderValue) → d ≡ decides_after M → s ≡ step_after M x → Refuses s d x → IsKept M x
+pub refuses-kept : (M : List Message) (x : Message) (s : Step) (d : DeciderValue) → d ≡ decider_after M → s ≡ step_after M x → Refuses s d x → IsKept M x
 refuses-kept M x s d is step_is (inl begins) = inl (asks M x begins.0 (sym step_is ∙ begins.1))
 refuses-kept M x s d is step_is (inr holds) =
     inr (sym (ap (λ (d : DeciderValue). d.holds) (keeps-found M x s d is step_is)) ∙ holds ∙ ap (λ (d : DeciderValue). d.holds ++ x ∷ []) is)
@@ -200,9 +200,9 @@ pub decided_grows : DecidedGrows
 decided_grows M [] = ([], ap decided (append-nil M) ∙ sym (append-nil (decided M)))
 decided_grows M (x ∷ N) =
     let later = decided_grows (M ++ x ∷ []) N in
-    let now = items_by (decides_after M) x in (
+    let now = items_by (decider_after M) x in (
       now ++ later.0,
-      ap decided (sym (append_assoc M (x ∷ []) N)) ∙ later.1 ∙ ap (λ l. l ++ later.0) (decided-by M x (decides_after M) refl) ∙ append_assoc (decided M) now later.0,
+      ap decided (sym (append_assoc M (x ∷ []) N)) ∙ later.1 ∙ ap (λ l. l ++ later.0) (decided-by M x (decider_after M) refl) ∙ append_assoc (decided M) now later.0,
     )
 
 pub undecided_must_wait : UndecidedMustWait
@@ -210,8 +210,8 @@ undecided_must_wait M request open_one =
     let x = rejection_of request in
     let answers = rejects request ((open-request-behind M request).0 open_one).is_one in
     let closed : open_request (M ++ x ∷ []) ≡ None = open_request_goes_on M x ∙ ap (λ o. open_with o x) open_one ∙ rw answers refl in
-    let now : items_by (decides_after M) x ≡ exchange request (Some x.1) ∷ map stray_of (held M) = rw (open_one, answers) refl in
+    let now : items_by (decider_after M) x ≡ exchange request (Some x.1) ∷ map stray_of (held M) = rw (open_one, answers) refl in
     sym (decided_then_undecided (M ++ x ∷ []))
     ∙ ap (λ o. decided (M ++ x ∷ []) ++ exchange_items o None (held (M ++ x ∷ []))) closed
     ∙ append-nil (decided (M ++ x ∷ []))
-    ∙ decided-by M x (decides_after M) refl ∙ ap (λ l. decided M ++ l) now
+    ∙ decided-by M x (decider_after M) refl ∙ ap (λ l. decided M ++ l) now

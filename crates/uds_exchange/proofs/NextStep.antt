@@ -5,7 +5,7 @@ use Rattle.direction.specs.Dir.{Message}
 use Rattle.uds_message.specs.Message.{sid}
 use Rattle.uds_exchange.specs.Meaning.{ItemValue, is_tester_request, is_answer_to, is_pending_reply_to, meaning, flattened}
 use Rattle.uds_exchange.specs.Order.{held_in, held, early}
-use Rattle.uds_exchange.specs.Orderer.{JudgedOrdererValue, orders_after, IsDue, PutsDue, IsHeld, StopsDue}
+use Rattle.uds_exchange.specs.Orderer.{JudgedOrdererValue, judged_orderer_after, IsDue, PutsDue, IsHeld, StopsDue}
 use Rattle.uds_exchange.specs.WaitingExchange.{waiting, waiting_sid}
 use Rattle.uds_exchange.specs.proving.Pairing.{join_by, join}
 use Rattle.uds_exchange.specs.OneMessage.{step_of}
@@ -89,21 +89,21 @@ well-still step.Removed o x = refl
 well-still step.Hold o x = refl
 well-still step.Pass o x = refl
 
-holds-next : (M : List Message) (x : Message) (s : Step) (o : JudgedOrdererValue) → o ≡ orders_after M → s ≡ step_after M x → (advance_for s o x).holds ≡ held (M ++ x ∷ [])
+holds-next : (M : List Message) (x : Message) (s : Step) (o : JudgedOrdererValue) → o ≡ judged_orderer_after M → s ≡ step_after M x → (advance_for s o x).holds ≡ held (M ++ x ∷ [])
 holds-next M x s o is step_is =
     ap (λ r. (advance_for r o x).holds) step_is
     ∙ holds-same (step_after M x) o (standing_after M) x (ap (λ (q : JudgedOrdererValue). q.holds) is)
     ∙ ap (λ (p : Standing). p.holds) (stands-next M x)
 
 -- so it is where it stands after the longer list
-pub ordered-next : (M : List Message) (x : Message) (s : Step) (o : JudgedOrdererValue) → o ≡ orders_after M → s ≡ step_after M x → advance_for s o x ≡ orders_after (M ++ x ∷ [])
+pub ordered-next : (M : List Message) (x : Message) (s : Step) (o : JudgedOrdererValue) → o ≡ judged_orderer_after M → s ≡ step_after M x → advance_for s o x ≡ judged_orderer_after (M ++ x ∷ [])
 ordered-next M x s o is step_is =
     let well = well-still s o x ∙ ap (λ (q : JudgedOrdererValue). q.has_failed) is in
     let holds = holds-next M x s o is step_is in
     (λ i. record { has_failed = well i; holds = holds i })
 
 -- and what it holds with one more message is what is held after the longer list
-pub held-with : (M : List Message) (x : Message) (s : Step) (o : JudgedOrdererValue) → o ≡ orders_after M → s ≡ step_after M x → (advance_for s o x).holds ≡ o.holds ++ x ∷ []
+pub held-with : (M : List Message) (x : Message) (s : Step) (o : JudgedOrdererValue) → o ≡ judged_orderer_after M → s ≡ step_after M x → (advance_for s o x).holds ≡ o.holds ++ x ∷ []
     → IsHeld M x
 held-with M x s o is step_is holds =
     sym (holds-next M x s o is step_is) ∙ holds ∙ ap (λ (q : JudgedOrdererValue). q.holds ++ x ∷ []) is
@@ -111,12 +111,12 @@ held-with M x s o is step_is holds =
 pub early-due : (M : List Message) (x : Message) → early (M ++ x ∷ []) ≡ early M ++ due (standing_after M) x
 early-due M x = early-append M x ∙ ap (λ l. early M ++ l) (sym (due-same (meaning M) x) ∙ ap (λ o. due o x) (sym (stands-is M)))
 
-due-from : (M : List Message) (x : Message) (s : Step) (o : JudgedOrdererValue) → o ≡ orders_after M → s ≡ step_after M x → IsDue M x (due_for s o.holds x)
+due-from : (M : List Message) (x : Message) (s : Step) (o : JudgedOrdererValue) → o ≡ judged_orderer_after M → s ≡ step_after M x → IsDue M x (due_for s o.holds x)
 due-from M x s o is step_is =
     early-due M x ∙ (λ i. early M ++ due_for (sym step_is i) (sym (ap (λ (q : JudgedOrdererValue). q.holds) is) i) x)
 
 module _ {S E : Type 0} (after_ok : AfterOk S) (after_err : AfterErr S E) where
-  pub puts-due : (M : List Message) (x : Message) (by : Step) (o : JudgedOrdererValue) (s t : S) → o ≡ orders_after M → by ≡ step_after M x
+  pub puts-due : (M : List Message) (x : Message) (by : Step) (o : JudgedOrdererValue) (s t : S) → o ≡ judged_orderer_after M → by ≡ step_after M x
       → Puts after_ok s (due_for by o.holds x) t → PutsDue after_ok M x s t
   puts-due M x by o s t is step_is h = (due_for by o.holds x, due-from M x by o is step_is, h)
 
@@ -130,7 +130,7 @@ module _ {S E : Type 0} (after_ok : AfterOk S) (after_err : AfterErr S E) where
   puts-end s t u M h d =
       subst (λ (l : List Message). Puts after_ok s l u) (early-then-held M) (puts-append after_ok after_err s t u (early M) (held M) h d)
 
-  pub stops-due : (M : List Message) (x : Message) (by : Step) (o p : JudgedOrdererValue) (s t : S) (f : OrderFault E) → o ≡ orders_after M → by ≡ step_after M x
+  pub stops-due : (M : List Message) (x : Message) (by : Step) (o p : JudgedOrdererValue) (s t : S) (f : OrderFault E) → o ≡ judged_orderer_after M → by ≡ step_after M x
       → Stops after_ok after_err by x o s p t f → StopsDue after_ok after_err M x s t f
   stops-due M x by o p s t fault.Memory is step_is h = h.2
   stops-due M x by o p s t (fault.Sink e) is step_is h = (due_for by o.holds x, due-from M x by o is step_is, h.2)

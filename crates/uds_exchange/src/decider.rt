@@ -4,7 +4,7 @@ ghost use Rattle.std.specs.Prelude.{◌≡◌, ◌++◌, ◌∷◌, [], List, On
 ghost use Rattle.direction.specs.Dir.{Message};
 ghost use Rattle.uds_exchange.specs.Meaning.{stray_of};
 ghost use Rattle.uds_exchange.specs.Decided.{exchange_items, undecided};
-ghost use Rattle.uds_exchange.specs.Decider.{decides_after, PutsDecided, IsKept};
+ghost use Rattle.uds_exchange.specs.Decider.{decider_after, PutsDecided, IsKept};
 ghost use Rattle.uds_exchange.specs.ItemSink.{PutsItems};
 ghost use Rattle.uds_exchange.specs.Judging.{IsJudgedAfter, sent};
 ghost use Rattle.uds_exchange.specs.proving.Deciding.{items_for, keep_for, Refuses};
@@ -43,7 +43,7 @@ impl Model for Decider {
 impl Decider {
     /// A decider that has taken no message. It takes no memory.
     pub fn new(alloc: Global) -> Decider
-        ensures { result ≡ decides_after [] }
+        ensures { result ≡ decider_after [] }
     {
         Decider {
             alloc,
@@ -55,21 +55,21 @@ impl Decider {
     /// Takes one more message, and puts all items that are now decided. Memory is taken for a request, and for a message
     /// that is held. After an `Err` nothing was put, the decider is unchanged, and the call may be made again.
     pub fn take<S: ItemSink>(&mut self, message: Judged<'_>, sink: &mut S) -> Result<(), AllocError>
-        ensures stands { OnOk result ((M : List Message) → self.old ≡ decides_after M → IsJudgedAfter M message.entry
-            → self.new ≡ decides_after (M ++ sent message.entry ∷ [])) }
-        ensures puts { OnOk result ((M : List Message) → self.old ≡ decides_after M → IsJudgedAfter M message.entry
+        ensures stands { OnOk result ((M : List Message) → self.old ≡ decider_after M → IsJudgedAfter M message.entry
+            → self.new ≡ decider_after (M ++ sent message.entry ∷ [])) }
+        ensures puts { OnOk result ((M : List Message) → self.old ≡ decider_after M → IsJudgedAfter M message.entry
             → PutsDecided S.takes M (sent message.entry) sink.old sink.new) }
 
         ensures err { OnErr result (self.new ≡ self.old) }
         ensures unput { OnErr result (sink.new ≡ sink.old) }
-        ensures kept_only { OnErr result ((M : List Message) → self.old ≡ decides_after M → IsJudgedAfter M message.entry → IsKept M (sent message.entry)) }
+        ensures kept_only { OnErr result ((M : List Message) → self.old ≡ decider_after M → IsJudgedAfter M message.entry → IsKept M (sent message.entry)) }
     {
         self.advance(message, sink)
     }
 
     /// Puts what is left: the exchange of the open request, and the strays behind it. It takes no memory.
     pub fn finish<S: ItemSink>(self, sink: &mut S)
-        ensures { (M : List Message) → self ≡ decides_after M → PutsItems S.takes sink.old (undecided M) sink.new }
+        ensures { (M : List Message) → self ≡ decider_after M → PutsItems S.takes sink.old (undecided M) sink.new }
     {
         let Decider {
             alloc: _,

@@ -4,7 +4,7 @@ ghost use Rattle.std.specs.Prelude.{◌≡◌, ◌≢◌, ◌++◌, ◌∷◌, [
 ghost use Rattle.direction.specs.Dir.{Message};
 ghost use Rattle.uds_exchange.specs.Order.{held as held_after};
 ghost use Rattle.uds_exchange.specs.Sink.{Puts};
-ghost use Rattle.uds_exchange.specs.Orderer.{stands_after, PutsDue, IsHeld, StopsDue, StopsHeld};
+ghost use Rattle.uds_exchange.specs.Orderer.{orderer_after, PutsDue, IsHeld, StopsDue, StopsHeld};
 ghost use Rattle.uds_exchange.specs.declared.order_fault.OrderFault.TheVariants.{Memory, Sink, Failed};
 
 use crate::judge::Judge;
@@ -34,7 +34,7 @@ impl Model for Orderer {
 impl Orderer {
     /// An orderer that has taken no message. It takes no memory.
     pub fn new(alloc: Global) -> Orderer
-        ensures { result ≡ stands_after [] }
+        ensures { result ≡ orderer_after [] }
     {
         Orderer {
             judge: Judge::new(),
@@ -58,15 +58,15 @@ impl Orderer {
         message: &[u8],
         sink: &mut S,
     ) -> Result<(), OrderFault<S::Fault>>
-        ensures stands { OnOk result ((M : List Message) → self.old ≡ stands_after M
-            → self.new ≡ stands_after (M ++ (dir, message.now) ∷ [])) }
-        ensures puts { OnOk result ((M : List Message) → self.old ≡ stands_after M
+        ensures stands { OnOk result ((M : List Message) → self.old ≡ orderer_after M
+            → self.new ≡ orderer_after (M ++ (dir, message.now) ∷ [])) }
+        ensures puts { OnOk result ((M : List Message) → self.old ≡ orderer_after M
             → PutsDue S.after_ok M (dir, message.now) sink.old sink.new) }
 
         ensures memory { result ≡ Err Memory → (self.new ≡ self.old) × (sink.new ≡ sink.old) }
-        ensures held_only { result ≡ Err Memory → (M : List Message) → self.old ≡ stands_after M
+        ensures held_only { result ≡ Err Memory → (M : List Message) → self.old ≡ orderer_after M
             → IsHeld M (dir, message.now) }
-        ensures stops { IfErr result (λ fault. (M : List Message) → self.old ≡ stands_after M
+        ensures stops { IfErr result (λ fault. (M : List Message) → self.old ≡ orderer_after M
             → StopsDue S.after_ok S.after_err M (dir, message.now) sink.old sink.new fault) }
 
         ensures fails { (why : S.Fault) → result ≡ Err (Sink why) → self.new.has_failed ≡ true }
@@ -82,9 +82,9 @@ impl Orderer {
 
     /// Puts what is held. It takes no memory.
     pub fn finish<S: MessageSink>(self, sink: &mut S) -> Result<(), OrderFault<S::Fault>>
-        ensures puts { OnOk result ((M : List Message) → self ≡ stands_after M
+        ensures puts { OnOk result ((M : List Message) → self ≡ orderer_after M
             → Puts S.after_ok sink.old (held_after M) sink.new) }
-        ensures stops { IfErr result (λ fault. (M : List Message) → self ≡ stands_after M
+        ensures stops { IfErr result (λ fault. (M : List Message) → self ≡ orderer_after M
             → StopsHeld S.after_ok S.after_err (held_after M) sink.old sink.new fault) }
         ensures never_memory { result ≢ Err Memory }
 
