@@ -18,7 +18,7 @@ pub record CompletesJudged (T : List Entry) (e : Entry) (judged : Judged) : Type
   pub dir : e.dir ≡ judged.dir
   pub did : (verdict MESSAGE_LIMIT T e).verdict ≡ message judged.bytes.now
   pub step : judged.step ≡ step_after (messages MESSAGE_LIMIT T) (sent judged)
-  pub item : judged.item ≡ number_after (messages MESSAGE_LIMIT T) (sent judged)
+  pub item : judged.item_number ≡ number_after (messages MESSAGE_LIMIT T) (sent judged)
 
 -- a frame told no other message than it completed
 completed : (d : Dir) (did : VerdictValue) (m : Message) → told_message d did ≡ m ∷ [] → (d ≡ m.0) × (did ≡ message m.1)

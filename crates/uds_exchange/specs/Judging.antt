@@ -65,7 +65,7 @@ IsJudgedAfter M judged = judged.step ≡ step_after M (sent judged)
 -- This was judged of what came behind the messages M: of the one message that did, or none where no message came.
 abbrev pub IsJudgmentOf : List Message → List Message → Option Judged → Type 0
 IsJudgmentOf M came None = came ≡ []
-IsJudgmentOf M came (Some judged) = (came ≡ sent judged ∷ []) × IsJudgedAfter M judged × (judged.item ≡ number_after M (sent judged))
+IsJudgmentOf M came (Some judged) = (came ≡ sent judged ∷ []) × IsJudgedAfter M judged × (judged.item_number ≡ number_after M (sent judged))
 
 -- a count that stays at the largest number of 64 bits
 abbrev pub one_more : ℕ → ℕ

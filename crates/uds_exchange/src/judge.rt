@@ -19,7 +19,7 @@ pub struct Judged<'a> {
     /// What becomes of it.
     pub step: Step,
     /// The number of its item, from 1. A reply that is left out has that of the exchange that it puts off.
-    pub item: u64,
+    pub item_number: u64,
 }
 
 /// Says of each message what becomes of it. It holds no message, so that it takes no memory.
@@ -59,17 +59,17 @@ impl Judge {
         ensures sent { sent result ≡ (dir, message.now) }
         ensures waits { (M : List Message) → IsOpenSid M self.old.open_sid → IsOpenSid (M ++ (dir, message.now) ∷ []) self.new.open_sid }
         ensures step { (M : List Message) → IsOpenSid M self.old.open_sid → result.step ≡ step_after M (dir, message.now) }
-        ensures item { (M : List Message) → length M < 2 ^ 62 → HasCounted M self.old → result.item ≡ number_after M (dir, message.now) }
+        ensures item { (M : List Message) → length M < 2 ^ 62 → HasCounted M self.old → result.item_number ≡ number_after M (dir, message.now) }
         ensures sides { (M : List Message) → self.old.sides ≡ sides_of M → self.new.sides ≡ sides_of (M ++ (dir, message.now) ∷ []) }
     {
         let step = step_of(self.open_sid, dir, message);
         self.sides.note(step, dir, message);
-        let item = self.advance(step);
+        let item_number = self.advance(step);
         Judged {
             dir,
             bytes: message,
             step,
-            item,
+            item_number,
         }
     }
 
