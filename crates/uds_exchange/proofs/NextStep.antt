@@ -13,7 +13,7 @@ use Rattle.uds_exchange.specs.proving.Steps.{Standing, standing_after, due_for, 
 use Rattle.uds_exchange.specs.Judging.{step_after}
 use Rattle.uds_exchange.specs.declared.step.Step.{Step}
 use Rattle.uds_exchange.specs.declared.step.Step.TheVariants as step
-use Rattle.uds_exchange.specs.Sink.{AfterOk, AfterErr, Puts}
+use Rattle.uds_exchange.specs.MessageSink.{AfterOk, AfterErr, Puts}
 use Rattle.uds_exchange.specs.declared.order_fault.OrderFault.{OrderFault}
 use Rattle.uds_exchange.specs.declared.order_fault.OrderFault.TheVariants as fault
 use Rattle.uds_exchange.proofs.Waiting.{sid_of, waiting-stray, waiting-request, waiting-answered}

@@ -3,7 +3,7 @@ pub mod Roles
 pub mod ItemSeen
 pub mod Difference
 pub mod Order
-pub mod Sink
+pub mod MessageSink
 pub mod Orderer
 pub mod Decided
 pub mod ItemSink

@@ -5,7 +5,7 @@ use Rattle.uds_message.specs.Message.{sid}
 use Rattle.uds_exchange.specs.declared.order_fault.OrderFault.{OrderFault}
 use Rattle.uds_exchange.specs.declared.order_fault.OrderFault.TheVariants as fault
 use Rattle.uds_exchange.specs.Order.{open_request, held, early}
-use Rattle.uds_exchange.specs.Sink.{AfterOk, AfterErr, Puts, Fails}
+use Rattle.uds_exchange.specs.MessageSink.{AfterOk, AfterErr, Puts, Fails}
 
 -- whether an earlier call ended with a fault of the sink, the first byte of the open request, and the messages that are
 -- held

@@ -13,7 +13,7 @@ use crate::held::HeldMessages;
 use crate::item::Item;
 use crate::item_sink::ItemSink;
 use crate::judge::Judged;
-use crate::sink::{MessageSink, NoFault};
+use crate::message_sink::{MessageSink, NoFault};
 use crate::step::Step;
 use direction::Dir;
 use std::alloc::{AllocError, Global};

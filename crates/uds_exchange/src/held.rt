@@ -1,11 +1,11 @@
 //! Messages that wait, with who sent them.
 
 ghost use Rattle.std.specs.Prelude.{◌≡◌, ◌++◌, ◌∷◌, [], OnOk, OnErr, IfErr, length, sum_by};
-ghost use Rattle.uds_exchange.specs.Sink.{Puts, Fails};
+ghost use Rattle.uds_exchange.specs.MessageSink.{Puts, Fails};
 ghost use Rattle.uds_exchange.specs.proving.HeldMessages.{AreHeldIn, messages_at, span_of};
 
 use crate::messages::{Messages, Span};
-use crate::sink::MessageSink;
+use crate::message_sink::MessageSink;
 use direction::Dir;
 use std::alloc::{AllocError, Global};
 use std::marker::Model;

@@ -4,7 +4,7 @@ ghost use Rattle.std.specs.Prelude.{◌≡◌, ◌≢◌, ◌++◌, ◌∷◌, [
 ghost use Rattle.direction.specs.Dir.{Message};
 ghost use Rattle.uds_exchange.specs.Judging.{IsJudgedAfter, sent};
 ghost use Rattle.uds_exchange.specs.Order.{held as held_after};
-ghost use Rattle.uds_exchange.specs.Sink.{Puts, Fails};
+ghost use Rattle.uds_exchange.specs.MessageSink.{Puts, Fails};
 ghost use Rattle.uds_exchange.specs.Orderer.{judged_orderer_after, PutsDue, IsHeld, StopsDue, StopsHeld};
 ghost use Rattle.uds_exchange.specs.proving.Steps as Spec;
 ghost use Rattle.uds_exchange.specs.proving.Steps.{due_for, Stops};
@@ -13,7 +13,7 @@ ghost use Rattle.uds_exchange.specs.declared.order_fault.OrderFault.TheVariants.
 use crate::held::HeldMessages;
 use crate::judge::Judged;
 use crate::order_fault::OrderFault;
-use crate::sink::MessageSink;
+use crate::message_sink::MessageSink;
 use crate::step::Step;
 use direction::Dir;
 use std::alloc::Global;

@@ -3,14 +3,14 @@
 ghost use Rattle.std.specs.Prelude.{◌≡◌, ◌≢◌, ◌++◌, ◌∷◌, [], List, true, length, Err, OnOk, IfErr, sum_by};
 ghost use Rattle.direction.specs.Dir.{Message};
 ghost use Rattle.uds_exchange.specs.Order.{held as held_after};
-ghost use Rattle.uds_exchange.specs.Sink.{Puts};
+ghost use Rattle.uds_exchange.specs.MessageSink.{Puts};
 ghost use Rattle.uds_exchange.specs.Orderer.{orderer_after, PutsDue, IsHeld, StopsDue, StopsHeld};
 ghost use Rattle.uds_exchange.specs.declared.order_fault.OrderFault.TheVariants.{Memory, Sink, Failed};
 
 use crate::judge::Judge;
 use crate::judged_orderer::JudgedOrderer;
 use crate::order_fault::OrderFault;
-use crate::sink::MessageSink;
+use crate::message_sink::MessageSink;
 use direction::Dir;
 use std::alloc::Global;
 use std::marker::Model;

@@ -8,7 +8,7 @@ use Rattle.uds_exchange.specs.declared.order_fault.OrderFault.TheVariants as fau
 use Rattle.uds_message.specs.Message.{sid}
 use Rattle.uds_exchange.specs.Order.{open_request, held}
 use Rattle.uds_exchange.specs.OneMessage.{step_of}
-use Rattle.uds_exchange.specs.Sink.{AfterOk, AfterErr, Fails}
+use Rattle.uds_exchange.specs.MessageSink.{AfterOk, AfterErr, Fails}
 use Rattle.uds_exchange.specs.Orderer.{JudgedOrdererValue}
 
 -- the messages that have their place by this step with a message, where these are held
