@@ -12,7 +12,7 @@ use Rattle.uds_exchange.specs.Order.{has_exchange}
 use Rattle.uds_exchange.specs.declared.step.Step.{Step}
 use Rattle.uds_exchange.specs.declared.step.Step.TheVariants as becomes
 use Rattle.uds_exchange.specs.WaitingExchange.{one_later, waiting, waiting_sid}
-use Rattle.uds_exchange.specs.proving.Pairing.{join, join_by}
+use Rattle.uds_exchange.specs.proving.Pairing.{items_with, items_with_other}
 use Rattle.uds_message.specs.Message.{is_keep_alive, is_negative_response, sid}
 use Rattle.trace_report.specs.Events.{role_of_step}
 use Rattle.trace_report.specs.Items.{RowMessage, answer_in, item_value, items_in}
@@ -203,7 +203,7 @@ module _ (ks : List RowKind) (x : Message) where
   stays = values-behind ks (nothing ∷ []) refl ∙ append-nil (values_of ks)
 
   joined-by : (o : Option (ℕ × List ℕ)) → waiting (values_of ks) ≡ o
-      → with_kind (kind_of_step (step_if_open (option_map (λ place. sid place.1) o) x) x) ≡ join_by o (values_of ks) x
+      → with_kind (kind_of_step (step_if_open (option_map (λ place. sid place.1) o) x) x) ≡ items_with_other o (values_of ks) x
   joined-by None is = values-behind ks (strays x.0 x.1 ∷ []) refl
   joined-by (Some w) is = elim (cases_Bool (is_answer_to w.1 x)) [
     | inl e ↦ rw e (answered x.1 ks w is)
@@ -213,7 +213,7 @@ module _ (ks : List RowKind) (x : Message) where
     ]
   ]
 
-  pub joined : with_kind (kind_of_step (step_of (waiting_sid (values_of ks)) x) x) ≡ join (values_of ks) x
+  pub joined : with_kind (kind_of_step (step_of (waiting_sid (values_of ks)) x) x) ≡ items_with (values_of ks) x
   joined = elim (cases_Bool (is_tester_request x)) [
     | inl e ↦ rw e (values-behind ks (asks x.1 ∷ []) refl)
     | inr e ↦ rw e (joined-by (waiting (values_of ks)) refl)

@@ -10,7 +10,7 @@ use Rattle.direction.specs.declared.Dir.{Dir}
 use Rattle.direction.specs.declared.Dir.TheVariants.{Tester, Unit}
 use Rattle.uds_exchange.specs.Meaning.{ItemValue, exchange, stray, is_tester_request, is_answer_to, is_pending_reply_to, meaning, flattened}
 use Rattle.uds_exchange.specs.WaitingExchange.{one_later, waiting}
-use Rattle.uds_exchange.specs.proving.Pairing.{join_by, join}
+use Rattle.uds_exchange.specs.proving.Pairing.{items_with_other, items_with}
 use Rattle.uds_exchange.specs.Order.{has_exchange, held_in, held, early}
 use Rattle.uds_exchange.proofs.Waiting.{has-more, has-last, has-set, waiting-at, one_later-some}
 use Rattle.uds_exchange.proofs.Replies.{from-tester, from-unit}
@@ -128,7 +128,7 @@ whole-early : (its : List ItemValue) → waiting its ≡ None → early_in its �
 whole-early its h = sym (append-nil (early_in its)) ∙ ap (λ l. early_in its ++ l) (sym (none-held its h)) ∙ early-held its
 
 early-joins : (its : List ItemValue) (x : Message) (w : Option (ℕ × List ℕ)) → is_tester_request x ≡ false → waiting its ≡ w
-    → early_in (join_by w its x) ≡ early_in its ++ due_by w (held_in its) x
+    → early_in (items_with_other w its x) ≡ early_in its ++ due_by w (held_in its) x
 early-joins its x None r h = (early-stray its x.0 x.1 h).0 ∙ ap (λ l. l ++ x ∷ []) (sym (whole-early its h))
 early-joins its x (Some w) r h =
     elim (cases_Bool (is_answer_to w.1 x)) [
@@ -139,7 +139,7 @@ early-joins its x (Some w) r h =
       ]
     ]
 
-pub early-join : (its : List ItemValue) (x : Message) → early_in (join its x) ≡ early_in its ++ due_in its x
+pub early-join : (its : List ItemValue) (x : Message) → early_in (items_with its x) ≡ early_in its ++ due_in its x
 early-join its x =
     elim (cases_Bool (is_tester_request x)) [
       | inl e ↦ rw e (

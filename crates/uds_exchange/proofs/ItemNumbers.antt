@@ -11,14 +11,14 @@ use Rattle.uds_exchange.specs.Laws.{removed_with}
 use Rattle.uds_exchange.specs.Meaning.{ItemValue, exchange, stray, stray_of, is_from_tester, is_tester_request, is_answer_to, is_pending_reply_to, meaning, flattened, removed_messages}
 use Rattle.uds_exchange.specs.Order.{has_exchange, held, held_in, early, open_request, open_request_in}
 use Rattle.uds_exchange.specs.WaitingExchange.{waiting, waiting_sid}
-use Rattle.uds_exchange.specs.proving.Pairing.{join_for, join_by, join}
+use Rattle.uds_exchange.specs.proving.Pairing.{items_after_step, items_with_other, items_with}
 use Rattle.uds_exchange.specs.OneMessage.{step_of}
-use Rattle.uds_exchange.specs.proving.Steps.{Standing, standing_after, stand_for}
+use Rattle.uds_exchange.specs.proving.Steps.{Standing, standing_after, standing_after_step}
 use Rattle.uds_exchange.specs.Judging.{step_after, number_by, number_after, IsOpenSid, HasCounted}
 use Rattle.uds_exchange.specs.declared.judge.Judge.{Judge}
 use Rattle.uds_exchange.specs.Exchanged.{is_tester_response, is_unit_non_response, sides_of}
 use Rattle.uds_exchange.specs.proving.ItemNumbers.{item_count_after_step, open_number_if_any, open_number_after_step}
-use Rattle.uds_exchange.specs.proving.Judging.{advanced, noted, number_in}
+use Rattle.uds_exchange.specs.proving.Judging.{judge_after_step, noted, number_in}
 use Rattle.uds_exchange.specs.declared.sides.Sides.{Sides}
 use Rattle.uds_exchange.specs.declared.step.Step.{Step}
 use Rattle.uds_exchange.specs.declared.step.Step.TheVariants as step
@@ -39,7 +39,7 @@ one-longer : (its : List ItemValue) (item : ItemValue) → length (its ++ item �
 one-longer its item = length-append its (item ∷ [])
 
 join-by-length : (its : List ItemValue) (x : Message) (w : Option (ℕ × List ℕ)) → is_tester_request x ≡ false
-    → length (join_by w its x) ≡ item_count_after_step (step_of (sid_of w) x) (length its)
+    → length (items_with_other w its x) ≡ item_count_after_step (step_of (sid_of w) x) (length its)
 join-by-length its x None r = rw r (one-longer its (stray_of x))
 join-by-length its x (Some w) r =
     elim (cases_Bool (is_answer_to w.1 x)) [
@@ -50,20 +50,20 @@ join-by-length its x (Some w) r =
       ]
     ]
 
-join-length : (its : List ItemValue) (x : Message) → length (join its x) ≡ item_count_after_step (step_of (waiting_sid its) x) (length its)
+join-length : (its : List ItemValue) (x : Message) → length (items_with its x) ≡ item_count_after_step (step_of (waiting_sid its) x) (length its)
 join-length its x =
     elim (cases_Bool (is_tester_request x)) [
       | inl e ↦ rw e (one-longer its (exchange x.1 None))
-      | inr e ↦ (ap length (let j : join its x ≡ join_by (waiting its) its x = rw e refl in j) ∙ join-by-length its x (waiting its) e)
+      | inr e ↦ (ap length (let j : items_with its x ≡ items_with_other (waiting its) its x = rw e refl in j) ∙ join-by-length its x (waiting its) e)
     ]
 
 pub step-is : (M : List Message) (x : Message) → step_of (waiting_sid (meaning M)) x ≡ step_after M x
 step-is M x = ap (λ (o : Standing). step_of o.open_sid x) (sym (stands-is M))
 
 -- the items with one more message, by the step that was found
-pub joined-found : (M : List Message) (x : Message) (s : Step) (its : List ItemValue) → its ≡ meaning M → s ≡ step_after M x → join_for s (waiting its) its x ≡ meaning (M ++ x ∷ [])
+pub joined-found : (M : List Message) (x : Message) (s : Step) (its : List ItemValue) → its ≡ meaning M → s ≡ step_after M x → items_after_step s (waiting its) its x ≡ meaning (M ++ x ∷ [])
 joined-found M x s its is step_is =
-    (λ i. join_for ((step_is ∙ sym (step-is M x)) i) (waiting (is i)) (is i) x) ∙ sym (join-step (meaning M) x) ∙ sym (meaning-append M x)
+    (λ i. items_after_step ((step_is ∙ sym (step-is M x)) i) (waiting (is i)) (is i) x) ∙ sym (join-step (meaning M) x) ∙ sym (meaning-append M x)
 
 pub items-next : (M : List Message) (x : Message) → length (meaning (M ++ x ∷ [])) ≡ item_count_after_step (step_after M x) (length (meaning M))
 items-next M x =
@@ -140,9 +140,9 @@ sides-next M x =
     rw (sym (any-next is_tester_request), sym (any-next is_tester_response), sym (any-next is_unit_non_response)) refl
 
 next-by : (s : Step) (M : List Message) (x : Message) (judge : Judge) (seen : Sides) → length M < 2 ^ 62 → HasCounted M judge
-    → standing_after (M ++ x ∷ []) ≡ stand_for s (standing_after M) x → length (meaning (M ++ x ∷ [])) ≡ item_count_after_step s (length (meaning M))
+    → standing_after (M ++ x ∷ []) ≡ standing_after_step s (standing_after M) x → length (meaning (M ++ x ∷ [])) ≡ item_count_after_step s (length (meaning M))
     → length (removed_messages (M ++ x ∷ [])) ≡ length (removed_messages M) + left-out-by s
-    → HasCounted (M ++ x ∷ []) (advanced s (record judge { sides = seen }))
+    → HasCounted (M ++ x ∷ []) (judge_after_step s (record judge { sides = seen }))
 next-by (step.Request service) M x judge seen few counts stands grown gone =
     let few_items = few-items M in let is = counts.items in record {
       waits = ap (λ (o : Standing). o.open_sid) (sym stands);
@@ -180,14 +180,14 @@ next-by step.Pass M x judge seen few counts stands grown gone =
       removed = omega (arith, counts.removed, gone);
     }
 
--- what is kept is advanced by one more message
+-- what is kept is judge_after_step by one more message
 pub counts-next : (M : List Message) (x : Message) (judge now : Judge) (s : Step) (seen : Sides) → length M < 2 ^ 62 → HasCounted M judge
-    → s ≡ step_of judge.open_sid x → now ≡ advanced s (record judge { sides = seen }) → HasCounted (M ++ x ∷ []) now
+    → s ≡ step_of judge.open_sid x → now ≡ judge_after_step s (record judge { sides = seen }) → HasCounted (M ++ x ∷ []) now
 counts-next M x judge now s seen few counts s_is now_is =
     let found : s ≡ step_after M x = s_is ∙ ap (λ o. step_of o x) counts.waits in
     rw (now_is, found) (next-by (step_after M x) M x judge seen few counts (sym (stands-next M x)) (items-next M x) (removed-next M x))
 
-sides-kept : (s : Step) (judge : Judge) (seen : Sides) → (advanced s (record judge { sides = seen })).sides ≡ seen
+sides-kept : (s : Step) (judge : Judge) (seen : Sides) → (judge_after_step s (record judge { sides = seen })).sides ≡ seen
 sides-kept (step.Request service) judge seen = refl
 sides-kept step.Answer judge seen = refl
 sides-kept step.Removed judge seen = refl
@@ -196,7 +196,7 @@ sides-kept step.Pass judge seen = refl
 
 -- and so is what tells exchanged sides
 pub sides-found : (M : List Message) (x : Message) (judge now : Judge) (s : Step) (seen : Sides) → judge.sides ≡ sides_of M → seen ≡ noted x judge.sides
-    → now ≡ advanced s (record judge { sides = seen }) → now.sides ≡ sides_of (M ++ x ∷ [])
+    → now ≡ judge_after_step s (record judge { sides = seen }) → now.sides ≡ sides_of (M ++ x ∷ [])
 sides-found M x judge now s seen were seen_is now_is =
     ap (λ (j : Judge). j.sides) now_is ∙ sides-kept s judge seen ∙ seen_is ∙ ap (noted x) were ∙ sides-next M x
 
@@ -213,7 +213,7 @@ step-found M x judge s waits s_is = s_is ∙ ap (λ o. step_of o x) waits
 
 -- which request waits then
 waits-by : (s : Step) (judge : Judge) (seen : Sides) (standing : Standing) (x : Message) → judge.open_sid ≡ standing.open_sid
-    → (advanced s (record judge { sides = seen })).open_sid ≡ (stand_for s standing x).open_sid
+    → (judge_after_step s (record judge { sides = seen })).open_sid ≡ (standing_after_step s standing x).open_sid
 waits-by (step.Request service) judge seen standing x waits = refl
 waits-by step.Answer judge seen standing x waits = refl
 waits-by step.Removed judge seen standing x waits = waits
@@ -221,11 +221,11 @@ waits-by step.Hold judge seen standing x waits = waits
 waits-by step.Pass judge seen standing x waits = waits
 
 pub waits-found : (M : List Message) (x : Message) (judge now : Judge) (s : Step) (seen : Sides) → IsOpenSid M judge.open_sid → s ≡ step_of judge.open_sid x
-    → now ≡ advanced s (record judge { sides = seen }) → IsOpenSid (M ++ x ∷ []) now.open_sid
+    → now ≡ judge_after_step s (record judge { sides = seen }) → IsOpenSid (M ++ x ∷ []) now.open_sid
 waits-found M x judge now s seen waits s_is now_is =
     ap (λ (j : Judge). j.open_sid) now_is
     ∙ waits-by s judge seen (standing_after M) x waits
-    ∙ ap (λ r. (stand_for r (standing_after M) x).open_sid) (step-found M x judge s waits s_is)
+    ∙ ap (λ r. (standing_after_step r (standing_after M) x).open_sid) (step-found M x judge s waits s_is)
     ∙ ap (λ (o : Standing). o.open_sid) (stands-next M x)
 
 -- and the number of its item
@@ -264,7 +264,7 @@ passed-by None items held_ones x is = refl
 passed-by (Some service) items held_ones x is = absurd (never-passes service x is)
 
 number-by-step : (s : Step) (M : List Message) (x : Message) → step_after M x ≡ s
-    → number-of (stand_for s (standing_after M) x) (item_count_after_step s (length (meaning M))) ≡ open_number_after_step s (number_by s M) (open_number_if_any M)
+    → number-of (standing_after_step s (standing_after M) x) (item_count_after_step s (length (meaning M))) ≡ open_number_after_step s (number_by s M) (open_number_if_any M)
 number-by-step (step.Request service) M x is = ap (λ n. Some n) (omega arith)
 number-by-step step.Answer M x is = refl
 number-by-step step.Removed M x is = refl

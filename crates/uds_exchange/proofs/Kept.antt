@@ -8,11 +8,11 @@ use Rattle.uds_message.specs.Message.{is_final_for, is_pending_for}
 use Rattle.uds_exchange.specs.declared.step.Step.TheVariants as step
 use Rattle.uds_exchange.specs.Meaning.{ItemValue, exchange, stray_of, is_from_tester, is_tester_request, is_answer_to, is_pending_reply_to}
 use Rattle.uds_exchange.specs.WaitingExchange.{waiting, waiting_sid}
-use Rattle.uds_exchange.specs.proving.Pairing.{IsWaitingAt, join_for, join_by, join}
+use Rattle.uds_exchange.specs.proving.Pairing.{IsWaitingAt, items_after_step, items_with_other, items_with}
 use Rattle.uds_exchange.specs.OneMessage.{step_if_open, step_of}
 use Rattle.uds_exchange.proofs.Waiting.{sid_of, waiting-stray, waiting-request, waiting-at, waiting-answered}
 
-join_by-step : (its : List ItemValue) (w : Option (ℕ × List ℕ)) (x : Message) → join_by w its x ≡ join_for (step_if_open (sid_of w) x) w its x
+join_by-step : (its : List ItemValue) (w : Option (ℕ × List ℕ)) (x : Message) → items_with_other w its x ≡ items_after_step (step_if_open (sid_of w) x) w its x
 join_by-step its None x = refl
 join_by-step its (Some w) x =
     elim (cases_Bool (is_answer_to w.1 x)) [
@@ -20,7 +20,7 @@ join_by-step its (Some w) x =
       | inr e ↦ elim (cases_Bool (is_pending_reply_to w.1 x)) [ inl q ↦ rw (e, q) refl | inr q ↦ rw (e, q) refl ]
     ]
 
-pub join-step : (its : List ItemValue) (x : Message) → join its x ≡ join_for (step_of (waiting_sid its) x) (waiting its) its x
+pub join-step : (its : List ItemValue) (x : Message) → items_with its x ≡ items_after_step (step_of (waiting_sid its) x) (waiting its) its x
 join-step its x =
     elim (cases_Bool (is_tester_request x)) [ inl e ↦ rw e refl | inr e ↦ rw e (join_by-step its (waiting its) x) ]
 
@@ -53,16 +53,16 @@ module _ (its : List ItemValue) (place : ℕ) (kept : IsWaitingAt its (Some plac
   waits-exchange = let w = waits in ap (slice_get its) (sym w.2) ∙ waiting-at its w.0 w.1
 
   -- the items with its answer
-  pub answered : (x : Message) → slice_set its place (exchange waits.0.1 (Some x.1)) ≡ join_for step.Answer (waiting its) its x
+  pub answered : (x : Message) → slice_set its place (exchange waits.0.1 (Some x.1)) ≡ items_after_step step.Answer (waiting its) its x
   answered x =
       let w = waits in
-      ap (λ i. slice_set its i (exchange w.0.1 (Some x.1))) (sym w.2) ∙ ap (λ o. join_for step.Answer o its x) (sym w.1)
+      ap (λ i. slice_set its i (exchange w.0.1 (Some x.1))) (sym w.2) ∙ ap (λ o. items_after_step step.Answer o its x) (sym w.1)
 
   -- an answer changes the items
-  pub changes-answer : (x : Message) → join_for step.Answer (waiting its) its x ≢ its
+  pub changes-answer : (x : Message) → items_after_step step.Answer (waiting its) its x ≢ its
   changes-answer x same =
       let w = waits in
-      let set : slice_set its w.0.0 (exchange w.0.1 (Some x.1)) ≡ its = ap (λ o. join_for step.Answer o its x) (sym w.1) ∙ same in
+      let set : slice_set its w.0.0 (exchange w.0.1 (Some x.1)) ≡ its = ap (λ o. items_after_step step.Answer o its x) (sym w.1) ∙ same in
       none-some _ (sym (waiting-answered its w.0 x.1 w.1) ∙ ap waiting set ∙ w.1)
 
   -- and then none waits

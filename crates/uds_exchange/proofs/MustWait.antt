@@ -12,7 +12,7 @@ use Rattle.uds_exchange.specs.Meaning.{ItemValue, exchange, stray, is_tester_req
 use Rattle.uds_exchange.specs.Roles.{IsOpenBehind}
 use Rattle.uds_exchange.specs.Order.{has_exchange, open_request_in, open_request, held_in, held, early, rejection_of}
 use Rattle.uds_exchange.specs.WaitingExchange.{waiting}
-use Rattle.uds_exchange.specs.proving.Pairing.{join_by, join}
+use Rattle.uds_exchange.specs.proving.Pairing.{items_with_other, items_with}
 use Rattle.uds_exchange.proofs.Counts.{none-lost}
 use Rattle.uds_exchange.proofs.Waiting.{request_of, same-request, waiting-stray, waiting-answered}
 use Rattle.uds_exchange.proofs.Bools.{any-append, any-first}
@@ -53,7 +53,7 @@ abbrev NoAnswerHeld : List ItemValue → Type 0
 NoAnswerHeld its = (w : ℕ × List ℕ) → waiting its ≡ Some w → list_any (is_answer_to w.1) (held_in its) ≡ false
 
 no-answer-joins : (its : List ItemValue) (x : Message) (o : Option (ℕ × List ℕ)) → NoAnswerHeld its → waiting its ≡ o
-    → NoAnswerHeld (join_by o its x)
+    → NoAnswerHeld (items_with_other o its x)
 no-answer-joins its x None s h = λ w k. absurd (none-some _ (sym h ∙ sym (waiting-stray its x.0 x.1) ∙ k))
 no-answer-joins its x (Some v) s h =
     elim (cases_Bool (is_answer_to v.1 x)) [
@@ -66,7 +66,7 @@ no-answer-joins its x (Some v) s h =
       ]
     ]
 
-no-answer-join : (its : List ItemValue) (x : Message) → NoAnswerHeld its → NoAnswerHeld (join its x)
+no-answer-join : (its : List ItemValue) (x : Message) → NoAnswerHeld its → NoAnswerHeld (items_with its x)
 no-answer-join its x s =
     elim (cases_Bool (is_tester_request x)) [
       | inl e ↦ rw e (λ w k. rw (early-request its x.1).1 refl)
@@ -94,7 +94,7 @@ rejects (s ∷ bytes) h =
 -- an answer goes before what is held
 answered : (its : List ItemValue) (w : ℕ × List ℕ) → waiting its ≡ Some w
     → (x : Message) → is_tester_request x ≡ false → is_answer_to w.1 x ≡ true
-    → flattened (join its x) ≡ early_in its ++ x ∷ held_in its
+    → flattened (items_with its x) ≡ early_in its ++ x ∷ held_in its
 answered its w h x r e =
     let set = early-answered its w x.1 h in
     rw (r, h, e) (

@@ -7,9 +7,9 @@ use Rattle.uds_exchange.specs.Meaning.{ItemValue, is_tester_request, is_answer_t
 use Rattle.uds_exchange.specs.Order.{held_in, held, early}
 use Rattle.uds_exchange.specs.Orderer.{JudgedOrdererValue, judged_orderer_after, IsDue, PutsDue, IsHeld, StopsDue}
 use Rattle.uds_exchange.specs.WaitingExchange.{waiting, waiting_sid}
-use Rattle.uds_exchange.specs.proving.Pairing.{join_by, join}
+use Rattle.uds_exchange.specs.proving.Pairing.{items_with_other, items_with}
 use Rattle.uds_exchange.specs.OneMessage.{step_of}
-use Rattle.uds_exchange.specs.proving.Steps.{Standing, standing_after, due_for, due, stand_for, advance_for, advance, Stops}
+use Rattle.uds_exchange.specs.proving.Steps.{Standing, standing_after, due_for, due, standing_after_step, orderer_after_step, standing_with, Stops}
 use Rattle.uds_exchange.specs.Judging.{step_after}
 use Rattle.uds_exchange.specs.declared.step.Step.{Step}
 use Rattle.uds_exchange.specs.declared.step.Step.TheVariants as step
@@ -48,7 +48,7 @@ due-same its x =
     elim (cases_Bool (is_tester_request x)) [ inl e ↦ rw e refl | inr e ↦ (due-by-same (waiting its) (held_in its) x e ∙ rw e refl) ]
 
 next-by : (its : List ItemValue) (x : Message) (w : Option (ℕ × List ℕ)) → is_tester_request x ≡ false → waiting its ≡ w
-    → standing (join_by w its x) ≡ stand_for (step_of (sid_of w) x) (standing its) x
+    → standing (items_with_other w its x) ≡ standing_after_step (step_of (sid_of w) x) (standing its) x
 next-by its x None r h = rw (r, waiting-stray its x.0 x.1, h, (early-stray its x.0 x.1 h).1, none-held its h) refl
 next-by its x (Some w) r h =
     elim (cases_Bool (is_answer_to w.1 x)) [
@@ -59,51 +59,51 @@ next-by its x (Some w) r h =
       ]
     ]
 
-next-same : (its : List ItemValue) (x : Message) → standing (join its x) ≡ advance (standing its) x
+next-same : (its : List ItemValue) (x : Message) → standing (items_with its x) ≡ standing_with (standing its) x
 next-same its x =
     elim (cases_Bool (is_tester_request x)) [
       | inl e ↦ rw (e, waiting-request its x.1, (early-request its x.1).1) refl
-      | inr e ↦ (ap (λ l. standing l) (let j : join its x ≡ join_by (waiting its) its x = rw e refl in j) ∙ next-by its x (waiting its) e refl)
+      | inr e ↦ (ap (λ l. standing l) (let j : items_with its x ≡ items_with_other (waiting its) its x = rw e refl in j) ∙ next-by its x (waiting its) e refl)
     ]
 
 -- what an orderer does leads to where it stands after the longer list
-pub stands-next : (M : List Message) (x : Message) → advance (standing_after M) x ≡ standing_after (M ++ x ∷ [])
+pub stands-next : (M : List Message) (x : Message) → standing_with (standing_after M) x ≡ standing_after (M ++ x ∷ [])
 stands-next M x =
-    ap (λ o. advance o x) (stands-is M)
+    ap (λ o. standing_with o x) (stands-is M)
     ∙ sym (next-same (meaning M) x)
     ∙ ap standing (sym (meaning-append M x))
     ∙ sym (stands-is (M ++ x ∷ []))
 
 -- an orderer holds the same, by the step alone
-holds-same : (s : Step) (o : JudgedOrdererValue) (p : Standing) (x : Message) → o.holds ≡ p.holds → (advance_for s o x).holds ≡ (stand_for s p x).holds
+holds-same : (s : Step) (o : JudgedOrdererValue) (p : Standing) (x : Message) → o.holds ≡ p.holds → (orderer_after_step s o x).holds ≡ (standing_after_step s p x).holds
 holds-same (step.Request service) o p x is = refl
 holds-same step.Answer o p x is = refl
 holds-same step.Removed o p x is = is
 holds-same step.Hold o p x is = ap (λ l. l ++ x ∷ []) is
 holds-same step.Pass o p x is = is
 
-well-still : (s : Step) (o : JudgedOrdererValue) (x : Message) → (advance_for s o x).has_failed ≡ o.has_failed
+well-still : (s : Step) (o : JudgedOrdererValue) (x : Message) → (orderer_after_step s o x).has_failed ≡ o.has_failed
 well-still (step.Request service) o x = refl
 well-still step.Answer o x = refl
 well-still step.Removed o x = refl
 well-still step.Hold o x = refl
 well-still step.Pass o x = refl
 
-holds-next : (M : List Message) (x : Message) (s : Step) (o : JudgedOrdererValue) → o ≡ judged_orderer_after M → s ≡ step_after M x → (advance_for s o x).holds ≡ held (M ++ x ∷ [])
+holds-next : (M : List Message) (x : Message) (s : Step) (o : JudgedOrdererValue) → o ≡ judged_orderer_after M → s ≡ step_after M x → (orderer_after_step s o x).holds ≡ held (M ++ x ∷ [])
 holds-next M x s o is step_is =
-    ap (λ r. (advance_for r o x).holds) step_is
+    ap (λ r. (orderer_after_step r o x).holds) step_is
     ∙ holds-same (step_after M x) o (standing_after M) x (ap (λ (q : JudgedOrdererValue). q.holds) is)
     ∙ ap (λ (p : Standing). p.holds) (stands-next M x)
 
 -- so it is where it stands after the longer list
-pub ordered-next : (M : List Message) (x : Message) (s : Step) (o : JudgedOrdererValue) → o ≡ judged_orderer_after M → s ≡ step_after M x → advance_for s o x ≡ judged_orderer_after (M ++ x ∷ [])
+pub ordered-next : (M : List Message) (x : Message) (s : Step) (o : JudgedOrdererValue) → o ≡ judged_orderer_after M → s ≡ step_after M x → orderer_after_step s o x ≡ judged_orderer_after (M ++ x ∷ [])
 ordered-next M x s o is step_is =
     let well = well-still s o x ∙ ap (λ (q : JudgedOrdererValue). q.has_failed) is in
     let holds = holds-next M x s o is step_is in
     (λ i. record { has_failed = well i; holds = holds i })
 
 -- and what it holds with one more message is what is held after the longer list
-pub held-with : (M : List Message) (x : Message) (s : Step) (o : JudgedOrdererValue) → o ≡ judged_orderer_after M → s ≡ step_after M x → (advance_for s o x).holds ≡ o.holds ++ x ∷ []
+pub held-with : (M : List Message) (x : Message) (s : Step) (o : JudgedOrdererValue) → o ≡ judged_orderer_after M → s ≡ step_after M x → (orderer_after_step s o x).holds ≡ o.holds ++ x ∷ []
     → IsHeld M x
 held-with M x s o is step_is holds =
     sym (holds-next M x s o is step_is) ∙ holds ∙ ap (λ (q : JudgedOrdererValue). q.holds ++ x ∷ []) is

@@ -7,7 +7,7 @@ use Rattle.uds_message.specs.Message.{is_request}
 use Rattle.uds_exchange.specs.Laws.{open_with, OpenRequestGoesOn, removed_with, RemovedGoOn}
 use Rattle.uds_exchange.specs.Meaning.{ItemValue, exchange, is_tester_request, is_answer_to, is_pending_reply_to, meaning, removed_messages}
 use Rattle.uds_exchange.specs.WaitingExchange.{waiting}
-use Rattle.uds_exchange.specs.proving.Pairing.{join_by, join}
+use Rattle.uds_exchange.specs.proving.Pairing.{items_with_other, items_with}
 use Rattle.uds_exchange.specs.Roles.{as_request, those_removed}
 use Rattle.uds_exchange.proofs.MustWait.{open-request-waits}
 use Rattle.uds_exchange.proofs.OneMore.{meaning-append}
@@ -22,7 +22,7 @@ request-opens None x e = rw e refl
 request-opens (Some request) x e = rw e refl
 
 waits-by : (its : List ItemValue) (x : Message) (w : Option (ℕ × List ℕ)) → is_tester_request x ≡ false → waiting its ≡ w
-    → request_of (waiting (join_by w its x)) ≡ open_with (request_of w) x
+    → request_of (waiting (items_with_other w its x)) ≡ open_with (request_of w) x
 waits-by its x None r h = rw (r, waiting-stray its x.0 x.1, h) refl
 waits-by its x (Some w) r h =
     elim (cases_Bool (is_answer_to w.1 x)) [
@@ -33,12 +33,12 @@ waits-by its x (Some w) r h =
       ]
     ]
 
-waits-with : (its : List ItemValue) (x : Message) → request_of (waiting (join its x)) ≡ open_with (request_of (waiting its)) x
+waits-with : (its : List ItemValue) (x : Message) → request_of (waiting (items_with its x)) ≡ open_with (request_of (waiting its)) x
 waits-with its x =
     elim (cases_Bool (is_tester_request x)) [
-      | inl e ↦ (let begun : join its x ≡ its ++ exchange x.1 None ∷ [] = rw e refl in
+      | inl e ↦ (let begun : items_with its x ≡ its ++ exchange x.1 None ∷ [] = rw e refl in
           ap (λ l. request_of (waiting l)) begun ∙ ap request_of (waiting-request its x.1) ∙ request-opens (request_of (waiting its)) x e)
-      | inr e ↦ (let by : join its x ≡ join_by (waiting its) its x = rw e refl in
+      | inr e ↦ (let by : items_with its x ≡ items_with_other (waiting its) its x = rw e refl in
           ap (λ l. request_of (waiting l)) by ∙ waits-by its x (waiting its) e refl)
     ]
 

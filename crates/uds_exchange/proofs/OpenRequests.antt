@@ -9,7 +9,7 @@ use Rattle.direction.specs.declared.Dir.TheVariants.{Tester}
 use Rattle.uds_exchange.specs.Meaning.{ItemValue, is_tester_request, is_answer_to, is_pending_reply_to, meaning}
 use Rattle.uds_exchange.specs.Roles.{IsOpenBehind}
 use Rattle.uds_exchange.specs.WaitingExchange.{waiting}
-use Rattle.uds_exchange.specs.proving.Pairing.{join_by, join}
+use Rattle.uds_exchange.specs.proving.Pairing.{items_with_other, items_with}
 use Rattle.uds_exchange.proofs.Bools.{any-append}
 use Rattle.uds_exchange.proofs.Waiting.{waiting-stray, waiting-request, waiting-answered}
 use Rattle.uds_exchange.proofs.OneMore.{meaning-append}
@@ -17,7 +17,7 @@ use Rattle.uds_exchange.proofs.Replies.{from-tester, request-bytes}
 
 -- the exchange that waits still does after a message that is neither request nor answer
 still-waits : (its : List ItemValue) (w : ℕ × List ℕ) (x : Message)
-    → waiting its ≡ Some w → is_tester_request x ≡ false → is_answer_to w.1 x ≡ false → waiting (join its x) ≡ Some w
+    → waiting its ≡ Some w → is_tester_request x ≡ false → is_answer_to w.1 x ≡ false → waiting (items_with its x) ≡ Some w
 still-waits its w x h r a =
     elim (cases_Bool (is_pending_reply_to w.1 x)) [
       | inl q ↦ rw (r, h, a, q) h
@@ -37,7 +37,7 @@ waits-over past (x ∷ xs) w h r a =
 pub waits-open : (past : List Message) (r : List ℕ) → IsOpenBehind past r → (k : ℕ) × (waiting (meaning past) ≡ Some (k, r))
 waits-open past r o =
     let place = length (meaning o.earlier) in
-    let here : waiting (join (meaning o.earlier) (Tester, r)) ≡ Some (place, r) = rw o.is_one (waiting-request (meaning o.earlier) r) in
+    let here : waiting (items_with (meaning o.earlier) (Tester, r)) ≡ Some (place, r) = rw o.is_one (waiting-request (meaning o.earlier) r) in
     let first = ap waiting (meaning-append o.earlier (Tester, r)) ∙ here in
     let whole = waits-over (o.earlier ++ (Tester, r) ∷ []) o.since (place, r) first o.is_last o.is_unanswered in
     let split = o.place ∙ sym (append_assoc o.earlier ((Tester, r) ∷ []) o.since) in
@@ -72,7 +72,7 @@ abbrev Opens : List Message → Type 0
 Opens past = (w : ℕ × List ℕ) → waiting (meaning past) ≡ Some w → IsOpenBehind past w.1
 
 opens-by : (past : List Message) (x : Message) (o : Option (ℕ × List ℕ)) → Opens past → is_tester_request x ≡ false → waiting (meaning past) ≡ o
-    → (w : ℕ × List ℕ) → waiting (join_by o (meaning past) x) ≡ Some w → IsOpenBehind (past ++ x ∷ []) w.1
+    → (w : ℕ × List ℕ) → waiting (items_with_other o (meaning past) x) ≡ Some w → IsOpenBehind (past ++ x ∷ []) w.1
 opens-by past x None s r h w e = absurd (none-some _ (sym h ∙ sym (waiting-stray (meaning past) x.0 x.1) ∙ e))
 opens-by past x (Some v) s r h w e =
     elim (cases_Bool (is_answer_to v.1 x)) [
@@ -88,7 +88,7 @@ opens-by past x (Some v) s r h w e =
 
 opens-join : (past : List Message) (x : Message) → Opens past → Opens (past ++ x ∷ [])
 opens-join past x s = λ w e.
-    let e' : waiting (join (meaning past) x) ≡ Some w = ap waiting (sym (meaning-append past x)) ∙ e in
+    let e' : waiting (items_with (meaning past) x) ≡ Some w = ap waiting (sym (meaning-append past x)) ∙ e in
     elim (cases_Bool (is_tester_request x)) [
       | inl r ↦
           (let same : (length (meaning past), x.1) ≡ w = same_Some _ _ (sym (waiting-request (meaning past) x.1) ∙ rw r at e') in

@@ -13,7 +13,7 @@ use Rattle.uds_exchange.specs.Meaning.{ItemValue, exchange, stray, stray_of, ite
 use Rattle.uds_exchange.specs.Roles.{behind_last_request, placed}
 use Rattle.uds_exchange.specs.Order.{has_exchange}
 use Rattle.uds_exchange.specs.WaitingExchange.{waiting}
-use Rattle.uds_exchange.specs.proving.Pairing.{join_by}
+use Rattle.uds_exchange.specs.proving.Pairing.{items_with_other}
 use Rattle.uds_exchange.proofs.Waiting.{one_later-some}
 use Rattle.uds_exchange.proofs.OneMore.{meaning-append}
 use Rattle.uds_exchange.proofs.Parts.{Quiet, quiet-before_requests, quiet-strays_in, Good, good-parts}
@@ -88,7 +88,7 @@ placed-answer (exchange q None ∷ its) w a s h =
     ]
 
 placed-by : (its : List ItemValue) (x : Message) (o : Option (ℕ × List ℕ)) → Sound its → waiting its ≡ o
-    → flattened (join_by o its x) ≡ placed (role_by o x) (flattened its) x
+    → flattened (items_with_other o its x) ≡ placed (role_by o x) (flattened its) x
 placed-by its x None s h = flattened-push its (stray_of x) x refl
 placed-by its x (Some w) s h =
     elim (cases_Bool (is_answer_to w.1 x)) [

@@ -7,7 +7,7 @@ ghost use Rattle.uds_exchange.specs.Decided.{exchange_items, undecided};
 ghost use Rattle.uds_exchange.specs.Decider.{decider_after, PutsDecided, IsKept};
 ghost use Rattle.uds_exchange.specs.ItemSink.{PutsItems};
 ghost use Rattle.uds_exchange.specs.Judging.{IsJudgedAfter, sent};
-ghost use Rattle.uds_exchange.specs.proving.Deciding.{items_for, keep_for, Refuses};
+ghost use Rattle.uds_exchange.specs.proving.Deciding.{decided_for, decider_after_step, Refuses};
 
 use crate::held::HeldMessages;
 use crate::item::Item;
@@ -81,8 +81,8 @@ impl Decider {
 
     /// Takes one more message, by what becomes of it and what is kept alone.
     fn advance<S: ItemSink>(&mut self, message: Judged<'_>, sink: &mut S) -> Result<(), AllocError>
-        ensures now { OnOk result (self.new ≡ keep_for message.entry.step self.old (sent message.entry)) }
-        ensures puts { OnOk result (PutsItems S.takes sink.old (items_for message.entry.step self.old (sent message.entry)) sink.new) }
+        ensures now { OnOk result (self.new ≡ decider_after_step message.entry.step self.old (sent message.entry)) }
+        ensures puts { OnOk result (PutsItems S.takes sink.old (decided_for message.entry.step self.old (sent message.entry)) sink.new) }
         ensures err { OnErr result (self.new ≡ self.old) }
         ensures unput { OnErr result (sink.new ≡ sink.old) }
         ensures kept { OnErr result (Refuses message.entry.step self.old (sent message.entry)) }

@@ -4,7 +4,7 @@ ghost use Rattle.std.specs.Prelude.{◌≡◌, ◌^◌, ◌<◌, ◌++◌, ◌�
 ghost use Rattle.direction.specs.Dir.{Message};
 ghost use Rattle.uds_exchange.specs.Exchanged.{sides_of};
 ghost use Rattle.uds_exchange.specs.Judging.{HasCounted, IsJudgeOf, IsOpenSid, number_after, one_more, sent, step_after};
-ghost use Rattle.uds_exchange.specs.proving.Judging.{advanced, number_in};
+ghost use Rattle.uds_exchange.specs.proving.Judging.{judge_after_step, number_in};
 
 use crate::sides::Sides;
 use crate::step::{Step, step_of};
@@ -89,7 +89,7 @@ impl Judge {
 
     /// Counts one more message by what becomes of it, and answers the number of its item.
     fn advance(&mut self, step: Step) -> u64
-        ensures now { self.new ≡ advanced step self.old }
+        ensures now { self.new ≡ judge_after_step step self.old }
         ensures number { result ≡ number_in step self.old }
     {
         match step {

@@ -107,7 +107,7 @@ impl JudgedOrderer {
         message: Judged<'_>,
         sink: &mut S,
     ) -> Result<(), OrderFault<S::Fault>>
-        ensures ok { OnOk result ((self.old.has_failed ≡ false) × (self.new ≡ Spec.advance_for message.entry.step self.old (sent message.entry))
+        ensures ok { OnOk result ((self.old.has_failed ≡ false) × (self.new ≡ Spec.orderer_after_step message.entry.step self.old (sent message.entry))
             × Puts S.after_ok sink.old (due_for message.entry.step self.old.holds (sent message.entry)) sink.new) }
         ensures err { IfErr result (λ fault. Stops S.after_ok S.after_err message.entry.step (sent message.entry)
             self.old sink.old self.new sink.new fault) }

@@ -69,9 +69,9 @@ impl JudgedPairing {
     /// none waits, no answer is taken.
     #[inline(always)]
     fn join(&mut self, message: Judged<'_>) -> Result<(), AllocError>
-        ensures ok { OnOk result (self.new ≡ Spec.join_for message.entry.step (waiting self.old) self.old (sent message.entry)) }
+        ensures ok { OnOk result (self.new ≡ Spec.items_after_step message.entry.step (waiting self.old) self.old (sent message.entry)) }
         ensures err { OnErr result (self.new ≡ self.old) }
-        ensures changes { OnErr result (Spec.join_for message.entry.step (waiting self.old) self.old (sent message.entry) ≢ self.old) }
+        ensures changes { OnErr result (Spec.items_after_step message.entry.step (waiting self.old) self.old (sent message.entry) ≢ self.old) }
     {
         match message.step {
             Step::Request(_) => {

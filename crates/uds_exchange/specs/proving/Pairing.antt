@@ -18,23 +18,23 @@ pub record AreOpenBy (items : List ItemValue) (open_sid : Option ℕ) : Type 0 w
   pub waits : IsOpenSid before open_sid
 
 -- the items after this step with a message, where this exchange waits
-abbrev pub join_for : Step → Option (ℕ × List ℕ) → List ItemValue → Message → List ItemValue
-join_for (step.Request service) place items message = items ++ exchange message.1 None ∷ []
-join_for step.Answer None items message = items
-join_for step.Answer (Some place) items message = slice_set items place.0 (exchange place.1 (Some message.1))
-join_for step.Removed place items message = items
-join_for step.Hold place items message = items ++ stray_of message ∷ []
-join_for step.Pass place items message = items ++ stray_of message ∷ []
+abbrev pub items_after_step : Step → Option (ℕ × List ℕ) → List ItemValue → Message → List ItemValue
+items_after_step (step.Request service) place items message = items ++ exchange message.1 None ∷ []
+items_after_step step.Answer None items message = items
+items_after_step step.Answer (Some place) items message = slice_set items place.0 (exchange place.1 (Some message.1))
+items_after_step step.Removed place items message = items
+items_after_step step.Hold place items message = items ++ stray_of message ∷ []
+items_after_step step.Pass place items message = items ++ stray_of message ∷ []
 
 -- the items after one more message that is no request, where this exchange waits
-abbrev pub join_by : Option (ℕ × List ℕ) → List ItemValue → Message → List ItemValue
-join_by None items message = items ++ stray_of message ∷ []
-join_by (Some place) items message =
+abbrev pub items_with_other : Option (ℕ × List ℕ) → List ItemValue → Message → List ItemValue
+items_with_other None items message = items ++ stray_of message ∷ []
+items_with_other (Some place) items message =
     if is_answer_to place.1 message then slice_set items place.0 (exchange place.1 (Some message.1))
     else if is_pending_reply_to place.1 message then items
     else items ++ stray_of message ∷ []
 
 -- the items after one more message
-abbrev pub join : List ItemValue → Message → List ItemValue
-join items message =
-    if is_tester_request message then items ++ exchange message.1 None ∷ [] else join_by (waiting items) items message
+abbrev pub items_with : List ItemValue → Message → List ItemValue
+items_with items message =
+    if is_tester_request message then items ++ exchange message.1 None ∷ [] else items_with_other (waiting items) items message

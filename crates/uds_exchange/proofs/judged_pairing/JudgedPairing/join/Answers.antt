@@ -4,7 +4,7 @@ use Rattle.uds_exchange.specs.Judging.{sent}
 use Rattle.uds_exchange.specs.WaitingExchange.{waiting}
 use Rattle.uds_exchange.specs.declared.step.Step.{Step}
 use Rattle.uds_exchange.specs.declared.step.Step.TheVariants as step
-use Rattle.uds_exchange.specs.proving.Pairing.{IsWaitingAt, join_for}
+use Rattle.uds_exchange.specs.proving.Pairing.{IsWaitingAt, items_after_step}
 use Rattle.uds_exchange.proofs.Kept.{kept-request, kept-stray, kept-answer, waits, waits-below, waits-exchange, answered, changes-answer}
 use Rattle.uds_exchange.proofs.Variants.{on_err}
 use Rattle.uds_exchange.proofs.judged_pairing.JudgedPairing.join.Goals as goal
@@ -37,8 +37,8 @@ returns-in_ok-answer-in-Answer-clause-ok c =
     let kept = c.self.invariant ∙ c.in-Some.is in
     let x = sent c.args.message in
     c.in_ok-answer-in-Answer.ensures.ok (waits its place kept).0.1 (waits-exchange its place kept) ∙ answered its place kept x
-    ∙ ap (λ (l : List ItemValue). join_for step.Answer (waiting l) l x) c.self.view_is
-    ∙ ap (λ (s : Step). join_for s (waiting c.args.self.now) c.args.self.now x) (sym c.in-Answer.is)
+    ∙ ap (λ (l : List ItemValue). items_after_step step.Answer (waiting l) l x) c.self.view_is
+    ∙ ap (λ (s : Step). items_after_step s (waiting c.args.self.now) c.args.self.now x) (sym c.in-Answer.is)
 
 pub returns-in_err-answer-in-Answer-clause-changes : goal.returns-in_err-answer-in-Answer-clause-changes
 returns-in_err-answer-in-Answer-clause-changes c =
@@ -47,5 +47,5 @@ returns-in_err-answer-in-Answer-clause-changes c =
     let x = sent c.args.message in
     on_err c.from_residual-in_err-answer-in-Answer.result _
     (λ same. changes-answer its c.in-Some.place kept x
-    (ap (λ (l : List ItemValue). join_for step.Answer (waiting l) l x) c.self.view_is
-    ∙ ap (λ (s : Step). join_for s (waiting c.args.self.now) c.args.self.now x) (sym c.in-Answer.is) ∙ same ∙ sym c.self.view_is))
+    (ap (λ (l : List ItemValue). items_after_step step.Answer (waiting l) l x) c.self.view_is
+    ∙ ap (λ (s : Step). items_after_step s (waiting c.args.self.now) c.args.self.now x) (sym c.in-Answer.is) ∙ same ∙ sym c.self.view_is))
