@@ -15,7 +15,7 @@ use Rattle.uds_exchange.specs.proving.Deciding.{step_in, decided_for, decided_by
 use Rattle.uds_message.specs.Message.{sid}
 use Rattle.uds_exchange.specs.Judging.{step_after}
 use Rattle.uds_exchange.proofs.Kept.{not-request}
-use Rattle.uds_exchange.specs.WaitingExchange.{one_later, waiting}
+use Rattle.uds_exchange.specs.OpenExchange.{one_later, open_exchange_in}
 use Rattle.uds_exchange.specs.proving.Pairing.{items_with_other, items_with}
 use Rattle.uds_exchange.specs.proving.Steps.{Standing, standing_after, standing_after_step}
 use Rattle.uds_exchange.specs.declared.step.Step.{Step}
@@ -24,7 +24,7 @@ use Rattle.uds_exchange.proofs.MustWait.{open-request-waits, open-request-behind
 use Rattle.uds_exchange.proofs.NextStep.{stands-next}
 use Rattle.uds_exchange.proofs.OneMore.{meaning-append}
 use Rattle.uds_exchange.proofs.OpenRequestOfMore.{open_request_goes_on}
-use Rattle.uds_exchange.proofs.Waiting.{has-more, has-last, has-set, waiting-at, one_later-some, request_of}
+use Rattle.uds_exchange.proofs.OpenExchange.{has-more, has-last, has-set, open_exchange-at, one_later-some, request_of}
 
 -- items without an exchange are the strays of their messages
 strays-again : (its : List ItemValue) → has_exchange its ≡ false → map stray_of (flattened its) ≡ its
@@ -55,12 +55,12 @@ one_later-none None h = refl
 one_later-none (Some w) h = cc
 
 -- where no request waits all is decided, and one more stray is
-decided-all : (its : List ItemValue) → waiting its ≡ None → decided_in its ≡ its
+decided-all : (its : List ItemValue) → open_exchange_in its ≡ None → decided_in its ≡ its
 decided-all its h =
     let none : open_request_in its ≡ None = open-request-waits its ∙ ap request_of h in
     sym (append-nil (decided_in its)) ∙ ap (λ o. decided_in its ++ exchange_items o None (held_in its)) (sym none) ∙ whole its
 
-decided-stray : (its : List ItemValue) (d : Dir) (m : List ℕ) → waiting its ≡ None → decided_in (its ++ stray d m ∷ []) ≡ its ++ stray d m ∷ []
+decided-stray : (its : List ItemValue) (d : Dir) (m : List ℕ) → open_exchange_in its ≡ None → decided_in (its ++ stray d m ∷ []) ≡ its ++ stray d m ∷ []
 decided-stray [] d m h = refl
 decided-stray (stray e n ∷ its) d m h = ap (λ l. stray e n ∷ l) (decided-stray its d m (one_later-none _ h))
 decided-stray (exchange q (Some a) ∷ its) d m h = ap (λ l. exchange q (Some a) ∷ l) (decided-stray its d m (one_later-none _ h))
@@ -71,35 +71,35 @@ decided-stray (exchange q None ∷ its) d m h =
     ]
 
 -- where a request waits one more stray decides nothing
-decided-held : (its : List ItemValue) (w : ℕ × List ℕ) (d : Dir) (m : List ℕ) → waiting its ≡ Some w → decided_in (its ++ stray d m ∷ []) ≡ decided_in its
+decided-held : (its : List ItemValue) (w : ℕ × List ℕ) (d : Dir) (m : List ℕ) → open_exchange_in its ≡ Some w → decided_in (its ++ stray d m ∷ []) ≡ decided_in its
 decided-held [] w d m h = cc
 decided-held (stray e n ∷ its) w d m h =
-    let v = one_later-some (waiting its) w h in
+    let v = one_later-some (open_exchange_in its) w h in
     ap (λ l. stray e n ∷ l) (decided-held its v.0 d m v.1)
 decided-held (exchange q (Some a) ∷ its) w d m h =
-    let v = one_later-some (waiting its) w h in
+    let v = one_later-some (open_exchange_in its) w h in
     ap (λ l. exchange q (Some a) ∷ l) (decided-held its v.0 d m v.1)
 decided-held (exchange q None ∷ its) w d m h =
     elim (cases_Bool (has_exchange its)) [
-      | inl e ↦ (let v = one_later-some (waiting its) w (rw e at h) in
+      | inl e ↦ (let v = one_later-some (open_exchange_in its) w (rw e at h) in
           rw (has-more its (stray d m) refl, e) (ap (λ l. exchange q None ∷ l) (decided-held its v.0 d m v.1)))
       | inr e ↦ rw (has-more its (stray d m) refl, e) refl
     ]
 
 -- and its answer decides its exchange and the strays behind it
-decided-answered : (its : List ItemValue) (w : ℕ × List ℕ) (a : List ℕ) → waiting its ≡ Some w
+decided-answered : (its : List ItemValue) (w : ℕ × List ℕ) (a : List ℕ) → open_exchange_in its ≡ Some w
     → decided_in (slice_set its w.0 (exchange w.1 (Some a))) ≡ decided_in its ++ exchange w.1 (Some a) ∷ map stray_of (held_in its)
 decided-answered [] w a h = cc
 decided-answered (stray e n ∷ its) w a h =
-    let v = one_later-some (waiting its) w h in
+    let v = one_later-some (open_exchange_in its) w h in
     rw v.2 (ap (λ l. stray e n ∷ l) (decided-answered its v.0 a v.1))
 decided-answered (exchange q (Some b) ∷ its) w a h =
-    let v = one_later-some (waiting its) w h in
+    let v = one_later-some (open_exchange_in its) w h in
     rw v.2 (ap (λ l. exchange q (Some b) ∷ l) (decided-answered its v.0 a v.1))
 decided-answered (exchange q None ∷ its) w a h =
     elim (cases_Bool (has_exchange its)) [
-      | inl e ↦ (let v = one_later-some (waiting its) w (rw e at h) in
-          let more = has-set its v.0.0 v.0.1 None (Some a) (waiting-at its v.0 v.1) ∙ e in
+      | inl e ↦ (let v = one_later-some (open_exchange_in its) w (rw e at h) in
+          let more = has-set its v.0.0 v.0.1 None (Some a) (open_exchange-at its v.0 v.1) ∙ e in
           rw (v.2, more, e) (ap (λ l. exchange q None ∷ l) (decided-answered its v.0 a v.1)))
       | inr e ↦ (let same : (0, q) ≡ w = same_Some _ _ (rw e at h) in
           rw (← same, e) (ap (λ l. exchange q (Some a) ∷ l) (decided-alone its e)))
@@ -114,7 +114,7 @@ decided-answered (exchange q None ∷ its) w a h =
 abbrev standing : Option (ℕ × List ℕ) → List Message → DeciderValue
 standing w holds = record { request = request_of w; holds = holds }
 
-joined : (its : List ItemValue) (x : Message) (w : Option (ℕ × List ℕ)) → is_tester_request x ≡ false → waiting its ≡ w
+joined : (its : List ItemValue) (x : Message) (w : Option (ℕ × List ℕ)) → is_tester_request x ≡ false → open_exchange_in its ≡ w
     → decided_in (items_with_other w its x) ≡ decided_in its ++ decided_by (standing w (held_in its)) x
 joined its x None r h = rw r (decided-stray its x.0 x.1 h ∙ ap (λ l. l ++ stray_of x ∷ []) (sym (decided-all its h)))
 joined its x (Some w) r h =
@@ -126,11 +126,11 @@ joined its x (Some w) r h =
       ]
     ]
 
-more : (its : List ItemValue) (x : Message) → decided_in (items_with its x) ≡ decided_in its ++ decided_by (standing (waiting its) (held_in its)) x
+more : (its : List ItemValue) (x : Message) → decided_in (items_with its x) ≡ decided_in its ++ decided_by (standing (open_exchange_in its) (held_in its)) x
 more its x =
     elim (cases_Bool (is_tester_request x)) [
       | inl e ↦ rw e (decided-request its x.1 ∙ sym (whole its) ∙ ap (λ o. decided_in its ++ exchange_items o None (held_in its)) (open-request-waits its))
-      | inr e ↦ (ap decided_in (let by : items_with its x ≡ items_with_other (waiting its) its x = rw e refl in by) ∙ joined its x (waiting its) e refl)
+      | inr e ↦ (ap decided_in (let by : items_with its x ≡ items_with_other (open_exchange_in its) its x = rw e refl in by) ∙ joined its x (open_exchange_in its) e refl)
     ]
 
 -- what one more message decides, by what a decider keeps

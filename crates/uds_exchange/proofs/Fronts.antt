@@ -15,7 +15,7 @@ judged-after M x judged is step_is = step_is ∙ ap (step_after M) (sym is)
 
 -- which request waits is told by the items alone
 pub open-in : (M : List Message) (items : List ItemValue) (open_sid : Option ℕ) → AreOpenBy items open_sid → items ≡ meaning M → IsOpenSid M open_sid
-open-in M items open_sid kept is = kept.waits ∙ ap (λ its. option_map sid (open_request_in its)) (sym kept.meant ∙ is)
+open-in M items open_sid kept is = kept.is_open ∙ ap (λ its. option_map sid (open_request_in its)) (sym kept.meant ∙ is)
 
 -- an orderer with its judge stands after one message more where both do
 pub stands-with : (M : List Message) (x : Message) (judged : Judged) (orderer : JudgedOrdererValue) (open_sid : Option ℕ) → sent judged ≡ x

@@ -10,7 +10,7 @@ use Rattle.uds_message.specs.Message.{sid, is_request, is_final_for, is_pending_
 use Rattle.uds_exchange.specs.Laws.{removed_with}
 use Rattle.uds_exchange.specs.Meaning.{ItemValue, exchange, stray, stray_of, is_from_tester, is_tester_request, is_answer_to, is_pending_reply_to, meaning, flattened, removed_messages}
 use Rattle.uds_exchange.specs.Order.{has_exchange, held, held_in, early, open_request, open_request_in}
-use Rattle.uds_exchange.specs.WaitingExchange.{waiting, waiting_sid}
+use Rattle.uds_exchange.specs.OpenExchange.{open_exchange_in, open_sid_in}
 use Rattle.uds_exchange.specs.proving.Pairing.{items_after_step, items_with_other, items_with}
 use Rattle.uds_exchange.specs.OneMessage.{step_of}
 use Rattle.uds_exchange.specs.proving.Steps.{Standing, standing_after, standing_after_step}
@@ -28,7 +28,7 @@ use Rattle.uds_exchange.proofs.MustWait.{none-lost-in-order}
 use Rattle.uds_exchange.proofs.NextStep.{stands-is, stands-next}
 use Rattle.uds_exchange.proofs.OneMore.{meaning-append}
 use Rattle.uds_exchange.proofs.OpenRequestOfMore.{removed_go_on}
-use Rattle.uds_exchange.proofs.Waiting.{sid_of}
+use Rattle.uds_exchange.proofs.OpenExchange.{sid_of}
 
 set-length : (its : List ItemValue) (i : ℕ) (item : ItemValue) → length (slice_set its i item) ≡ length its
 set-length [] i item = refl
@@ -50,20 +50,20 @@ join-by-length its x (Some w) r =
       ]
     ]
 
-join-length : (its : List ItemValue) (x : Message) → length (items_with its x) ≡ item_count_after_step (step_of (waiting_sid its) x) (length its)
+join-length : (its : List ItemValue) (x : Message) → length (items_with its x) ≡ item_count_after_step (step_of (open_sid_in its) x) (length its)
 join-length its x =
     elim (cases_Bool (is_tester_request x)) [
       | inl e ↦ rw e (one-longer its (exchange x.1 None))
-      | inr e ↦ (ap length (let j : items_with its x ≡ items_with_other (waiting its) its x = rw e refl in j) ∙ join-by-length its x (waiting its) e)
+      | inr e ↦ (ap length (let j : items_with its x ≡ items_with_other (open_exchange_in its) its x = rw e refl in j) ∙ join-by-length its x (open_exchange_in its) e)
     ]
 
-pub step-is : (M : List Message) (x : Message) → step_of (waiting_sid (meaning M)) x ≡ step_after M x
+pub step-is : (M : List Message) (x : Message) → step_of (open_sid_in (meaning M)) x ≡ step_after M x
 step-is M x = ap (λ (o : Standing). step_of o.open_sid x) (sym (stands-is M))
 
 -- the items with one more message, by the step that was found
-pub joined-found : (M : List Message) (x : Message) (s : Step) (its : List ItemValue) → its ≡ meaning M → s ≡ step_after M x → items_after_step s (waiting its) its x ≡ meaning (M ++ x ∷ [])
+pub joined-found : (M : List Message) (x : Message) (s : Step) (its : List ItemValue) → its ≡ meaning M → s ≡ step_after M x → items_after_step s (open_exchange_in its) its x ≡ meaning (M ++ x ∷ [])
 joined-found M x s its is step_is =
-    (λ i. items_after_step ((step_is ∙ sym (step-is M x)) i) (waiting (is i)) (is i) x) ∙ sym (join-step (meaning M) x) ∙ sym (meaning-append M x)
+    (λ i. items_after_step ((step_is ∙ sym (step-is M x)) i) (open_exchange_in (is i)) (is i) x) ∙ sym (join-step (meaning M) x) ∙ sym (meaning-append M x)
 
 pub items-next : (M : List Message) (x : Message) → length (meaning (M ++ x ∷ [])) ≡ item_count_after_step (step_after M x) (length (meaning M))
 items-next M x =
@@ -145,21 +145,21 @@ next-by : (s : Step) (M : List Message) (x : Message) (judge : Judge) (seen : Si
     → HasCounted (M ++ x ∷ []) (judge_after_step s (record judge { sides = seen }))
 next-by (step.Request service) M x judge seen few counts stands grown gone =
     let few_items = few-items M in let is = counts.items in record {
-      waits = ap (λ (o : Standing). o.open_sid) (sym stands);
+      is_open = ap (λ (o : Standing). o.open_sid) (sym stands);
       items = omega arith;
       held = ap (λ (o : Standing). length o.holds) (sym stands);
       removed = omega (arith, counts.removed, gone);
     }
 next-by step.Answer M x judge seen few counts stands grown gone =
     record {
-      waits = ap (λ (o : Standing). o.open_sid) (sym stands);
+      is_open = ap (λ (o : Standing). o.open_sid) (sym stands);
       items = counts.items ∙ sym grown;
       held = ap (λ (o : Standing). length o.holds) (sym stands);
       removed = omega (arith, counts.removed, gone);
     }
 next-by step.Removed M x judge seen few counts stands grown gone =
     let few_removed = few-removed M in let removed_were = counts.removed in record {
-      waits = counts.waits ∙ ap (λ (o : Standing). o.open_sid) (sym stands);
+      is_open = counts.is_open ∙ ap (λ (o : Standing). o.open_sid) (sym stands);
       items = counts.items ∙ sym grown;
       held = counts.held ∙ ap (λ (o : Standing). length o.holds) (sym stands);
       removed = omega arith;
@@ -167,14 +167,14 @@ next-by step.Removed M x judge seen few counts stands grown gone =
 next-by step.Hold M x judge seen few counts stands grown gone =
     let few_items = few-items M in let few_held = few-held M in let items_were = counts.items in let held_were = counts.held in
     let more = length-append (held M) (x ∷ []) in let now = ap (λ (o : Standing). length o.holds) stands in record {
-      waits = counts.waits ∙ ap (λ (o : Standing). o.open_sid) (sym stands);
+      is_open = counts.is_open ∙ ap (λ (o : Standing). o.open_sid) (sym stands);
       items = omega arith;
       held = omega arith;
       removed = omega (arith, counts.removed, gone);
     }
 next-by step.Pass M x judge seen few counts stands grown gone =
     let few_items = few-items M in let is = counts.items in record {
-      waits = counts.waits ∙ ap (λ (o : Standing). o.open_sid) (sym stands);
+      is_open = counts.is_open ∙ ap (λ (o : Standing). o.open_sid) (sym stands);
       items = omega arith;
       held = counts.held ∙ ap (λ (o : Standing). length o.holds) (sym stands);
       removed = omega (arith, counts.removed, gone);
@@ -184,7 +184,7 @@ next-by step.Pass M x judge seen few counts stands grown gone =
 pub counts-next : (M : List Message) (x : Message) (judge now : Judge) (s : Step) (seen : Sides) → length M < 2 ^ 62 → HasCounted M judge
     → s ≡ step_of judge.open_sid x → now ≡ judge_after_step s (record judge { sides = seen }) → HasCounted (M ++ x ∷ []) now
 counts-next M x judge now s seen few counts s_is now_is =
-    let found : s ≡ step_after M x = s_is ∙ ap (λ o. step_of o x) counts.waits in
+    let found : s ≡ step_after M x = s_is ∙ ap (λ o. step_of o x) counts.is_open in
     rw (now_is, found) (next-by (step_after M x) M x judge seen few counts (sym (stands-next M x)) (items-next M x) (removed-next M x))
 
 sides-kept : (s : Step) (judge : Judge) (seen : Sides) → (judge_after_step s (record judge { sides = seen })).sides ≡ seen
@@ -232,7 +232,7 @@ waits-found M x judge now s seen waits s_is now_is =
 pub number-found : (M : List Message) (x : Message) (judge : Judge) (s : Step) (seen : Sides) (number : ℕ) → length M < 2 ^ 62 → HasCounted M judge
     → s ≡ step_of judge.open_sid x → number ≡ number_in s (record judge { sides = seen }) → number ≡ number_after M x
 number-found M x judge s seen number few counts s_is is =
-    is ∙ number-by s M judge seen few counts ∙ ap (λ t. number_by t M) (step-found M x judge s counts.waits s_is)
+    is ∙ number-by s M judge seen few counts ∙ ap (λ t. number_by t M) (step-found M x judge s counts.is_open s_is)
 
 -- ---- the number of the exchange that waits
 

@@ -6,7 +6,7 @@ use Rattle.uds_message.specs.Message.{sid}
 use Rattle.uds_exchange.specs.Meaning.{ItemValue, is_tester_request, is_answer_to, is_pending_reply_to, meaning, flattened}
 use Rattle.uds_exchange.specs.Order.{held_in, held, early}
 use Rattle.uds_exchange.specs.Orderer.{JudgedOrdererValue, judged_orderer_after, IsDue, PutsDue, IsHeld, StopsDue}
-use Rattle.uds_exchange.specs.WaitingExchange.{waiting, waiting_sid}
+use Rattle.uds_exchange.specs.OpenExchange.{open_exchange_in, open_sid_in}
 use Rattle.uds_exchange.specs.proving.Pairing.{items_with_other, items_with}
 use Rattle.uds_exchange.specs.OneMessage.{step_of}
 use Rattle.uds_exchange.specs.proving.Steps.{Standing, standing_after, due_for, due, standing_after_step, orderer_after_step, standing_with, Stops}
@@ -16,14 +16,14 @@ use Rattle.uds_exchange.specs.declared.step.Step.TheVariants as step
 use Rattle.uds_exchange.specs.MessageSink.{AfterOk, AfterErr, Puts}
 use Rattle.uds_exchange.specs.declared.order_fault.OrderFault.{OrderFault}
 use Rattle.uds_exchange.specs.declared.order_fault.OrderFault.TheVariants as fault
-use Rattle.uds_exchange.proofs.Waiting.{sid_of, waiting-stray, waiting-request, waiting-answered}
+use Rattle.uds_exchange.proofs.OpenExchange.{sid_of, open_exchange-stray, open_exchange-request, open_exchange-answered}
 use Rattle.uds_exchange.proofs.OneMore.{meaning-append}
 use Rattle.uds_exchange.proofs.Early.{early-then-held, due_by, due_in, early-append, early-request, early-stray, early-kept, early-answered, none-held}
 use Rattle.uds_exchange.proofs.Putting.{puts-append}
 use Rattle.uds_exchange.proofs.MustWait.{open-request-waits}
 
 abbrev standing : List ItemValue → Standing
-standing its = record { open_sid = waiting_sid its; holds = held_in its }
+standing its = record { open_sid = open_sid_in its; holds = held_in its }
 
 sid-of-request : (w : Option (ℕ × List ℕ)) → option_map sid (option_map (λ w. w.1) w) ≡ sid_of w
 sid-of-request None = refl
@@ -32,7 +32,7 @@ sid-of-request (Some w) = refl
 pub stands-is : (M : List Message) → standing_after M ≡ standing (meaning M)
 stands-is M =
     ap (λ (o : Option ℕ). let s : Standing = record { open_sid = o; holds = held M } in s)
-    (ap (option_map sid) (open-request-waits (meaning M)) ∙ sid-of-request (waiting (meaning M)))
+    (ap (option_map sid) (open-request-waits (meaning M)) ∙ sid-of-request (open_exchange_in (meaning M)))
 
 due-by-same : (w : Option (ℕ × List ℕ)) (xs : List Message) (x : Message) → is_tester_request x ≡ false
     → due_for (step_of (sid_of w) x) xs x ≡ due_by w xs x
@@ -45,25 +45,25 @@ due-by-same (Some w) xs x r =
 
 due-same : (its : List ItemValue) (x : Message) → due (standing its) x ≡ due_in its x
 due-same its x =
-    elim (cases_Bool (is_tester_request x)) [ inl e ↦ rw e refl | inr e ↦ (due-by-same (waiting its) (held_in its) x e ∙ rw e refl) ]
+    elim (cases_Bool (is_tester_request x)) [ inl e ↦ rw e refl | inr e ↦ (due-by-same (open_exchange_in its) (held_in its) x e ∙ rw e refl) ]
 
-next-by : (its : List ItemValue) (x : Message) (w : Option (ℕ × List ℕ)) → is_tester_request x ≡ false → waiting its ≡ w
+next-by : (its : List ItemValue) (x : Message) (w : Option (ℕ × List ℕ)) → is_tester_request x ≡ false → open_exchange_in its ≡ w
     → standing (items_with_other w its x) ≡ standing_after_step (step_of (sid_of w) x) (standing its) x
-next-by its x None r h = rw (r, waiting-stray its x.0 x.1, h, (early-stray its x.0 x.1 h).1, none-held its h) refl
+next-by its x None r h = rw (r, open_exchange-stray its x.0 x.1, h, (early-stray its x.0 x.1 h).1, none-held its h) refl
 next-by its x (Some w) r h =
     elim (cases_Bool (is_answer_to w.1 x)) [
-      | inl e ↦ rw (r, e, waiting-answered its w x.1 h, (early-answered its w x.1 h).1) refl
+      | inl e ↦ rw (r, e, open_exchange-answered its w x.1 h, (early-answered its w x.1 h).1) refl
       | inr e ↦ elim (cases_Bool (is_pending_reply_to w.1 x)) [
         | inl q ↦ rw (r, e, q) refl
-        | inr q ↦ rw (r, e, q, waiting-stray its x.0 x.1, (early-kept its w x.0 x.1 h).1) refl
+        | inr q ↦ rw (r, e, q, open_exchange-stray its x.0 x.1, (early-kept its w x.0 x.1 h).1) refl
       ]
     ]
 
 next-same : (its : List ItemValue) (x : Message) → standing (items_with its x) ≡ standing_with (standing its) x
 next-same its x =
     elim (cases_Bool (is_tester_request x)) [
-      | inl e ↦ rw (e, waiting-request its x.1, (early-request its x.1).1) refl
-      | inr e ↦ (ap (λ l. standing l) (let j : items_with its x ≡ items_with_other (waiting its) its x = rw e refl in j) ∙ next-by its x (waiting its) e refl)
+      | inl e ↦ rw (e, open_exchange-request its x.1, (early-request its x.1).1) refl
+      | inr e ↦ (ap (λ l. standing l) (let j : items_with its x ≡ items_with_other (open_exchange_in its) its x = rw e refl in j) ∙ next-by its x (open_exchange_in its) e refl)
     ]
 
 -- what an orderer does leads to where it stands after the longer list

@@ -7,7 +7,7 @@ use Rattle.direction.specs.Dir.{Message}
 use Rattle.uds_exchange.specs.Meaning.{is_tester_request, is_answer_to, is_pending_reply_to, before_requests, Part, part, parts, answer, strays_in}
 use Rattle.uds_exchange.specs.Meaning.{ItemValue, exchange, stray, stray_of, items_of, meaning}
 use Rattle.uds_exchange.specs.Order.{has_exchange}
-use Rattle.uds_exchange.specs.WaitingExchange.{one_later, waiting}
+use Rattle.uds_exchange.specs.OpenExchange.{one_later, open_exchange_in}
 use Rattle.uds_exchange.specs.proving.Pairing.{items_with_other, items_with}
 
 -- the parts, and what comes before them, with one more message
@@ -41,14 +41,14 @@ grows (y ∷ ys) x =
     ]
 
 -- strays alone have no exchange
-pub no-strays : (o : List Message) → (has_exchange (map stray_of o) ≡ false) × (waiting (map stray_of o) ≡ None)
+pub no-strays : (o : List Message) → (has_exchange (map stray_of o) ≡ false) × (open_exchange_in (map stray_of o) ≡ None)
 no-strays [] = (refl, refl)
 no-strays (x ∷ o) = ((no-strays o).0, ap one_later (no-strays o).1)
 
-pub waiting-cons : (a : ItemValue) (its : List ItemValue) → has_exchange its ≡ true → waiting (a ∷ its) ≡ one_later (waiting its)
-waiting-cons (stray d m) its h = refl
-waiting-cons (exchange r (Some b)) its h = refl
-waiting-cons (exchange r None) its h = rw h refl
+pub open_exchange-cons : (a : ItemValue) (its : List ItemValue) → has_exchange its ≡ true → open_exchange_in (a ∷ its) ≡ one_later (open_exchange_in its)
+open_exchange-cons (stray d m) its h = refl
+open_exchange-cons (exchange r (Some b)) its h = refl
+open_exchange-cons (exchange r None) its h = rw h refl
 
 join_by-cons : (a : ItemValue) (o : Option (ℕ × List ℕ)) (its : List ItemValue) (x : Message)
     → items_with_other (one_later o) (a ∷ its) x ≡ a ∷ items_with_other o its x
@@ -64,7 +64,7 @@ join-cons : (a : ItemValue) (its : List ItemValue) (x : Message) → has_exchang
 join-cons a its x h =
     elim (cases_Bool (is_tester_request x)) [
       | inl e ↦ rw e refl
-      | inr e ↦ rw (e, waiting-cons a its h) (join_by-cons a (waiting its) its x)
+      | inr e ↦ rw (e, open_exchange-cons a its h) (join_by-cons a (open_exchange_in its) its x)
     ]
 
 pub has-behind : (A B : List ItemValue) → has_exchange B ≡ true → has_exchange (A ++ B) ≡ true
@@ -151,8 +151,8 @@ meaning-append-by b [] x =
     elim (cases_Bool (is_tester_request x)) [
       | inl e ↦ rw e (ap (λ l. l ++ exchange x.1 None ∷ []) (sym (append-nil (map stray_of b))))
       | inr e ↦
-          (let plain : map stray_of b ++ stray_of x ∷ [] ≡ items_with_other (waiting (map stray_of b)) (map stray_of b) x = rw (no-strays b).1 refl in
-          rw e (append-nil _ ∙ stray_of-append b x ∙ plain ∙ ap (λ l. items_with_other (waiting l) l x) (sym (append-nil (map stray_of b)))))
+          (let plain : map stray_of b ++ stray_of x ∷ [] ≡ items_with_other (open_exchange_in (map stray_of b)) (map stray_of b) x = rw (no-strays b).1 refl in
+          rw e (append-nil _ ∙ stray_of-append b x ∙ plain ∙ ap (λ l. items_with_other (open_exchange_in l) l x) (sym (append-nil (map stray_of b)))))
     ]
 meaning-append-by b (p ∷ ps) x =
     ap (λ l. map stray_of b ++ l) (parts-join p ps x) ∙ sym (join-behind (map stray_of b) (flat_map items_of (p ∷ ps)) x (has-items p ps))

@@ -37,14 +37,14 @@ number_by step.Pass M = next_number M
 abbrev pub number_after : List Message → Message → ℕ
 number_after M message = number_by (step_after M message) M
 
--- This is the first byte of the request that waits after the messages M, if one does.
+-- This is the first byte of the request that is open after the messages M, if one is.
 abbrev pub IsOpenSid : List Message → Option ℕ → Type 0
 IsOpenSid M open_sid = open_sid ≡ option_map sid (open_request M)
 
 -- A judge has counted these messages: it keeps which request is open, how many items there are, how many strays are held, and
 -- how many messages are left out.
 pub record HasCounted (M : List Message) (judge : Judge) : Type 0 where
-  pub waits : IsOpenSid M judge.open_sid
+  pub is_open : IsOpenSid M judge.open_sid
   pub items : judge.items ≡ length (meaning M)
   pub held : judge.held_count ≡ length (order.held M)
   pub removed : judge.removed ≡ length (removed_messages M)

@@ -10,7 +10,7 @@ pub mod ItemSink
 pub mod Decider
 pub mod Laws
 pub mod OneMessage
-pub mod WaitingExchange
+pub mod OpenExchange
 pub mod Exchanged
 pub mod Judging
 pub mod Blocks

@@ -25,7 +25,7 @@ use std::marker::Model;
 #[derive(Debug, Drop)]
 pub struct Decider {
     alloc: Global,
-    /// The last request, where that waits for its answer.
+    /// The open request: the last one, where it waits for its answer.
     request: Option<Vec<u8>>,
     /// What follows that request.
     held: HeldMessages,
@@ -112,7 +112,7 @@ impl Decider {
     }
 }
 
-/// Puts the exchange of a request that waits, with its answer, if it has one, and the strays behind it.
+/// Puts the exchange of the open request, with its answer, if it has one, and the strays behind it.
 fn put_exchange<S: ItemSink>(
     request: &Option<Vec<u8>>,
     answer: Option<&[u8]>,
@@ -170,7 +170,7 @@ impl<'a, S: ItemSink> MessageSink for StraySink<'a, S> {
 fn copy(alloc: Global, bytes: &[u8]) -> Result<Vec<u8>, AllocError>
     ensures { IfOk result (λ v. v.items ≡ bytes.now) }
 {
-    let mut v = Vec::with_capacity(alloc, bytes.len())?;
-    v.extend_from_slice(bytes)?;
-    Ok(v)
+    let mut copied = Vec::with_capacity(alloc, bytes.len())?;
+    copied.extend_from_slice(bytes)?;
+    Ok(copied)
 }

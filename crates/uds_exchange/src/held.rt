@@ -4,8 +4,8 @@ ghost use Rattle.std.specs.Prelude.{◌≡◌, ◌++◌, ◌∷◌, [], OnOk, On
 ghost use Rattle.uds_exchange.specs.MessageSink.{Puts, Fails};
 ghost use Rattle.uds_exchange.specs.proving.HeldMessages.{AreHeldIn, messages_at, span_of};
 
-use crate::messages::{Messages, Span};
 use crate::message_sink::MessageSink;
+use crate::messages::{Messages, Span};
 use direction::Dir;
 use std::alloc::{AllocError, Global};
 use std::marker::Model;
@@ -19,7 +19,7 @@ pub(crate) struct HeldMessages {
     total: usize,
 }
 
-/// The side of a message, and where its bytes lie, in sixteen bytes of memory.
+/// The side of a message, and where its bytes lie, in sixteen bytes of memory: with a [`Span`] inside it would be 24.
 #[derive(Clone, Copy)]
 pub(crate) struct HeldMessage {
     pub(crate) len: usize,

@@ -12,8 +12,8 @@ ghost use Rattle.uds_exchange.specs.declared.order_fault.OrderFault.TheVariants.
 
 use crate::held::HeldMessages;
 use crate::judge::Judged;
-use crate::order_fault::OrderFault;
 use crate::message_sink::MessageSink;
+use crate::order_fault::OrderFault;
 use crate::step::Step;
 use direction::Dir;
 use std::alloc::Global;
@@ -24,7 +24,7 @@ use std::marker::Model;
 #[derive(Debug, Drop)]
 pub struct JudgedOrderer {
     pub(crate) has_failed: bool,
-    /// What follows the request that waits for its answer.
+    /// What follows the open request.
     pub(crate) held: HeldMessages,
 }
 

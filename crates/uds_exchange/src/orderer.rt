@@ -9,8 +9,8 @@ ghost use Rattle.uds_exchange.specs.declared.order_fault.OrderFault.TheVariants.
 
 use crate::judge::Judge;
 use crate::judged_orderer::JudgedOrderer;
-use crate::order_fault::OrderFault;
 use crate::message_sink::MessageSink;
+use crate::order_fault::OrderFault;
 use direction::Dir;
 use std::alloc::Global;
 use std::marker::Model;
@@ -74,6 +74,7 @@ impl Orderer {
         ensures failed_only { result ≡ Err Failed
             → (self.old.has_failed ≡ true) × (self.new ≡ self.old) × (sink.new ≡ sink.old) }
     {
+        // The judge goes on only where the message was taken.
         let mut judge = self.judge;
         self.orderer.take(judge.take(dir, message), sink)?;
         self.judge = judge;

@@ -50,6 +50,7 @@ impl Pairing {
         ensures changes { OnErr result ((M : List Message) → self.old ≡ meaning M
             → meaning (M ++ (dir, message.now) ∷ []) ≢ meaning M) }
     {
+        // The judge goes on only where the message was taken.
         let mut judge = self.judge;
         self.pairing.take(judge.take(dir, message))?;
         self.judge = judge;

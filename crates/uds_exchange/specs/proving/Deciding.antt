@@ -25,7 +25,7 @@ step_in standing message = step_of (option_map sid standing.request) message
 abbrev pub decided_by : DeciderValue → Message → List ItemValue
 decided_by standing message = decided_for (step_in standing message) standing message
 
--- what the decider is after this step
+-- what the decider is after this step with a message
 abbrev pub decider_after_step : Step → DeciderValue → Message → DeciderValue
 decider_after_step (step.Request service) standing message = record { request = Some message.1; holds = [] }
 decider_after_step step.Answer standing message = record { request = None; holds = [] }
@@ -33,7 +33,7 @@ decider_after_step step.Removed standing message = standing
 decider_after_step step.Hold standing message = record standing { holds = standing.holds ++ message ∷ [] }
 decider_after_step step.Pass standing message = standing
 
--- what the decider is after one more message
+-- what the decider is with one more message
 abbrev pub decider_with : DeciderValue → Message → DeciderValue
 decider_with standing message = decider_after_step (step_in standing message) standing message
 

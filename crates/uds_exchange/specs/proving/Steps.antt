@@ -19,7 +19,7 @@ due_for step.Removed holds message = []
 due_for step.Hold holds message = []
 due_for step.Pass holds message = message ∷ []
 
--- what the orderer is after this step
+-- what the orderer is after this step with a message
 abbrev pub orderer_after_step : Step → JudgedOrdererValue → Message → JudgedOrdererValue
 orderer_after_step (step.Request service) standing message = record standing { holds = [] }
 orderer_after_step step.Answer standing message = record standing { holds = [] }
@@ -35,7 +35,7 @@ Stops after_ok after_err step message old before new after (fault.Sink why) =
     (old.has_failed ≡ false) × (new.has_failed ≡ true) × Fails after_ok after_err before (due_for step old.holds message) why after
 Stops after_ok after_err step message old before new after fault.Failed = (old.has_failed ≡ true) × (new ≡ old) × (after ≡ before)
 
--- which request waits, by its first byte, and what is held behind it
+-- which request is open, by its first byte, and what is held behind it
 pub record Standing : Type 0 where
   pub open_sid : Option ℕ
   pub holds : List Message
@@ -48,7 +48,7 @@ standing_after M = record { open_sid = option_map sid (open_request M); holds = 
 abbrev pub due : Standing → Message → List Message
 due standing message = due_for (step_of standing.open_sid message) standing.holds message
 
--- so it is after this step
+-- so it is after this step with a message
 abbrev pub standing_after_step : Step → Standing → Message → Standing
 standing_after_step (step.Request service) standing message = record { open_sid = Some service; holds = [] }
 standing_after_step step.Answer standing message = record { open_sid = None; holds = [] }
@@ -56,6 +56,6 @@ standing_after_step step.Removed standing message = standing
 standing_after_step step.Hold standing message = record standing { holds = standing.holds ++ message ∷ [] }
 standing_after_step step.Pass standing message = standing
 
--- and after one more message
+-- and with one more message
 abbrev pub standing_with : Standing → Message → Standing
 standing_with standing message = standing_after_step (step_of standing.open_sid message) standing message

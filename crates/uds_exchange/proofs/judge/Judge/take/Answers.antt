@@ -9,8 +9,8 @@ pub returns-clause-item : goal.returns-clause-item
 returns-clause-item c = λ M few counts.
     number-found M (c.args.dir, c.args.message.now) c.args.self.now c.step_of-step.result c.note.new.self c.advance-item_number.result few counts c.step_of-step.ensures c.advance-item_number.ensures.number
 
-pub returns-clause-waits : goal.returns-clause-waits
-returns-clause-waits c = λ M waits.
+pub returns-clause-is_open : goal.returns-clause-is_open
+returns-clause-is_open c = λ M waits.
     waits-found M (c.args.dir, c.args.message.now) c.args.self.now c.advance-item_number.new.self c.step_of-step.result c.note.new.self waits c.step_of-step.ensures c.advance-item_number.ensures.now
 
 pub returns-clause-step : goal.returns-clause-step
