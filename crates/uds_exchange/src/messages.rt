@@ -1,6 +1,6 @@
-//! Messages that are kept, in blocks of memory that are never moved. A message goes behind what is in the block that is being
-//! filled, where that has room; else it begins a new block, which is filled from then on. The first block lies apart from the
-//! later ones, so each of this is said of the first, and of a later one.
+//! Messages that are kept, in blocks of memory that are never moved. A message goes behind those of the block that is being
+//! filled, where that has room; else it begins a new block, which is filled from then on unless the message is a long one. The
+//! first block lies apart from the later ones, so both ways have a case of their own for it.
 
 ghost use Rattle.std.specs.Prelude.{◌≡◌, ◌<◌, ◌≤◌, ◌+◌, ◌++◌, ◌∷◌, [], ℕ, IsTrue, IfOk, OnOk, OnErr, length};
 ghost use Rattle.uds_exchange.specs.Blocks.{block_at, bytes_at, IsInside, Lays};

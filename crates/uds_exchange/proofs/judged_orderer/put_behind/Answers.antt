@@ -1,3 +1,4 @@
+-- The messages that are held were put, and then one.
 use Rattle.std.proofs.Common.{refl}
 use Rattle.uds_exchange.proofs.Putting.{fails-front, puts-append}
 use Rattle.uds_exchange.proofs.Variants.{on_ok_along, handed_on}

@@ -1,3 +1,4 @@
+-- What a judge keeps with one more message, and what it says of it, are what the messages say.
 use Rattle.uds_exchange.proofs.ItemNumbers.{counts-next, waits-found, step-found, number-found, sides-found}
 use Rattle.uds_exchange.proofs.judge.Judge.take.Goals as goal
 

@@ -1,3 +1,4 @@
+-- The place of the open exchange goes on with each step; an answer changes the exchange there.
 use Rattle.std.proofs.Common.{sym, ◌∙◌, ap, subst, Some, None, List}
 use Rattle.uds_exchange.specs.Meaning.{ItemValue}
 use Rattle.uds_exchange.specs.Judging.{sent}

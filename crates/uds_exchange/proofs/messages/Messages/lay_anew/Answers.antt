@@ -1,3 +1,4 @@
+-- A message that begins a block leaves the others as they were.
 use Rattle.std.proofs.Common.{◌∷◌, refl, subst}
 use Rattle.uds_exchange.specs.Blocks.{Lays}
 use Rattle.uds_exchange.specs.proving.Blocks.{block_bytes}

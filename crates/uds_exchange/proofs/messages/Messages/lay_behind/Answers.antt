@@ -1,3 +1,4 @@
+-- A message behind what is in a block leaves that where it was, and the other blocks, too.
 use Rattle.std.proofs.Common.{◌-◌, ◌<◌, ◌∷◌, ◌∙◌, length, slice_set, ap, subst, arith, ℕ}
 use Rattle.std.specs.Prelude.{Vec}
 use Rattle.std.specs.declared.alloc.Global.{Global}

@@ -1,3 +1,4 @@
+-- The judge judges behind the messages so far, so what the inner orderer says of them holds.
 use Rattle.std.proofs.Common.{Err, ap, subst, ◌∙◌}
 use Rattle.direction.specs.Dir.{Message}
 use Rattle.uds_exchange.specs.Judging.{IsOpenSid}
