@@ -2,7 +2,7 @@
 -- else of proofs/ is for them.
 use Rattle.isotp_segment.specs.Laws.{CanonicalFramesAreARecording, CanonicalFramesAreClean, SegmentsDeliver, SegmentsDeliverNothingBefore}
 pub use Rattle.isotp_segment.proofs.Counts.{frame_count_by_length, count-least as consecutive_count_is_least}
-pub use Rattle.isotp_segment.proofs.FullFrames.{canonical_frames_are_full, short_message_is_one_frame}
+pub use Rattle.isotp_segment.proofs.EightBytes.{canonical_frames_have_eight_bytes, short_message_is_one_frame}
 use Rattle.isotp_segment.proofs.Recorded.{frames-recording}
 use Rattle.isotp_segment.proofs.CleanFrames.{frames-clean}
 use Rattle.isotp_segment.proofs.DeliveredMessage.{frames-deliver, front-delivers}

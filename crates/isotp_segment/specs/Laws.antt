@@ -23,15 +23,15 @@ FrameCountByLength = (len : ℕ) → (len ≤ 7 → frame_count len ≡ 1) × (7
 abbrev pub ConsecutiveCountIsLeast : Type 0
 ConsecutiveCountIsLeast = (len : ℕ) → 7 < len → IsConsecutiveCount (room_in_first len) 8 len (consecutive_count len)
 
--- a frame of 8 bytes
-pub record IsFullFrame (frame : Dir × List ℕ) : Type 0 where
-  pub full : length frame.1 ≡ 8
+-- a frame of 8 bytes, each of which is a byte
+pub record HasEightBytes (frame : Dir × List ℕ) : Type 0 where
+  pub eight : length frame.1 ≡ 8
   pub bytes : AreBytes frame.1
 
 -- each canonical frame of a message of bytes has 8 bytes
-abbrev pub CanonicalFramesAreFull : Type 0
-CanonicalFramesAreFull = (limit : ℕ) (d : Dir) (message : List ℕ)
-    → limit < 2 ^ 32 → AreBytes message → AllByRecursion IsFullFrame (canonical_frames limit d message)
+abbrev pub CanonicalFramesHaveEightBytes : Type 0
+CanonicalFramesHaveEightBytes = (limit : ℕ) (d : Dir) (message : List ℕ)
+    → limit < 2 ^ 32 → AreBytes message → AllByRecursion HasEightBytes (canonical_frames limit d message)
 
 -- the frames of the message are one, of the same side: a single frame that holds it, under any identifier
 pub record AreOneSingleFrame (d : Dir) (message : List ℕ) (frames : List (Dir × List ℕ)) : Type 0 where

@@ -1,6 +1,6 @@
 //! Laws of canonical frames, for the proofs of callers: functions that do nothing.
 
-ghost use Rattle.isotp_segment.specs.Laws.{FrameCountByLength, ConsecutiveCountIsLeast, CanonicalFramesAreFull, ShortMessageIsOneFrame};
+ghost use Rattle.isotp_segment.specs.Laws.{FrameCountByLength, ConsecutiveCountIsLeast, CanonicalFramesHaveEightBytes, ShortMessageIsOneFrame};
 ghost use Rattle.isotp_segment.specs.Laws.{CanonicalFramesAreARecording, CanonicalFramesAreClean, SegmentsDeliver, SegmentsDeliverNothingBefore};
 
 /// A message of at most 7 bytes has one canonical frame, and a longer one two more than its consecutive frames.
@@ -14,8 +14,8 @@ pub fn consecutive_count_is_least()
 {}
 
 /// Each canonical frame has 8 bytes.
-pub fn canonical_frames_are_full()
-    ensures full { CanonicalFramesAreFull }
+pub fn canonical_frames_have_eight_bytes()
+    ensures eight { CanonicalFramesHaveEightBytes }
 {}
 
 /// A message of at most 7 bytes has one canonical frame: a single frame that holds it.

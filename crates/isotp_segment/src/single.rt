@@ -4,7 +4,7 @@
 ghost use Rattle.std.specs.Prelude.{◌≡◌, ◌≤◌, [], ◌∷◌, length};
 ghost use Rattle.direction.specs.declared.Dir.{Dir};
 ghost use Rattle.isotp_receive.specs.declared.TheConstants.{MESSAGE_LIMIT};
-ghost use Rattle.isotp_segment.specs.CanonicalFrames.{filled, single_control, canonical_frames};
+ghost use Rattle.isotp_segment.specs.CanonicalFrames.{padded, single_control, canonical_frames};
 ghost use Rattle.isotp_segment.specs.declared.single.TheConstants.{SINGLE_LIMIT};
 ghost use Rattle.isotp_segment.specs.proving.Ends.{ends_of};
 
@@ -58,7 +58,7 @@ const WIDENED: [usize; 16] = [0, 1, 2, 3, 4, 5, 6, 7, 8, 9, 10, 11, 12, 13, 14, 
 pub fn single_frame(message: &[u8]) -> [u8; 8]
     requires some { 1 ≤ length message.now }
     requires single { length message.now ≤ SINGLE_LIMIT }
-    ensures value { result ≡ filled (single_control (length message.now)) message.now }
+    ensures value { result ≡ padded (single_control (length message.now)) message.now }
     ensures frames { (direction : Dir) → canonical_frames MESSAGE_LIMIT direction message.now ≡ (direction, result) ∷ [] }
 {
     let len = message.len();

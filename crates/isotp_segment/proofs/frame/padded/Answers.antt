@@ -1,6 +1,6 @@
 use Rattle.std.proofs.Common.{arith, rules}
 use Rattle.isotp_segment.proofs.Padding.{put_mid-whole, put_mid-padded}
-use Rattle.isotp_segment.proofs.frame.filled.Goals as goal
+use Rattle.isotp_segment.proofs.frame.padded.Goals as goal
 
 pub returns-then-bytes-place : goal.returns-then-bytes-place
 returns-then-bytes-place c = record {
