@@ -5,5 +5,5 @@ use Rattle.isotp_segment.proofs.frame.full_frame.Goals as goal
 
 pub returns-clause-value : goal.returns-clause-value
 returns-clause-value c =
-    full_frame_at _ _ _ c.args.message.now _ (grind (arith, c.place_of-place.ensures.value)) c.in_ok-frame.ensures.cases
-    ∙ ap (λ control. padded control (drop (place_of (length c.args.message.now) c.args.number) c.args.message.now)) c.consecutive_control.ensures.value
+    full_frame_at _ _ _ c.args.message.now _ (grind (arith, c.place_of-place.ensures)) c.in_ok-frame.ensures.cases
+    ∙ ap (λ control. padded control (drop (place_of (length c.args.message.now) c.args.number) c.args.message.now)) c.consecutive_control.ensures
