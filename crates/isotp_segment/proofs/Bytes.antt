@@ -39,9 +39,9 @@ take-padded n bytes =
     ∙ get_or-padded bytes n i inside
     ∙ sym (get_or-map-range_with_len (byte_at bytes) 0 n i i 0 inside (omega arith)))
 
-pub padded_by_place : (control bytes : List ℕ) → padded control bytes ≡ placed_bytes 8 (byte_at (control ++ bytes))
+pub padded-by-place : (control bytes : List ℕ) → padded control bytes ≡ placed_bytes 8 (byte_at (control ++ bytes))
 unfolding padded
-padded_by_place control bytes = ap (take 8) (sym (append_assoc control bytes (replicate 8 padding))) ∙ take-padded 8 (control ++ bytes)
+padded-by-place control bytes = ap (take 8) (sym (append_assoc control bytes (replicate 8 padding))) ∙ take-padded 8 (control ++ bytes)
 
 -- a byte of the message that has room in the frame comes after the control information
 pub padded-holds : (control bytes : List ℕ) (place i : ℕ) → place < length bytes → i ≡ length control + place → i < 8
@@ -51,8 +51,8 @@ padded-holds control bytes place i inside is room =
     ∙ sym (get_or-append-add control bytes place padding)
     ∙ ap (byte_at (control ++ bytes)) (sym is)
     ∙ sym (get_or-map-range_with_len (byte_at (control ++ bytes)) 0 8 i i 0 room (omega arith))
-    ∙ ap (λ l. get_or l i 0) (sym (padded_by_place control bytes))
+    ∙ ap (λ l. get_or l i 0) (sym (padded-by-place control bytes))
 
 pub length-padded : (control bytes : List ℕ) → length (padded control bytes) ≡ 8
 length-padded control bytes =
-    ap (length {A = ℕ}) (padded_by_place control bytes) ∙ length-map-range_with_len (byte_at (control ++ bytes)) 0 8
+    ap (length {A = ℕ}) (padded-by-place control bytes) ∙ length-map-range_with_len (byte_at (control ++ bytes)) 0 8

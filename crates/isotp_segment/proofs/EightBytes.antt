@@ -9,7 +9,7 @@ use Rattle.isotp_pdu.specs.Layout.{single}
 use Rattle.isotp_pdu.proofs.Promises.{layout_is_read}
 use Rattle.isotp_segment.specs.CanonicalFrames.{padded, single_control, first_control, consecutive_control, continue_control, place_of, frame_count, canonical_frame, canonical_frames}
 use Rattle.isotp_segment.specs.Laws.{HasEightBytes, CanonicalFramesHaveEightBytes, ShortMessageIsOneFrame}
-use Rattle.isotp_segment.proofs.Bytes.{byte_at, padded_by_place, length-padded}
+use Rattle.isotp_segment.proofs.Bytes.{byte_at, padded-by-place, length-padded}
 use Rattle.isotp_segment.proofs.Frames.{frame-single, canonical_frames-short}
 use Rattle.isotp_segment.proofs.Layouts.{classic, layout-single}
 use Rattle.isotp_segment.proofs.Lists.{AllByRecursion-drop, AllByRecursion-map-range}
@@ -22,7 +22,7 @@ byte_at-below (b ∷ bytes) (suc i) each = byte_at-below bytes i each.1
 eight_bytes : (d : Dir) (control bytes : List ℕ) → AreBytes (control ++ bytes) → HasEightBytes (d, padded control bytes)
 eight_bytes d control bytes each = record {
   eight = length-padded control bytes;
-  bytes = rw (padded_by_place control bytes)
+  bytes = rw (padded-by-place control bytes)
       (AllByRecursion-map-range (λ b. b < 256) (byte_at (control ++ bytes)) 0 8 (λ i. byte_at-below (control ++ bytes) i each));
 }
 

@@ -11,7 +11,7 @@ use Rattle.isotp_pdu.specs.Reading.{layout_of}
 use Rattle.isotp_pdu.proofs.Promises.{layout_is_read}
 use Rattle.isotp_segment.specs.CanonicalFrames.{padded, padding, single_control, first_control, consecutive_control, continue_control, room_in_first}
 use Rattle.isotp_segment.proofs.Padding.{padded-whole, padded-short}
-use Rattle.isotp_segment.proofs.Bytes.{padded_by_place, length-padded}
+use Rattle.isotp_segment.proofs.Bytes.{padded-by-place, length-padded}
 
 -- a classic frame of these bytes
 abbrev pub classic : Id → List ℕ → FrameValue
@@ -75,7 +75,7 @@ pub layout-consecutive : (id : Id) (number : ℕ) (bytes : List ℕ)
     → layout_of (classic id (padded (consecutive_control number) bytes))
     ≡ Ok (consecutive (number % 16) 8 (drop 1 (padded (consecutive_control number) bytes)))
 layout-consecutive id number bytes = reads id (consecutive_control number) bytes _
-    (omega arith, sym (length-padded (consecutive_control number) bytes), rw (padded_by_place (consecutive_control number) bytes) refl)
+    (omega arith, sym (length-padded (consecutive_control number) bytes), rw (padded-by-place (consecutive_control number) bytes) refl)
 
 pub layout-continue : (id : Id) → layout_of (classic id (padded continue_control [])) ≡ Ok (flow_control Continue)
 unfolding padded

@@ -7,7 +7,7 @@ use Rattle.direction.specs.Dir.{other_direction}
 use Rattle.direction.specs.declared.Dir.{Dir}
 use Rattle.isotp_pdu.specs.Layout.{first_byte}
 use Rattle.isotp_segment.specs.CanonicalFrames.{IsFullNext, padded, padding, first_control, consecutive_control, place_of, frame_count, canonical_frame, canonical_frames}
-use Rattle.isotp_segment.proofs.Bytes.{padded_by_place}
+use Rattle.isotp_segment.proofs.Bytes.{padded-by-place}
 use Rattle.isotp_segment.proofs.Counts.{total-short, total-long, room_in_first-few}
 use Rattle.isotp_segment.proofs.Frames.{drop_canonical_frames, drop_at_end, frame-single, frame-first, frame-continue, frame-consecutive}
 
@@ -22,12 +22,12 @@ sender_of otherwise (frame ∷ frames) = frame.0
 
 -- a frame begins with its control information
 begins : (b : ℕ) (control bytes : List ℕ) → slice_index (padded (b ∷ control) bytes) 0 ≡ b
-begins b control bytes = ap (λ l. get_or l 0 0) (padded_by_place (b ∷ control) bytes)
+begins b control bytes = ap (λ l. get_or l 0 0) (padded-by-place (b ∷ control) bytes)
 
 -- and it ends in padding, where the bytes after one control byte are too few
 ends : (b : ℕ) (bytes : List ℕ) → length bytes < 7 → slice_get (padded (b ∷ []) bytes) 7 ≡ Some padding
 ends b bytes few =
-    ap (λ l. slice_get l 7) (padded_by_place (b ∷ []) bytes) ∙ ap (λ n. Some n) (get_or_past (b ∷ bytes) 7 padding (omega arith))
+    ap (λ l. slice_get l 7) (padded-by-place (b ∷ []) bytes) ∙ ap (λ n. Some n) (get_or_past (b ∷ bytes) 7 padding (omega arith))
 
 -- a frame of another kind is none
 other_kind : (sender direction : Dir) (b : ℕ) (control bytes : List ℕ) (later : List (Dir × List ℕ)) → (b < 32) ⊎ (48 ≤ b)

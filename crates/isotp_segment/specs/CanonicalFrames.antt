@@ -38,7 +38,7 @@ continue_control = first_byte 3 (status_number Continue) ∷ 0 ∷ 0 ∷ []
 abbrev pub room_in_first : ℕ → ℕ
 room_in_first len = if nat_le len 4095 then 6 else 2
 
--- the place in the message where the bytes of consecutive frame `number` begin, counted from 1 (section 9.6.4)
+-- the place in the message where the bytes of consecutive frame `number` begin (section 9.6.4); these frames are counted from 1
 abbrev pub place_of : ℕ → ℕ → ℕ
 place_of len number = bytes_before (room_in_first len) 8 (number - 1)
 

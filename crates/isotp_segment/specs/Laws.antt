@@ -56,12 +56,12 @@ CanonicalFramesAreClean = (limit : ℕ) (identifier : Dir → Id) (line micros :
 
 -- received after any trace they deliver the message, and nothing else
 abbrev pub SegmentsDeliver : Type 0
-SegmentsDeliver = (limit : ℕ) (identifier : Dir → Id) (line micros : ℕ) (T : List Entry) (d : Dir) (m : List ℕ)
-    → limit < 2 ^ 32 → 1 ≤ length m → length m ≤ limit
-    → messages limit (T ++ timed identifier line micros (canonical_frames limit d m)) ≡ messages limit T ++ (d, m) ∷ []
+SegmentsDeliver = (limit : ℕ) (identifier : Dir → Id) (line micros : ℕ) (T : List Entry) (d : Dir) (message : List ℕ)
+    → limit < 2 ^ 32 → 1 ≤ length message → length message ≤ limit
+    → messages limit (T ++ timed identifier line micros (canonical_frames limit d message)) ≡ messages limit T ++ (d, message) ∷ []
 
 -- it is the last of them that does: the frames before it deliver nothing
 abbrev pub SegmentsDeliverNothingBefore : Type 0
-SegmentsDeliverNothingBefore = (limit : ℕ) (identifier : Dir → Id) (line micros : ℕ) (T : List Entry) (d : Dir) (m : List ℕ) (n : ℕ)
-    → limit < 2 ^ 32 → 1 ≤ length m → length m ≤ limit → n < length (canonical_frames limit d m)
-    → messages limit (T ++ timed identifier line micros (take n (canonical_frames limit d m))) ≡ messages limit T
+SegmentsDeliverNothingBefore = (limit : ℕ) (identifier : Dir → Id) (line micros : ℕ) (T : List Entry) (d : Dir) (message : List ℕ) (n : ℕ)
+    → limit < 2 ^ 32 → 1 ≤ length message → length message ≤ limit → n < length (canonical_frames limit d message)
+    → messages limit (T ++ timed identifier line micros (take n (canonical_frames limit d message))) ≡ messages limit T

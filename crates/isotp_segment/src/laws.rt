@@ -23,21 +23,19 @@ pub fn short_message_is_one_frame()
     ensures { ShortMessageIsOneFrame }
 {}
 
-/// The canonical frames of any messages, each a millisecond after the one before, are a recording of
-/// these messages: from any line and time on, and under any two identifiers.
+/// The canonical frames of any messages, each a millisecond after the one before, are a recording of these messages: from any line
+/// and time on, and under any two identifiers.
 pub fn canonical_frames_are_a_recording()
     ensures { CanonicalFramesAreARecording }
 {}
 
-/// Such frames are a clean trace: no frame is dropped, none ends a reception, and nothing is left over.
-/// So each stands on the side, in the place and at the time where a receiver waits for it: a continue
-/// frame from the side of the message would be dropped.
+/// Such frames are a clean trace: no frame is dropped, none ends a reception, and nothing is left over. So each stands on the side,
+/// in the place and at the time where a receiver waits for it: a continue frame from the side of the message would be dropped.
 pub fn canonical_frames_are_clean()
     ensures { CanonicalFramesAreClean }
 {}
 
-/// Received after any trace, the canonical frames of a message deliver it at the last of them, and
-/// nothing before.
+/// Received after any trace, the canonical frames of a message deliver it at the last of them, and nothing before.
 pub fn segments_deliver()
     ensures message { SegmentsDeliver }
     ensures nothing_before { SegmentsDeliverNothingBefore }

@@ -1,3 +1,4 @@
+-- Control information and bytes over padding, where they leave room for it and where they don't.
 use Rattle.std.proofs.Common.{arith, rules}
 use Rattle.isotp_segment.proofs.Padding.{put_mid-whole, put_mid-padded}
 use Rattle.isotp_segment.proofs.frame.padded.Goals as goal

@@ -1,3 +1,4 @@
+-- What is picked from the ends of a short message is its frame, and the only one.
 use Rattle.std.proofs.Common.{arith}
 use Rattle.isotp_receive.specs.declared.TheConstants.{MESSAGE_LIMIT}
 use Rattle.isotp_segment.proofs.SingleFrames.{places_are_lanes, picked_is_padded, picked_is_alone}

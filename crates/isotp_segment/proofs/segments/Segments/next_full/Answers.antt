@@ -1,3 +1,4 @@
+-- Where no full frame is given none is next: it would be of another kind, sender or length.
 use Rattle.std.proofs.Common.{arith, sym, subst, ◌∙◌}
 use denote.Enum.Bare.{differs_true}
 use Rattle.direction.specs.contracts.Dir.{the_type}
