@@ -55,13 +55,13 @@ CanonicalFramesAreClean = (limit : ℕ) (identifier : Dir → Id) (line micros :
     → limit < 2 ^ 32 → AllByRecursion (HasFrames limit) M → IsClean limit (timed identifier line micros (all_frames limit M))
 
 -- received after any trace they deliver the message, and nothing else
-abbrev pub SegmentsDeliver : Type 0
-SegmentsDeliver = (limit : ℕ) (identifier : Dir → Id) (line micros : ℕ) (T : List Entry) (d : Dir) (message : List ℕ)
+abbrev pub CanonicalFramesDeliver : Type 0
+CanonicalFramesDeliver = (limit : ℕ) (identifier : Dir → Id) (line micros : ℕ) (T : List Entry) (d : Dir) (message : List ℕ)
     → limit < 2 ^ 32 → 1 ≤ length message → length message ≤ limit
     → messages limit (T ++ timed identifier line micros (canonical_frames limit d message)) ≡ messages limit T ++ (d, message) ∷ []
 
 -- it is the last of them that does: the frames before it deliver nothing
-abbrev pub SegmentsDeliverNothingBefore : Type 0
-SegmentsDeliverNothingBefore = (limit : ℕ) (identifier : Dir → Id) (line micros : ℕ) (T : List Entry) (d : Dir) (message : List ℕ) (n : ℕ)
+abbrev pub CanonicalFramesDeliverNothingBefore : Type 0
+CanonicalFramesDeliverNothingBefore = (limit : ℕ) (identifier : Dir → Id) (line micros : ℕ) (T : List Entry) (d : Dir) (message : List ℕ) (n : ℕ)
     → limit < 2 ^ 32 → 1 ≤ length message → length message ≤ limit → n < length (canonical_frames limit d message)
     → messages limit (T ++ timed identifier line micros (take n (canonical_frames limit d message))) ≡ messages limit T
