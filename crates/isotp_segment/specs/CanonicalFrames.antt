@@ -42,6 +42,10 @@ room_in_first len = if nat_le len 4095 then 6 else 2
 abbrev pub place_of : ℕ → ℕ → ℕ
 place_of len number = bytes_before (room_in_first len) 8 (number - 1)
 
+-- consecutive frame `number` of a message: what it holds begins at its place
+abbrev pub consecutive_frame : List ℕ → ℕ → List ℕ
+consecutive_frame message number = padded (consecutive_control number) (drop (place_of (length message) number) message)
+
 -- how many consecutive frames hold what the first frame leaves
 abbrev pub consecutive_count : ℕ → ℕ
 consecutive_count len = (len - room_in_first len + 6) / 7
@@ -57,7 +61,7 @@ canonical_frame direction message number =
     if nat_le (length message) 7 then (direction, padded (single_control (length message)) message)
     else if number == 0 then (direction, padded (first_control (length message)) message)
     else if number == 1 then (other_direction direction, padded continue_control [])
-    else (direction, padded (consecutive_control (number - 1)) (drop (place_of (length message) (number - 1)) message))
+    else (direction, consecutive_frame message (number - 1))
 
 -- The frames of a message of 1 to `limit` bytes. Any other has none.
 unfoldable pub canonical_frames : ℕ → Dir → List ℕ → List (Dir × List ℕ)
