@@ -5,7 +5,8 @@ use Rattle.std.specs.List.{filter, last_or, list_any}
 use Rattle.std.specs.Prelude.{◌||◌, if◌then◌else◌}
 use Rattle.can_log.specs.Frame.{FrameValue}
 use Rattle.can_log.specs.declared.frame.Id.{Id}
-use Rattle.uds_find.specs.Credit.{asker_by, asker_in, credit_by, credited_to, is_of, is_same, speaks_of, waits_for, AsksLast, CreditIsAsked}
+use Rattle.uds_find.specs.Credit.{asker_by, asker_in, credit_by, credited_to, is_of, is_same, speaks_of, waits_for}
+use Rattle.uds_find.specs.Laws.{AsksLast, CreditIsAsked}
 use Rattle.uds_find.specs.Mention.{mention_of}
 use Rattle.uds_find.specs.declared.mention.Mention.{Mention}
 use Rattle.uds_find.specs.declared.mention.Mention.TheVariants.{Asks, Answers}

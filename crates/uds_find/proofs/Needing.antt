@@ -5,8 +5,9 @@ use Rattle.std.specs.List.{cons_option}
 use Rattle.std.specs.Map.{lookup}
 use Rattle.std.specs.Prelude.{if◌then◌else◌, OnErr}
 use Rattle.can_log.specs.Frame.{FrameValue}
-use Rattle.uds_find.specs.Credit.{credits, credit_count, is_same_pair, HasCredit, FirstCreditIsCredit}
+use Rattle.uds_find.specs.Credit.{credits, credit_count, is_same_pair, HasCredit}
 use Rattle.uds_find.specs.Finding.{IsTally, counted}
+use Rattle.uds_find.specs.Laws.{FirstCreditIsCredit}
 use Rattle.uds_find.specs.declared.pair.Pair.{Pair}
 use Rattle.uds_find.proofs.Counting.{credits-more}
 use Rattle.uds_find.proofs.Orders.{pair-itself}

@@ -1,6 +1,6 @@
 -- Which identifier an answer is credited to: the one that last asked for the service.
 use Rattle.std.specs.Prelude.{◌≡◌, ℕ, ◌==◌, ◌<◌, Bool, false, ◌&&◌, List, [], ◌∷◌, ◌++◌, length, Option, Some, None, if◌then◌else◌}
-use Rattle.std.specs.List.{cons_option, count_by, filter, last_or, list_any}
+use Rattle.std.specs.List.{cons_option, count_by, filter, last_or}
 use Rattle.can_log.specs.Frame.{FrameValue}
 use Rattle.can_log.specs.declared.frame.Id.{Id}
 use Rattle.can_log.specs.declared.frame.Id.TheVariants as id
@@ -80,23 +80,3 @@ HasCredit frames = 0 < length (credits frames)
 -- after these frames this one is the first that is credited to its pair
 abbrev pub IsFirstCredit : List FrameValue → FrameValue → Type 0
 IsFirstCredit past frame = (pair : Pair) × (credit past frame ≡ Some pair) × (credit_count pair past ≡ 0)
-
--- the first credit of a pair is a credit
-abbrev pub FirstCreditIsCredit : Type 0
-FirstCreditIsCredit = (past : List FrameValue) (frame : FrameValue) → IsFirstCredit past frame → HasCredit (past ++ frame ∷ [])
-
--- Of these frames the last that says something of the service asks for it, and has this identifier.
-pub record AsksLast (past : List FrameValue) (service : ℕ) (asker : Id) : Type 0 where
-  pub earlier : List FrameValue
-  pub asking : FrameValue
-  pub since : List FrameValue
-  pub place : past ≡ earlier ++ asking ∷ since
-  pub asks : mention_of asking ≡ Some (Asks service)
-  pub sent : asking.id ≡ asker
-  pub is_last : list_any (speaks_of service) since ≡ false
-
--- a credited frame answers a service: its unit sent it, and its tester, which is another, was the last to ask
-abbrev pub CreditIsAsked : Type 0
-CreditIsAsked = (past : List FrameValue) (frame : FrameValue) (pair : Pair) → credit past frame ≡ Some pair
-    → (service : ℕ) × (mention_of frame ≡ Some (Answers service)) × (pair.unit ≡ frame.id) × AsksLast past service pair.tester
-    × (is_same pair.tester pair.unit ≡ false)
