@@ -9,30 +9,30 @@ use Rattle.uds_find.specs.declared.mention.Mention.{Mention}
 use Rattle.uds_find.specs.declared.mention.Mention.TheVariants.{Asks, Answers}
 use Rattle.uds_find.specs.declared.pair.Pair.{Pair}
 
--- whether it is said of this service
-abbrev pub is_of : ℕ → Option Mention → Bool
-is_of service None = false
-is_of service (Some (Asks asked)) = asked == service
-is_of service (Some (Answers answered)) = answered == service
+-- whether what is said is about this service
+abbrev pub is_about : ℕ → Option Mention → Bool
+is_about service None = false
+is_about service (Some (Asks asked)) = asked == service
+is_about service (Some (Answers answered)) = answered == service
 
--- whether a frame says something of the service
+-- whether a frame says something of this service
 abbrev pub speaks_of : ℕ → FrameValue → Bool
-speaks_of service frame = is_of service (mention_of frame)
+speaks_of service frame = is_about service (mention_of frame)
 
--- the identifier of a frame that says this, where it asks
-abbrev pub asker_by : Option Mention → Id → Option Id
-asker_by (Some (Asks service)) asker = Some asker
-asker_by (Some (Answers service)) asker = None
-asker_by None asker = None
+-- the asker, of what a frame of this identifier says
+abbrev pub asker_of_mention : Option Mention → Id → Option Id
+asker_of_mention (Some (Asks service)) asker = Some asker
+asker_of_mention (Some (Answers service)) asker = None
+asker_of_mention None asker = None
 
--- the identifier of a frame, where there is one and it asks
-abbrev pub asker_in : Option FrameValue → Option Id
-asker_in None = None
-asker_in (Some frame) = asker_by (mention_of frame) frame.id
+-- the asker, of a frame, if there is one: its identifier, where it asks
+abbrev pub asker_of_frame : Option FrameValue → Option Id
+asker_of_frame None = None
+asker_of_frame (Some frame) = asker_of_mention (mention_of frame) frame.id
 
 -- who waits for an answer of the service after these frames: the last that says something of it, where that one asks
 unfoldable pub waits_for : ℕ → List FrameValue → Option Id
-waits_for service past = asker_in (last_or None (filter (speaks_of service) past))
+waits_for service past = asker_of_frame (last_or None (filter (speaks_of service) past))
 
 -- the two are one identifier
 abbrev pub is_same : Id → Id → Bool
@@ -47,14 +47,14 @@ credited_to None unit = None
 credited_to (Some tester) unit = if is_same tester unit then None else Some (record { tester = tester; unit = unit })
 
 -- the pair that a frame of this identifier is credited to, where it says this after these frames
-abbrev pub credit_by : List FrameValue → Option Mention → Id → Option Pair
-credit_by past (Some (Answers service)) unit = credited_to (waits_for service past) unit
-credit_by past (Some (Asks service)) unit = None
-credit_by past None unit = None
+abbrev pub credit_of_mention : List FrameValue → Option Mention → Id → Option Pair
+credit_of_mention past (Some (Answers service)) unit = credited_to (waits_for service past) unit
+credit_of_mention past (Some (Asks service)) unit = None
+credit_of_mention past None unit = None
 
 -- the pair that a frame is credited to after these frames
 abbrev pub credit : List FrameValue → FrameValue → Option Pair
-credit past frame = credit_by past (mention_of frame) frame.id
+credit past frame = credit_of_mention past (mention_of frame) frame.id
 
 -- the pairs that these frames are credited to, where the frames `past` came before them
 unfoldable pub credits_after : List FrameValue → List FrameValue → List Pair
