@@ -10,7 +10,7 @@ use Rattle.uds_find.specs.Laws.{AsksLast, CreditIsAsked}
 use Rattle.uds_find.specs.Mention.{mention_of}
 use Rattle.uds_find.specs.declared.mention.Mention.{Mention}
 use Rattle.uds_find.specs.declared.mention.Mention.TheVariants.{Asks, Answers}
-use Rattle.uds_find.specs.declared.pair.Pair.{Pair}
+use Rattle.uds_find.specs.declared.pair.IdPair.{IdPair}
 
 -- what a frame says that speaks of the service and has an asker
 asks_for : (service : ℕ) (said : Option Mention) (id asker : Id) → is_about service said ≡ true → asker_of_mention said id ≡ Some asker
@@ -65,7 +65,7 @@ waits_is_last service past asker waits =
     elim (asked_last service None past asker waits) [ inl last ↦ last | inr none ↦ absurd (cc (none.0)) ]
 
 -- the asker and the identifier of the answer
-pair_of : (asker : Option Id) (unit : Id) (pair : Pair) → credited_to asker unit ≡ Some pair
+pair_of : (asker : Option Id) (unit : Id) (pair : IdPair) → credited_to asker unit ≡ Some pair
     → (asker ≡ Some pair.tester) × (pair.unit ≡ unit) × (is_same pair.tester pair.unit ≡ false)
 pair_of None unit pair credited = absurd (cc credited)
 pair_of (Some tester) unit pair credited = by_same (is_same tester unit) refl
@@ -74,9 +74,9 @@ pair_of (Some tester) unit pair credited = by_same (is_same tester unit) refl
     by_same true same = absurd cc
     by_same false apart =
         let is : record { tester = tester; unit = unit } ≡ pair = cc in
-        (ap (λ (p : Pair). Some p.tester) is, sym (ap (λ (p : Pair). p.unit) is), subst (λ (p : Pair). is_same p.tester p.unit ≡ false) is apart)
+        (ap (λ (p : IdPair). Some p.tester) is, sym (ap (λ (p : IdPair). p.unit) is), subst (λ (p : IdPair). is_same p.tester p.unit ≡ false) is apart)
 
-credited_by : (past : List FrameValue) (said : Option Mention) (unit : Id) (pair : Pair) → credit_of_mention past said unit ≡ Some pair
+credited_by : (past : List FrameValue) (said : Option Mention) (unit : Id) (pair : IdPair) → credit_of_mention past said unit ≡ Some pair
     → (service : ℕ) × (said ≡ Some (Answers service)) × (pair.unit ≡ unit) × AsksLast past service pair.tester × (is_same pair.tester pair.unit ≡ false)
 credited_by past None unit pair credited = absurd (cc credited)
 credited_by past (Some (Asks service)) unit pair credited = absurd (cc credited)

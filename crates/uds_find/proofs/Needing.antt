@@ -8,7 +8,7 @@ use Rattle.can_log.specs.Frame.{FrameValue}
 use Rattle.uds_find.specs.Credit.{credits, credit_count, is_same_pair, HasCredit}
 use Rattle.uds_find.specs.Finding.{IsTally, counted}
 use Rattle.uds_find.specs.Laws.{FirstCreditIsCredit}
-use Rattle.uds_find.specs.declared.pair.Pair.{Pair}
+use Rattle.uds_find.specs.declared.pair.IdPair.{IdPair}
 use Rattle.uds_find.proofs.Counting.{credits-more}
 use Rattle.uds_find.proofs.Orders.{pair-itself}
 
@@ -22,7 +22,7 @@ some-counted : (n count : ℕ) → Some n ≡ counted count → 0 < count
 some-counted n zero some = absurd (cc some)
 some-counted n (suc count) some = omega arith
 
-pub tallied-credit : (frames : List FrameValue) (table : List (Pair × ℕ)) → IsTally frames table → 0 < length table → HasCredit frames
+pub tallied-credit : (frames : List FrameValue) (table : List (IdPair × ℕ)) → IsTally frames table → 0 < length table → HasCredit frames
 unfolding credit_count
 tallied-credit frames [] tally some = absurd (omega (arith, some))
 tallied-credit frames (entry ∷ rest) tally some =

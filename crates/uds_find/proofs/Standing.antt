@@ -10,7 +10,7 @@ use Rattle.uds_find.specs.Credit.{credit, credit_of_mention, credit_count, credi
 use Rattle.uds_find.specs.Finding.{FinderValue, IsTally, StandsAfter, TellsWaiting}
 use Rattle.uds_find.specs.Mention.{mention_of}
 use Rattle.uds_find.specs.declared.mention.Mention.TheVariants.{Asks, Answers}
-use Rattle.uds_find.specs.declared.pair.Pair.{Pair}
+use Rattle.uds_find.specs.declared.pair.IdPair.{IdPair}
 use Rattle.uds_find.proofs.Orders.{key_order, keys-once}
 use Rattle.uds_find.proofs.Waiting.{tells-silent, tells-spoken}
 use Rattle.uds_find.proofs.Counting.{tally-silent}
@@ -22,7 +22,7 @@ unfolding waits_for
 nobody-waits = record { places = length-replicate {A = Option Id} 256 None; each = λ service below. get_or-replicate 256 service None None below }
 
 -- and no pair has a credit
-pub nothing-tallied : (pairs : BTreeMap Pair ℕ) → pairs.entries ≡ [] → IsOrdered key_order pairs → IsTally [] pairs.entries
+pub nothing-tallied : (pairs : BTreeMap IdPair ℕ) → pairs.entries ≡ [] → IsOrdered key_order pairs → IsTally [] pairs.entries
 unfolding credit_count credits_after
 nothing-tallied pairs empty ordered = record {
   once = keys-once pairs.entries ordered;
@@ -45,7 +45,7 @@ tells-asked frames frame waiting service asker said is below tells =
     (tells-spoken frames frame waiting service (λ other. ap (is_about other) said) tells below)
 
 -- it is credited to nobody
-pub tally-asked : (frames : List FrameValue) (frame : FrameValue) (table : List (Pair × ℕ)) (service : ℕ) → mention_of frame ≡ Some (Asks service)
+pub tally-asked : (frames : List FrameValue) (frame : FrameValue) (table : List (IdPair × ℕ)) (service : ℕ) → mention_of frame ≡ Some (Asks service)
     → IsTally frames table → IsTally (frames ++ frame ∷ []) table
 tally-asked frames frame table service said tally = tally-silent frames frame table (ap (λ m. credit_of_mention frames m frame.id) said) tally
 

@@ -7,7 +7,7 @@ use Rattle.can_log.specs.declared.frame.Id.TheVariants as id
 use Rattle.uds_find.specs.Mention.{mention_of}
 use Rattle.uds_find.specs.declared.mention.Mention.{Mention}
 use Rattle.uds_find.specs.declared.mention.Mention.TheVariants.{Asks, Answers}
-use Rattle.uds_find.specs.declared.pair.Pair.{Pair}
+use Rattle.uds_find.specs.declared.pair.IdPair.{IdPair}
 
 -- whether what is said is about this service
 abbrev pub is_about : ℕ → Option Mention → Bool
@@ -42,35 +42,35 @@ is_same (id.Std one) (id.Ext other) = false
 is_same (id.Ext one) (id.Std other) = false
 
 -- an answer of the unit is credited to who waits for it, and never to the unit itself
-abbrev pub credited_to : Option Id → Id → Option Pair
+abbrev pub credited_to : Option Id → Id → Option IdPair
 credited_to None unit = None
 credited_to (Some tester) unit = if is_same tester unit then None else Some (record { tester = tester; unit = unit })
 
 -- the pair that a frame of this identifier is credited to, where it says this after these frames
-abbrev pub credit_of_mention : List FrameValue → Option Mention → Id → Option Pair
+abbrev pub credit_of_mention : List FrameValue → Option Mention → Id → Option IdPair
 credit_of_mention past (Some (Answers service)) unit = credited_to (waits_for service past) unit
 credit_of_mention past (Some (Asks service)) unit = None
 credit_of_mention past None unit = None
 
 -- the pair that a frame is credited to after these frames
-abbrev pub credit : List FrameValue → FrameValue → Option Pair
+abbrev pub credit : List FrameValue → FrameValue → Option IdPair
 credit past frame = credit_of_mention past (mention_of frame) frame.id
 
 -- the pairs that these frames are credited to, where the frames `past` came before them
-unfoldable pub credits_after : List FrameValue → List FrameValue → List Pair
+unfoldable pub credits_after : List FrameValue → List FrameValue → List IdPair
 credits_after past [] = []
 credits_after past (frame ∷ rest) = cons_option (credit past frame) (credits_after (past ++ frame ∷ []) rest)
 
 -- the pairs that frames are credited to, one for each answer that is
-abbrev pub credits : List FrameValue → List Pair
+abbrev pub credits : List FrameValue → List IdPair
 credits frames = credits_after [] frames
 
 -- the two are one pair: of one tester and one unit
-abbrev pub is_same_pair : Pair → Pair → Bool
+abbrev pub is_same_pair : IdPair → IdPair → Bool
 is_same_pair one other = is_same one.tester other.tester && is_same one.unit other.unit
 
 -- how many answers of its unit are credited to its tester
-unfoldable pub credit_count : Pair → List FrameValue → ℕ
+unfoldable pub credit_count : IdPair → List FrameValue → ℕ
 credit_count pair frames = count_by (λ credited. is_same_pair credited pair) (credits frames)
 
 -- some answer among these frames is credited
@@ -79,4 +79,4 @@ HasCredit frames = 0 < length (credits frames)
 
 -- after these frames this one is the first that is credited to its pair
 abbrev pub IsFirstCredit : List FrameValue → FrameValue → Type 0
-IsFirstCredit past frame = (pair : Pair) × (credit past frame ≡ Some pair) × (credit_count pair past ≡ 0)
+IsFirstCredit past frame = (pair : IdPair) × (credit past frame ≡ Some pair) × (credit_count pair past ≡ 0)

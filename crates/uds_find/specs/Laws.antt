@@ -8,7 +8,7 @@ use Rattle.isotp_pdu.specs.Reading.{layout_of}
 use Rattle.uds_find.specs.Credit.{credit, is_same, speaks_of, HasCredit, IsFirstCredit}
 use Rattle.uds_find.specs.Mention.{mention_of}
 use Rattle.uds_find.specs.declared.mention.Mention.TheVariants.{Asks, Answers}
-use Rattle.uds_find.specs.declared.pair.Pair.{Pair}
+use Rattle.uds_find.specs.declared.pair.IdPair.{IdPair}
 
 -- a keep-alive asks for nothing: TesterPresent whose positive response is suppressed (ISO 14229-1:2020, 9.6)
 abbrev pub KeepAliveSaysNothing : Type 0
@@ -35,6 +35,6 @@ pub record AsksLast (past : List FrameValue) (service : ℕ) (asker : Id) : Type
 
 -- a credited frame answers a service: its unit sent it, and its tester, which is another, was the last to ask
 abbrev pub CreditIsAsked : Type 0
-CreditIsAsked = (past : List FrameValue) (frame : FrameValue) (pair : Pair) → credit past frame ≡ Some pair
+CreditIsAsked = (past : List FrameValue) (frame : FrameValue) (pair : IdPair) → credit past frame ≡ Some pair
     → (service : ℕ) × (mention_of frame ≡ Some (Answers service)) × (pair.unit ≡ frame.id) × AsksLast past service pair.tester
     × (is_same pair.tester pair.unit ≡ false)

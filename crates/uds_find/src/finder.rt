@@ -7,7 +7,7 @@ ghost use Rattle.uds_find.specs.Credit as Spec;
 ghost use Rattle.uds_find.specs.Finding.{IsTally, credit_line};
 
 use crate::mention::{Mention, mention_of};
-use crate::pair::{CreditLine, Pair};
+use crate::pair::{CreditLine, IdPair};
 use can_log::{Frame, Id};
 use std::alloc::{AllocError, Global};
 use std::collections::BTreeMap;
@@ -19,7 +19,7 @@ pub struct Finder {
     /// Of each service who waits for its answer.
     waiting: [Option<Id>; 256],
     /// The answers of each pair.
-    pairs: BTreeMap<Pair, u64>,
+    pairs: BTreeMap<IdPair, u64>,
 }
 
 impl Model for Finder {
@@ -95,7 +95,7 @@ impl Finder {
 }
 
 /// Counts one more answer of a pair.
-fn count(pairs: &mut BTreeMap<Pair, u64>, pair: Pair) -> Result<(), AllocError>
+fn count(pairs: &mut BTreeMap<IdPair, u64>, pair: IdPair) -> Result<(), AllocError>
     ensures ok { OnOk result ((frames : List FrameValue) (frame : FrameValue) → length frames < 2 ^ 62 → IsTally frames pairs.old.entries
         → Spec.credit frames frame ≡ Some pair → IsTally (frames ++ frame ∷ []) pairs.new.entries) }
     ensures err { OnErr result (IsUnchanged pairs.old pairs.new) }
@@ -107,7 +107,7 @@ fn count(pairs: &mut BTreeMap<Pair, u64>, pair: Pair) -> Result<(), AllocError>
 }
 
 /// The lines of the pairs, in the order of the table.
-fn lines_of(alloc: Global, pairs: BTreeMap<Pair, u64>) -> Result<Vec<CreditLine>, AllocError>
+fn lines_of(alloc: Global, pairs: BTreeMap<IdPair, u64>) -> Result<Vec<CreditLine>, AllocError>
     ensures lines { IfOk result (λ lines. lines.items ≡ map credit_line pairs.entries) }
     ensures needs { OnErr result (0 < length pairs.entries) }
 {
@@ -120,13 +120,13 @@ fn lines_of(alloc: Global, pairs: BTreeMap<Pair, u64>) -> Result<Vec<CreditLine>
 }
 
 /// The pair of who waits for an answer and of who gives it.
-fn credited_to(waiting: Option<Id>, unit: Id) -> Option<Pair>
+fn credited_to(waiting: Option<Id>, unit: Id) -> Option<IdPair>
     ensures { result ≡ Spec.credited_to waiting unit }
 {
     let tester = waiting?;
     if tester == unit {
         None
     } else {
-        Some(Pair { tester, unit })
+        Some(IdPair { tester, unit })
     }
 }

@@ -12,7 +12,7 @@ use std::cmp::Ordering;
 
 /// An identifier that asks, and one that answers it.
 #[derive(Clone, Copy, Debug, PartialEq, Eq, PartialOrd, Ord)]
-pub struct Pair {
+pub struct IdPair {
     pub tester: Id,
     pub unit: Id,
 }
@@ -31,7 +31,7 @@ impl CreditLine {
     ghost use Rattle.uds_find.specs.Finding.{credit_line};
 
     /// The line of a pair with so many answers.
-    pub(crate) fn new(pair: Pair, credits: u64) -> CreditLine
+    pub(crate) fn new(pair: IdPair, credits: u64) -> CreditLine
         ensures { result ≡ credit_line (pair, credits) }
     {
         CreditLine {
