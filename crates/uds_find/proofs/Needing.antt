@@ -1,9 +1,9 @@
 -- For which frames a finder needs memory: for the first credit of a pair, and for lines only where there is a credit.
-use Rattle.std.proofs.Common.{◌≡◌, ℕ, ◌<◌, List, [], ◌∷◌, ◌++◌, Some, length, length-append, zero, suc, Result, Ok, Err, sym, ◌∙◌, ap, arith}
+use Rattle.std.proofs.Common.{◌≡◌, ℕ, ◌<◌, List, [], ◌∷◌, ◌++◌, Some, length, length-append, zero, suc, sym, ◌∙◌, ap, arith}
 use Rattle.std.proofs.lemmas.List.Sums.{count_by-le-length}
 use Rattle.std.specs.List.{cons_option}
 use Rattle.std.specs.Map.{lookup}
-use Rattle.std.specs.Prelude.{if◌then◌else◌, OnErr}
+use Rattle.std.specs.Prelude.{if◌then◌else◌}
 use Rattle.can_log.specs.Frame.{FrameValue}
 use Rattle.uds_find.specs.Credit.{credits, credit_count, is_same_pair, HasCredit}
 use Rattle.uds_find.specs.Finding.{IsTally, counted}
@@ -29,8 +29,3 @@ tallied-credit frames (entry ∷ rest) tally some =
     let first = ap (λ b. if b then Some entry.1 else lookup (is_same_pair entry.0) rest) (pair-itself entry.0) in
     let has = some-counted entry.1 (credit_count entry.0 frames) (sym first ∙ tally.counts entry.0) in
     omega (arith, has, count_by-le-length (λ credited. is_same_pair credited entry.0) (credits frames))
-
--- what is known of an error
-pub when_err : {A E P : Type 0} (result : Result A E) → P → OnErr result P
-when_err (Ok value) known = tt
-when_err (Err fault) known = known

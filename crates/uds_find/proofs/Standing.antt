@@ -33,7 +33,7 @@ pub stands-silent : (frames : List FrameValue) (frame : FrameValue) (finder : Fi
     → StandsAfter frames finder → StandsAfter (frames ++ frame ∷ []) finder
 stands-silent frames frame finder none stands = record {
   waiting = tells-silent frames frame finder.waiting none stands.waiting;
-  tally = tally-silent frames frame finder.table (ap (λ said. credit_of_mention frames said frame.id) none) stands.tally;
+  tally = tally-silent frames frame finder.credits (ap (λ said. credit_of_mention frames said frame.id) none) stands.tally;
 }
 
 -- a frame that asks for a service: its identifier waits

@@ -27,15 +27,15 @@ pub record TellsWaiting (frames : List FrameValue) (waiting : List (Option Id)) 
   pub places : length waiting ≡ 256
   pub each : (service : ℕ) → service < 256 → slice_index_or waiting service None ≡ waits_for service frames
 
--- what a finder is seen as: of each service who waits for its answer, and the number of answers of each pair
+-- what a finder is seen as: of each service who waits for its answer, and the number of credits of each pair
 pub record FinderValue : Type 0 where
   pub waiting : List (Option Id)
-  pub table : List (IdPair × ℕ)
+  pub credits : List (IdPair × ℕ)
 
 -- A finder stands after these frames.
 pub record StandsAfter (frames : List FrameValue) (finder : FinderValue) : Type 0 where
   pub waiting : TellsWaiting frames finder.waiting
-  pub tally : IsTally frames finder.table
+  pub tally : IsTally frames finder.credits
 
 -- the line of a pair and of the number of its credits
 abbrev pub credit_line : IdPair × ℕ → CreditLine
