@@ -73,7 +73,13 @@ fn say_message<S: TextSink>(
         if message.len() <= SINGLE_LIMIT {
             say_frame(out, config, progress, dir, &single_frame(message));
         } else {
-            say_frames(out, config, progress, dir, CanonicalFrames::new(dir, message));
+            say_frames(
+                out,
+                config,
+                progress,
+                dir,
+                CanonicalFrames::new(dir, message),
+            );
         }
     }
 }
