@@ -1,5 +1,5 @@
-//! What `{:?}` shows of a pairing, an orderer, held messages and a meaning: the text that it was before they kept their messages
-//! in blocks, as if each had its bytes in fields of its own.
+//! What `{:?}` shows of a pairing, an orderer, held messages and a meaning: the fields that they had before their messages lay in
+//! blocks, since callers may have these texts in their logs.
 
 use crate::held::HeldMessages;
 use crate::item::Item;
