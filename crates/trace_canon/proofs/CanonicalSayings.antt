@@ -6,7 +6,7 @@ use Rattle.isotp_receive.specs.declared.TheConstants.{MESSAGE_LIMIT}
 use Rattle.isotp_segment.specs.CanonicalFrames.{canonical_frames}
 use Rattle.isotp_segment.specs.Timed.{all_frames}
 use Rattle.uds_exchange.specs.Orderer.{StopsHeld, StopsDue}
-use Rattle.uds_exchange.specs.Sink.{AfterOk, Fails, Puts}
+use Rattle.uds_exchange.specs.MessageSink.{AfterOk, Fails, Puts}
 use Rattle.uds_exchange.specs.declared.order_fault.OrderFault.{OrderFault}
 use Rattle.uds_exchange.specs.declared.order_fault.OrderFault.TheVariants as order_fault
 use Rattle.trace_canon.specs.proving.Writing.{text_from, progress_after}

@@ -98,7 +98,7 @@ judged_said T e seen judged is completes begun tester unit notation kept first s
     let event = seen_event seen.event in
     let here = here_at seen.line seen.micros in
     let side : seen.dir ≡ judged.dir = sym at.dir ∙ completes.dir in
-    line_said T e seen.line seen.micros judged.dir event at.line at.micros completes.dir at.did begun tester unit notation kept judged.bytes.now judged.item judged.step first same
+    line_said T e seen.line seen.micros judged.dir event at.line at.micros completes.dir at.did begun tester unit notation kept judged.bytes.now judged.item_number judged.step first same
     (ap (λ (x : EventValue). x.verdict) at.did ∙ completes.did) completes.item completes.step
     (first_at ∙ ap (λ d. began_at d event here (begun_of begun d)) side)
 

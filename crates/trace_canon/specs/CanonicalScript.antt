@@ -6,7 +6,7 @@ use Rattle.isotp_receive.specs.Trace.{Entry}
 use Rattle.isotp_receive.specs.Verdict.{messages}
 use Rattle.isotp_segment.specs.Timed.{all_frames}
 use Rattle.uds_exchange.specs.Order.{early, held}
-use Rattle.uds_exchange.specs.Orderer.{JudgedOrdererValue, orders_after}
+use Rattle.uds_exchange.specs.Orderer.{JudgedOrdererValue, judged_orderer_after}
 use Rattle.trace_log.specs.Settings.{Settings}
 use Rattle.trace_run.specs.Told.{Script, Answering, AnswersTold, tells_no_refusal, told, TellsEagerly}
 use Rattle.trace_log.specs.Answers.{Answers}
@@ -35,7 +35,7 @@ canonical_script settings = record {
 
 -- The orderer stands after the messages of the trace, and the text after those that are early.
 pub record StandsCanonical (settings : Settings) (T : List Entry) (orderer : JudgedOrdererValue) (config : Settings) (progress : Progress) : Type 0 where
-  pub ordered : orderer ≡ orders_after (messages MESSAGE_LIMIT T)
+  pub ordered : orderer ≡ judged_orderer_after (messages MESSAGE_LIMIT T)
   pub same : config ≡ settings
   pub at : progress ≡ place_behind settings (early (messages MESSAGE_LIMIT T))
 

@@ -44,7 +44,7 @@ pub record PlacedMessage : Type 0 where
 
 -- a message that was judged, from its first frame to its last one
 abbrev pub judged_at : Judged → FramePlace → FramePlace → PlacedMessage
-judged_at judged start end = record { number = judged.item; step = judged.step; sent = sent judged; start = start; end = end }
+judged_at judged start end = record { number = judged.item_number; step = judged.step; sent = sent judged; start = start; end = end }
 
 -- its line in words
 abbrev pub placed_line : PlacedMessage → List ℕ

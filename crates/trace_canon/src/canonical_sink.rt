@@ -9,7 +9,7 @@ ghost use Rattle.isotp_segment.specs.CanonicalFrames.{IsFullNext, canonical_fram
 ghost use Rattle.isotp_segment.specs.Timed.{all_frames};
 ghost use Rattle.uds_exchange.specs.Judging.{IsJudgedAfter, sent};
 ghost use Rattle.uds_exchange.specs.Order.{held as held_after};
-ghost use Rattle.uds_exchange.specs.Orderer.{IsHeld, orders_after};
+ghost use Rattle.uds_exchange.specs.Orderer.{IsHeld, judged_orderer_after};
 ghost use Rattle.trace_log.specs.Settings.{id_of};
 ghost use Rattle.trace_canon.specs.proving.Saying.{SaysDue, SaysFront};
 ghost use Rattle.trace_canon.specs.proving.Writing.{filled_up, text_from, progress_after};
@@ -21,7 +21,7 @@ use can_log::{
     extended_name, line_end, line_length,
 };
 use direction::Dir;
-use isotp_segment::{SINGLE_LIMIT, Segments, single_frame};
+use isotp_segment::{CanonicalFrames, SINGLE_LIMIT, single_frame};
 use std::alloc::AllocError;
 use trace_io::TextSink;
 use trace_log::Config;
@@ -73,7 +73,13 @@ fn say_canonical<S: TextSink>(
         if message.len() <= SINGLE_LIMIT {
             say_frame(out, config, progress, dir, &single_frame(message));
         } else {
-            say_frames(out, config, progress, dir, Segments::new(dir, message));
+            say_frames(
+                out,
+                config,
+                progress,
+                dir,
+                CanonicalFrames::new(dir, message),
+            );
         }
     }
 }
@@ -85,7 +91,7 @@ fn say_frames<S: TextSink>(
     config: &Config,
     progress: &mut Progress,
     dir: Dir,
-    frames: Segments<'_>,
+    frames: CanonicalFrames<'_>,
 )
     ensures says { S.says out.old (text_from config.now progress.old frames.entry) out.new }
     ensures progress { progress.new ≡ progress_after config.now progress.old frames.entry }
@@ -145,8 +151,8 @@ fn say_full_frames<'a, S: TextSink>(
     config: &Config,
     progress: &mut Progress,
     sender: Dir,
-    frames: Segments<'a>,
-) -> Segments<'a>
+    frames: CanonicalFrames<'a>,
+) -> CanonicalFrames<'a>
     ensures says { SaysFront S.says config.now progress.old out.old frames.entry progress.new out.new result }
     ensures fewer { length result ≤ length frames.entry }
     ensures misses_none { IsFullNext sender result → progress.new.room ≡ 0 }
@@ -188,8 +194,8 @@ fn say_stretch<'a, S: TextSink, const NAME: usize>(
     progress: &mut Progress,
     sender: Dir,
     name: [u8; NAME],
-    frames: Segments<'a>,
-) -> Segments<'a>
+    frames: CanonicalFrames<'a>,
+) -> CanonicalFrames<'a>
     requires name { name ≡ canonical_name (id_of config.now sender) }
     requires short { NAME ≤ EXTENDED_NAME }
     ensures says { SaysFront S.says config.now progress.old out.old frames.entry progress.new out.new result }
@@ -215,11 +221,11 @@ pub(crate) fn say_due<S: TextSink>(
     out: &mut S,
     message: Judged<'_>,
 ) -> Result<(), AllocError>
-    ensures stands { OnOk result ((M : List Message) → orderer.old ≡ orders_after M → IsJudgedAfter M message.entry
-        → orderer.new ≡ orders_after (M ++ sent message.entry ∷ [])) }
-    ensures says { OnOk result ((M : List Message) → orderer.old ≡ orders_after M → IsJudgedAfter M message.entry
+    ensures stands { OnOk result ((M : List Message) → orderer.old ≡ judged_orderer_after M → IsJudgedAfter M message.entry
+        → orderer.new ≡ judged_orderer_after (M ++ sent message.entry ∷ [])) }
+    ensures says { OnOk result ((M : List Message) → orderer.old ≡ judged_orderer_after M → IsJudgedAfter M message.entry
         → SaysDue S.says config.now M (sent message.entry) progress.old out.old progress.new out.new) }
-    ensures held { OnErr result ((M : List Message) → orderer.old ≡ orders_after M → IsJudgedAfter M message.entry
+    ensures held { OnErr result ((M : List Message) → orderer.old ≡ judged_orderer_after M → IsJudgedAfter M message.entry
         → IsHeld M (sent message.entry)) }
     ensures refused { OnErr result ((progress.new ≡ progress.old) × S.says out.old [] out.new) }
 {
@@ -242,9 +248,9 @@ pub(crate) fn say_held<S: TextSink>(
     progress: &mut Progress,
     out: &mut S,
 )
-    ensures progress { (M : List Message) → orderer ≡ orders_after M
+    ensures progress { (M : List Message) → orderer ≡ judged_orderer_after M
         → progress.new ≡ progress_after config.now progress.old (all_frames MESSAGE_LIMIT (held_after M)) }
-    ensures says { (M : List Message) → orderer ≡ orders_after M
+    ensures says { (M : List Message) → orderer ≡ judged_orderer_after M
         → S.says out.old (text_from config.now progress.old (all_frames MESSAGE_LIMIT (held_after M))) out.new }
 {
     let mut sink = CanonicalSink {

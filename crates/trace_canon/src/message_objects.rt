@@ -23,7 +23,7 @@ pub(crate) fn say_message_object<S: TextSink>(
         (
             (
                 "{\"item\":",
-                Number(message.item),
+                Number(message.item_number),
                 ",\"role\":\"",
                 Role(message.step),
                 "\",\"direction\":\"",

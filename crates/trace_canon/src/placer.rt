@@ -131,7 +131,7 @@ fn say_message_line<S: TextSink>(
     say(
         out,
         (
-            Number(message.item),
+            Number(message.item_number),
             " ",
             Role(message.step),
             " ",

@@ -4,7 +4,7 @@ ghost use Rattle.direction.specs.Dir.{Message};
 ghost use Rattle.isotp_receive.specs.declared.TheConstants.{MESSAGE_LIMIT};
 ghost use Rattle.uds_exchange.specs.Judging.{IsJudgedAfter, sent};
 ghost use Rattle.uds_exchange.specs.Decided.{undecided};
-ghost use Rattle.uds_exchange.specs.Decider.{decides_after, IsKept};
+ghost use Rattle.uds_exchange.specs.Decider.{decider_after, IsKept};
 ghost use Rattle.trace_canon.specs.MemoryNeeded.{CompletesKept};
 ghost use Rattle.trace_run.specs.Told.{RanLenient, answers_counts, command, tells_no_refusal};
 ghost use Rattle.trace_canon.specs.WatchScript.{watching_script, WritesTheList};
@@ -150,11 +150,11 @@ fn say_decided<S: TextSink>(
     out: &mut S,
     message: Judged<'_>,
 ) -> Result<(), AllocError>
-    ensures stands { OnOk result ((M : List Message) → decider.old ≡ decides_after M → IsJudgedAfter M message.entry
-        → decider.new ≡ decides_after (M ++ sent message.entry ∷ [])) }
-    ensures says { OnOk result ((M : List Message) → decider.old ≡ decides_after M → IsJudgedAfter M message.entry
+    ensures stands { OnOk result ((M : List Message) → decider.old ≡ decider_after M → IsJudgedAfter M message.entry
+        → decider.new ≡ decider_after (M ++ sent message.entry ∷ [])) }
+    ensures says { OnOk result ((M : List Message) → decider.old ≡ decider_after M → IsJudgedAfter M message.entry
         → SaysDecided S.says style M (sent message.entry) number.old out.old number.new out.new) }
-    ensures kept { OnErr result ((M : List Message) → decider.old ≡ decides_after M → IsJudgedAfter M message.entry
+    ensures kept { OnErr result ((M : List Message) → decider.old ≡ decider_after M → IsJudgedAfter M message.entry
         → IsKept M (sent message.entry)) }
     ensures quiet { OnErr result (S.says out.old [] out.new) }
 {
@@ -164,7 +164,7 @@ fn say_decided<S: TextSink>(
 
 /// Says the lines of the items that are not decided.
 fn say_undecided<S: TextSink>(decider: Decider, style: ItemStyle, number: &mut u64, out: &mut S)
-    ensures { (M : List Message) → decider ≡ decides_after M
+    ensures { (M : List Message) → decider ≡ decider_after M
         → SaysLines S.says style (undecided M) number.old out.old number.new out.new }
 {
     let mut sink = LineSink { out, number, style };

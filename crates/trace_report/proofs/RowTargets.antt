@@ -16,7 +16,8 @@ use Rattle.trace_canon.proofs.Promises.{messages_next}
 use Rattle.trace_canon.specs.MessageLines.{place_of}
 use Rattle.uds_exchange.proofs.Promises.{held_are_fewer, items_grow}
 use Rattle.uds_exchange.specs.Meaning.{is_tester_request, meaning}
-use Rattle.uds_exchange.specs.Judging.{items_with, number_after, number_by, open_number, step_after}
+use Rattle.uds_exchange.specs.Judging.{number_after, number_by, open_number, step_after}
+use Rattle.uds_exchange.specs.proving.ItemNumbers.{item_count_after_step}
 use Rattle.uds_exchange.specs.OneMessage.{step_of}
 use Rattle.uds_exchange.specs.Order.{open_request}
 use Rattle.uds_exchange.specs.declared.step.Step.{Step}
@@ -270,7 +271,7 @@ module _ (T : List Entry) (e : Entry) where
       elim (cases_Bool (is_keep_alive bytes)) [ inl e ↦ rw (is, e) tt | inr e ↦ rw (is, e) among ]
 
   placed-step : (lines sides : ℕ) (rows : List RowValue) (bytes : List ℕ) (step : Step) → step_after M (e.dir, bytes) ≡ step → ArePlaced count lines sides rows
-      → ArePlaced (items_with step count) lines sides ((rows ++ rows_before M step) ++ sent bytes step ∷ [])
+      → ArePlaced (item_count_after_step step count) lines sides ((rows ++ rows_before M step) ++ sent bytes step ∷ [])
   placed-step lines sides rows bytes (becomes.Request service) is are =
       placed-begin lines sides (rows ++ closing_rows M) bytes (becomes.Request service) (waiting-placed M lines sides rows are) (ap (λ step. number_by step M) is) refl (λ places among. tt)
   placed-step lines sides rows bytes becomes.Answer is are =
@@ -298,7 +299,7 @@ module _ (T : List Entry) (e : Entry) where
   placed-message lines sides rows bytes are =
       let step = step_after M (e.dir, bytes) in
       subst (λ n. ArePlaced n lines sides (rows ++ (rows_before M step ++ sent bytes step ∷ []))) (sym (items_grow M (e.dir, bytes)))
-      (subst (ArePlaced (items_with step count) lines sides) (append_assoc rows (rows_before M step) (sent bytes step ∷ [])) (placed-step lines sides rows bytes step refl are))
+      (subst (ArePlaced (item_count_after_step step count) lines sides) (append_assoc rows (rows_before M step) (sent bytes step ∷ [])) (placed-step lines sides rows bytes step refl are))
 
   -- what it does, behind what it ended
   placed-named : (rows : List RowValue) (did : VerdictValue) → ArePlaced count (e.line + 1) 0 rows → IsAmong (of_line e.line) (targets_in rows)

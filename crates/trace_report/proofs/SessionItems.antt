@@ -18,8 +18,8 @@ use Rattle.uds_exchange.specs.OneMessage.{step_of}
 use Rattle.uds_exchange.specs.Order.{open_request}
 use Rattle.uds_exchange.specs.declared.step.Step.{Step}
 use Rattle.uds_exchange.specs.declared.step.Step.TheVariants as becomes
-use Rattle.uds_exchange.specs.WaitingExchange.{waiting_sid}
-use Rattle.uds_exchange.specs.proving.Pairing.{join}
+use Rattle.uds_exchange.specs.OpenExchange.{open_sid_in}
+use Rattle.uds_exchange.specs.proving.Pairing.{items_with}
 use Rattle.trace_report.specs.Events.{asked_in, closing_rows, end_rows, ended_rows, is_there, message_place, role_of_step, rows_before, rows_of, standing_row, verdict_rows, waiting_row}
 use Rattle.trace_report.specs.Laws.{ItemsAreTheMeaning}
 use Rattle.trace_report.specs.Page.{all_rows}
@@ -83,8 +83,8 @@ module _ (T : List Entry) (e : Entry) where
       → values_of (ks ++ kind_of_step (step_after M (e.dir, bytes)) (e.dir, bytes) ∷ []) ≡ meaning (M ++ (e.dir, bytes) ∷ [])
   with-message ks bytes so =
       let x : Message = (e.dir, bytes) in
-      ap (λ step. values_of (ks ++ kind_of_step step x ∷ [])) (sym (step_by_items M x) ∙ ap (λ items. step_of (waiting_sid items) x) (sym so))
-      ∙ joined ks x ∙ ap (λ items. join items x) so ∙ sym (meaning_goes_on M x)
+      ap (λ step. values_of (ks ++ kind_of_step step x ∷ [])) (sym (step_by_items M x) ∙ ap (λ items. step_of (open_sid_in items) x) (sym so))
+      ∙ joined ks x ∙ ap (λ items. items_with items x) so ∙ sym (meaning_goes_on M x)
 
   with-message-rows : (ks : List RowKind) (bytes : List ℕ) (step : Step) → step ≡ step_after M (e.dir, bytes) → values_of ks ≡ meaning M
       → values_of (ks ++ map kind (rows_before M step ++ row.message (role_of_step (asked_in MESSAGE_LIMIT T) step e.dir bytes) e.dir (message_place MESSAGE_LIMIT T e bytes) bytes ∷ []))

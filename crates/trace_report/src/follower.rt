@@ -94,12 +94,12 @@ impl Follower {
         extent: Extent,
     ) -> (Option<Row<'a>>, Row<'a>)
         ensures places { self.new.places ≡ self.old.places }
-        ensures next { (M : List Message) → IsJudgedAfter M message.entry → message.entry.item ≡ number_after M (sent message.entry)
+        ensures next { (M : List Message) → IsJudgedAfter M message.entry → message.entry.item_number ≡ number_after M (sent message.entry)
             → IsWaiting M self.old.waits → IsSilent M self.old.silent
             → MeetsMessage M (sent message.entry) here self.old.asked self.new }
         ensures closing { (M : List Message) → IsJudgedAfter M message.entry → IsWaiting M self.old.waits → IsSilent M self.old.silent
             → row_if result.0 ≡ rows_before M (step_after M (sent message.entry)) }
-        ensures row { (M : List Message) → IsJudgedAfter M message.entry → message.entry.item ≡ number_after M (sent message.entry)
+        ensures row { (M : List Message) → IsJudgedAfter M message.entry → message.entry.item_number ≡ number_after M (sent message.entry)
             → row_of result.1 ≡ message_row (role_by self.old.asked (step_after M (sent message.entry)) message.entry.dir message.entry.bytes.now) message.entry.dir
             (record { item = number_after M (sent message.entry); first = extent.first; last = here; frames = extent.frames }) message.entry.bytes.now }
     {
@@ -108,7 +108,7 @@ impl Follower {
             role: role_of_step(self.asked, message.step, message.dir, message.bytes),
             dir: message.dir,
             place: MessagePlace {
-                item: message.item,
+                item: message.item_number,
                 first: extent.first,
                 last: here,
                 frames: extent.frames,
@@ -117,7 +117,7 @@ impl Follower {
         };
         match message.step {
             Step::Request(_) => {
-                self.waits = Some(message.item);
+                self.waits = Some(message.item_number);
                 self.asked = here.micros;
                 self.silent = is_suppressing(message.bytes);
                 (waiting, row)

@@ -8,7 +8,7 @@ ghost use Rattle.isotp_receive.specs.Events.{announced_by};
 ghost use Rattle.isotp_receive.specs.StandingReception.{receptions_after};
 ghost use Rattle.isotp_receive.specs.Trace.{Entry};
 ghost use Rattle.isotp_receive.specs.Verdict.{told_message};
-ghost use Rattle.uds_exchange.specs.Judging.{HasJudged, IsJudgeOf, IsJudgedOf};
+ghost use Rattle.uds_exchange.specs.Judging.{HasCounted, IsJudgeOf, IsJudgmentOf};
 ghost use Rattle.trace_run.specs.Seen.{IsSeen, glimpse_value};
 ghost use Rattle.trace_run.specs.proving.Carrying.{SaysToPage};
 ghost use Rattle.trace_run.specs.proving.Telling.{stops_for};
@@ -122,8 +122,8 @@ impl<M: Machine, W: Target> Telling<M, W> {
 fn judged_message<'a>(judge: &mut Judge, dir: Dir, verdict: Verdict<'a>) -> Option<Judged<'a>>
     ensures next { (messages : List Message) → length messages < 2 ^ 62 → IsJudgeOf messages judge.old
         → IsJudgeOf (messages ++ told_message dir (seen_verdict verdict.entry)) judge.new }
-    ensures judged { (messages : List Message) → length messages < 2 ^ 62 → HasJudged messages judge.old
-        → IsJudgedOf messages (told_message dir (seen_verdict verdict.entry)) result }
+    ensures judged { (messages : List Message) → length messages < 2 ^ 62 → HasCounted messages judge.old
+        → IsJudgmentOf messages (told_message dir (seen_verdict verdict.entry)) result }
 {
     match verdict {
         Verdict::Message(message) => Some(judge.take(dir, message)),

@@ -7,7 +7,8 @@ use Rattle.isotp_receive.specs.declared.TheConstants.{MESSAGE_LIMIT}
 use Rattle.isotp_receive.specs.StandingReception.{StandingReception, stands}
 use Rattle.isotp_receive.specs.Trace.{Entry, same_direction}
 use Rattle.isotp_receive.specs.Verdict.{EventValue, VerdictValue, message, began, stored, flowed, dropped, messages}
-use Rattle.uds_exchange.specs.Judging.{one_more, step_after, waiting_number}
+use Rattle.uds_exchange.specs.Judging.{one_more, step_after}
+use Rattle.uds_exchange.specs.proving.ItemNumbers.{open_number_if_any}
 use Rattle.uds_exchange.specs.Order.{open_request}
 use Rattle.uds_message.specs.Message.{is_suppressing}
 use Rattle.trace_canon.specs.declared.reception_starts.FramePlace.{FramePlace}
@@ -69,7 +70,7 @@ IsSilent M silent = IfSome (open_request M) (λ (request : List ℕ). silent ≡
 
 -- the number of the exchange that waits after these messages, if one does
 abbrev pub IsWaiting : List Message → Option ℕ → Type 0
-IsWaiting M waits = waits ≡ waiting_number M
+IsWaiting M waits = waits ≡ open_number_if_any M
 
 -- This is known after these messages: which exchange waits, when the last request was complete, and how it asked.
 pub record KnowsMessages (M : List Message) (asked : ℕ) (follower : Follower) : Type 0 where

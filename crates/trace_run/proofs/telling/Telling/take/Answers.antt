@@ -34,14 +34,14 @@ returns-in_ok-tell-in-None-clause-told g c = λ T e seen.
       ok = λ start first tells.
           let script = M.script first in
           let strict = c.is_strict.ensures first T tells.machine_stands in
-          let said = c.in_ok-tell-in-None.ensures.ok first T e (record { event = seen; message = c.judged_message-message.ensures.judged (messages MESSAGE_LIMIT T) few tells.judged.judged }) tells.machine_stands in
+          let said = c.in_ok-tell-in-None.ensures.ok first T e (record { event = seen; message = c.judged_message-message.ensures.judged (messages MESSAGE_LIMIT T) few tells.judged.counted }) tells.machine_stands in
           tells_next (M.stands first) g.W.Target script (M.needs first) start T e c.args.frame.line c.args.frame.dir (seen_event c.args.frame.event) seen.dir seen.did
           _ _ _ _ _ _ _ _ _ _ tells (c.judged_message-message.ensures.next (messages MESSAGE_LIMIT T) few tells.judged) said.0
           (not_stopped_for script.strict T e (seen_event c.args.frame.event) seen.did
           (subst (λ b. stops_for b (seen_event c.args.frame.event).verdict ≡ None) strict (sym c.stops_for.ensures ∙ c.in-None.is))) said.1;
       err = tt;
       kept = λ start first earlier tells sure.
-          let said = c.in_ok-tell-in-None.ensures.ok first T e (record { event = seen; message = c.judged_message-message.ensures.judged (messages MESSAGE_LIMIT T) few tells.judged.judged }) tells.machine_stands in
+          let said = c.in_ok-tell-in-None.ensures.ok first T e (record { event = seen; message = c.judged_message-message.ensures.judged (messages MESSAGE_LIMIT T) few tells.judged.counted }) tells.machine_stands in
           record { within = sure.within; mid = sure.mid; said = sure.said ++ (M.script first).word T e; wrote = sure.wrote; carried = said.1 sure.mid sure.said sure.carried };
     }
 
@@ -54,7 +54,7 @@ returns-in_err-tell-in-None-clause-told g c = λ T e seen.
       err = λ start first tells.
           let script = M.script first in
           let strict = c.is_strict.ensures first T tells.machine_stands in
-          let needs = c.in_err-tell-in-None.ensures.needs first T e (record { event = seen; message = c.judged_message-message.ensures.judged (messages MESSAGE_LIMIT T) few tells.judged.judged }) tells.machine_stands in
+          let needs = c.in_err-tell-in-None.ensures.needs first T e (record { event = seen; message = c.judged_message-message.ensures.judged (messages MESSAGE_LIMIT T) few tells.judged.counted }) tells.machine_stands in
           stops_at (M.stands first) g.W.Target script (M.needs first) start T e _ _ _ _ _ _ _ _ tells
           (not_stopped_for script.strict T e (seen_event c.args.frame.event) seen.did
           (subst (λ b. stops_for b (seen_event c.args.frame.event).verdict ≡ None) strict (sym c.stops_for.ensures ∙ c.in-None.is)))

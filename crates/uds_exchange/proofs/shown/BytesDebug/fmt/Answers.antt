@@ -1,10 +1,11 @@
+-- Each message that is shown lies in a block.
 use Rattle.std.proofs.Common.{sym, subst, arith}
 use Rattle.direction.specs.declared.Dir.TheVariants.{Tester}
 use Rattle.uds_exchange.specs.declared.held.HeldMessage.{HeldMessage}
 use Rattle.uds_exchange.specs.Blocks.{IsInside}
 use Rattle.uds_exchange.specs.proving.HeldMessages.{AreHeldIn}
 use Rattle.uds_exchange.proofs.HeldMessages.{held-at}
-use Rattle.uds_exchange.proofs.held.BytesDebug.fmt.Goals as goal
+use Rattle.uds_exchange.proofs.shown.BytesDebug.fmt.Goals as goal
 
 none : HeldMessage
 none = record { len = 0; block = 0; start = 0; dir = Tester }

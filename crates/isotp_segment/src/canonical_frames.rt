@@ -12,7 +12,7 @@ use std::marker::Model;
 
 /// The canonical frames of a message, one after another: who sends it, and its bytes.
 #[derive(Debug, Drop)]
-pub struct Segments<'a> {
+pub struct CanonicalFrames<'a> {
     dir: Dir,
     message: &'a [u8],
     /// How many frames there are.
@@ -22,7 +22,7 @@ pub struct Segments<'a> {
 }
 
 // A contract sees the frames that it still gives.
-impl<'a> Model for Segments<'a> {
+impl<'a> Model for CanonicalFrames<'a> {
     ghost use Rattle.std.specs.Prelude.{ℕ, List, drop};
     ghost use Rattle.direction.specs.declared.Dir.{Dir};
     ghost use Rattle.isotp_receive.specs.declared.TheConstants.{MESSAGE_LIMIT};
@@ -36,18 +36,18 @@ impl<'a> Model for Segments<'a> {
     ghost invariant = { λ s. AreGiven s.message.now s.count s.number };
 }
 
-impl<'a> Segments<'a> {
+impl<'a> CanonicalFrames<'a> {
     ghost use Rattle.std.specs.Prelude.{◌≡◌, ◌≤◌, [], ◌∷◌, List, ℕ, length, IfSome, IfNone, IsSome};
     ghost use Rattle.isotp_segment.specs.CanonicalFrames.{IsFullNext, canonical_frames};
     ghost use Rattle.isotp_receive.specs.declared.TheConstants.{MESSAGE_LIMIT};
 
     /// The frames of a message that is sent in the direction `dir`.
-    pub fn new(dir: Dir, message: &'a [u8]) -> Segments<'a>
+    pub fn new(dir: Dir, message: &'a [u8]) -> CanonicalFrames<'a>
         requires some { 1 ≤ length message.now }
         requires limit { length message.now ≤ MESSAGE_LIMIT }
         ensures frames { result ≡ canonical_frames MESSAGE_LIMIT dir message.now }
     {
-        Segments {
+        CanonicalFrames {
             dir,
             message,
             count: frame_count(message.len()) as usize,
@@ -65,6 +65,8 @@ impl<'a> Segments<'a> {
         ensures none { IfNone result (self.new ≡ self.old) }
         ensures misses_none { IsFullNext sender self.old → IsSome result }
     {
+        // Frames 0 and 1 are the first frame and the continue frame: frame 2 is consecutive frame 1. A message of one frame has no
+        // frame 2.
         if self.number < 2 || self.count <= self.number || sender != self.dir {
             return None;
         }
@@ -80,7 +82,7 @@ impl<'a> Segments<'a> {
         ensures some { IfSome result (λ frame. self.old ≡ frame ∷ self.new) }
         ensures none { IfNone result ((self.old ≡ []) × (self.new ≡ [])) }
     {
-        if self.number >= self.count {
+        if self.count <= self.number {
             return None;
         }
         let frame = canonical_frame(self.dir, self.message, self.number);
@@ -89,7 +91,7 @@ impl<'a> Segments<'a> {
     }
 }
 
-impl<'a> Iterator for Segments<'a> {
+impl<'a> Iterator for CanonicalFrames<'a> {
     type Item = (Dir, [u8; 8]);
 
     ghost use Rattle.std.specs.Prelude.{IfSome};
@@ -121,11 +123,11 @@ impl<'a> Iterator for Segments<'a> {
     }
 }
 
-impl<'a> ExactSizeIterator for Segments<'a> {
+impl<'a> ExactSizeIterator for CanonicalFrames<'a> {
     #[tactic(auto, using(crate::proofs::Frames::count_left))]
     fn len(&self) -> usize {
         self.count - self.number
     }
 }
 
-impl<'a> FusedIterator for Segments<'a> {}
+impl<'a> FusedIterator for CanonicalFrames<'a> {}
