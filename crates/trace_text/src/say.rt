@@ -3,16 +3,12 @@ ghost use Rattle.std.specs.Prelude.{◌+◌};
 ghost use Rattle.std.specs.Fmt.{decimal};
 ghost use Rattle.trace_text.specs.Counts.{counts_between};
 ghost use Rattle.can_log.specs.Digits.{hexadecimal};
-ghost use Rattle.can_log.specs.Digits as digits;
-ghost use Rattle.trace_text.specs.ExplainText.{cause_text, layout_fault_text};
-ghost use Rattle.trace_text.specs.Words.{bytes_text, code_text, direction_text, service_text};
+ghost use Rattle.trace_text.specs.Words.{direction_text};
 
-use crate::bytes::{Byte, Bytes};
-use crate::named::{Code, EndCause, LayoutFault, Sender, Service};
-use crate::numbers::{Digit, Length, Number, Place, SixDecimals, ThreeDecimals};
+use crate::bytes::Byte;
+use crate::named::Sender;
+use crate::numbers::{Number, Place};
 use direction::Dir;
-use isotp_pdu::PduFault;
-use isotp_receive::Cause;
 use text_parts::say;
 use trace_io::TextSink;
 use trace_log::Count;
@@ -58,38 +54,6 @@ pub fn say_place<S: TextSink>(out: &mut S, place: usize)
     say(out, Place(place));
 }
 
-/// Says a length in decimal.
-#[inline(always)]
-pub fn say_length<S: TextSink>(out: &mut S, length: u32)
-    ensures { S.says out.old (decimal length) out.new }
-{
-    say(out, Length(length));
-}
-
-/// Says the last six decimal digits of a number.
-#[inline(always)]
-pub fn say_six_decimals<S: TextSink>(out: &mut S, number: u64)
-    ensures { S.says out.old (digits.decimal 6 number) out.new }
-{
-    say(out, SixDecimals(number));
-}
-
-/// Says the last three decimal digits of a number.
-#[inline(always)]
-pub fn say_three_decimals<S: TextSink>(out: &mut S, number: u64)
-    ensures { S.says out.old (digits.decimal 3 number) out.new }
-{
-    say(out, ThreeDecimals(number));
-}
-
-/// Says a number below 16 as one hexadecimal digit.
-#[inline(always)]
-pub fn say_digit<S: TextSink>(out: &mut S, number: u8)
-    ensures { S.says out.old (hexadecimal 1 number) out.new }
-{
-    say(out, Digit(number));
-}
-
 /// Says the two digits of a byte.
 #[inline(always)]
 pub fn say_byte<S: TextSink>(out: &mut S, byte: u8)
@@ -98,50 +62,10 @@ pub fn say_byte<S: TextSink>(out: &mut S, byte: u8)
     say(out, Byte(byte));
 }
 
-/// Says two digits for each byte.
-#[inline(always)]
-pub fn say_bytes<S: TextSink>(out: &mut S, bytes: &[u8])
-    ensures { S.says out.old (bytes_text bytes.now) out.new }
-{
-    say(out, Bytes(bytes));
-}
-
-/// Says the name of a service, or `service_` and two digits where it has none.
-#[inline(always)]
-pub fn say_service<S: TextSink>(out: &mut S, sid: u8)
-    ensures { S.says out.old (service_text sid) out.new }
-{
-    say(out, Service(sid));
-}
-
-/// Says the name of a response code, or `code_` and two digits where it has none.
-#[inline(always)]
-pub fn say_code<S: TextSink>(out: &mut S, code: u8)
-    ensures { S.says out.old (code_text code) out.new }
-{
-    say(out, Code(code));
-}
-
 /// Says the name of a direction.
 #[inline(always)]
 pub fn say_direction<S: TextSink>(out: &mut S, dir: Dir)
     ensures { S.says out.old (direction_text dir) out.new }
 {
     say(out, Sender(dir));
-}
-
-/// Says why a reception ended.
-#[inline(always)]
-pub fn say_cause<S: TextSink>(out: &mut S, cause: Cause)
-    ensures { S.says out.old (cause_text cause) out.new }
-{
-    say(out, EndCause(cause));
-}
-
-/// Says why a frame has no layout.
-#[inline(always)]
-pub fn say_layout_fault<S: TextSink>(out: &mut S, fault: PduFault)
-    ensures { S.says out.old (layout_fault_text fault) out.new }
-{
-    say(out, LayoutFault(fault));
 }
