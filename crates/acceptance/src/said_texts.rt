@@ -13,10 +13,10 @@ use std::test::Fail;
 use text_parts::{Part, say};
 use trace_io::TextSink;
 use trace_log::Count;
-use trace_text::say::{say_byte, say_counts, say_direction, say_number, say_place, say_text};
+use trace_text::say::{say_byte, say_direction, say_number, say_place, say_text};
 use trace_text::{
     Bytes, Code, Digit, EndCause, LayoutFault, Length, Number, Place, Service, SixDecimals,
-    Spelled, ThreeDecimals, say_items,
+    Spelled, ThreeDecimals, say_counts, say_items,
 };
 
 /// Keeps what is said, up to where memory is refused.

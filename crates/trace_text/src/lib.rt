@@ -8,6 +8,7 @@
 #![tactic(auto)]
 
 mod bytes;
+mod counts;
 mod digits;
 mod item_lines;
 mod item_objects;
@@ -23,6 +24,7 @@ mod remark_objects;
 pub mod say;
 
 pub use bytes::{Byte, Bytes, Spelled};
+pub use counts::say_counts;
 pub use item_lines::{say_item, say_items, say_worded};
 pub use item_objects::say_item_object;
 pub use item_style::{ItemStyle, Numbering};

@@ -3,12 +3,12 @@ ghost use Rattle.trace_text.specs.ExplainText.{counts_text, remark_line, remark_
 ghost use Rattle.trace_log.specs.Summing.{seen_counts};
 ghost use Rattle.trace_text.specs.declared.remark.Remark.TheVariants as remark;
 
+use crate::counts::say_counts;
 use crate::named::{DropReason, EndCause, Sender};
 use crate::notation::Notation;
 use crate::numbers::{Length, Number};
 use crate::remark::Remark;
 use crate::remark_objects::say_remark_object;
-use crate::say::say_counts;
 use direction::Dir;
 use isotp_receive::{Ended, Reason};
 use text_parts::{Part, say};

@@ -3,10 +3,10 @@ ghost use Rattle.trace_text.specs.ExplainText.{remark_members};
 ghost use Rattle.trace_text.specs.Json.{object_line};
 ghost use Rattle.trace_text.specs.declared.remark.Remark.TheVariants as remark;
 
+use crate::counts::say_counts;
 use crate::named::{DropReason, EndCause, Sender};
 use crate::numbers::{Length, Number};
 use crate::remark::Remark;
-use crate::say::say_counts;
 use direction::Dir;
 use isotp_receive::{Ended, Reason};
 use text_parts::{Part, say};

@@ -1,7 +1,6 @@
 //! Each value said by itself, for callers that say one after another.
 ghost use Rattle.std.specs.Prelude.{◌+◌};
 ghost use Rattle.std.specs.Fmt.{decimal};
-ghost use Rattle.trace_text.specs.Counts.{counts_between};
 ghost use Rattle.can_log.specs.Digits.{hexadecimal};
 ghost use Rattle.trace_text.specs.Words.{direction_text};
 
@@ -11,24 +10,6 @@ use crate::numbers::{Number, Place};
 use direction::Dir;
 use text_parts::say;
 use trace_io::TextSink;
-use trace_log::Count;
-
-/// Says counts one after another: each as `before`, its name, `between`, and its number in decimal.
-pub fn say_counts<S: TextSink>(
-    out: &mut S,
-    before: &'static str,
-    between: &'static str,
-    counts: &[Count],
-)
-    ensures { S.says out.old (counts_between before.now between.now counts.now) out.new }
-{
-    'counts: for count in counts {
-        say_text(out, before);
-        say_text(out, count.0);
-        say_text(out, between);
-        say_number(out, count.1);
-    }
-}
 
 /// Says a text as it is.
 #[inline(always)]
