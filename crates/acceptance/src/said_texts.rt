@@ -13,7 +13,7 @@ use std::test::Fail;
 use text_parts::{Part, say};
 use trace_io::TextSink;
 use trace_log::Count;
-use trace_text::say::{say_byte, say_direction, say_number, say_place, say_text};
+use trace_text::values::{say_byte, say_direction, say_number, say_place, say_text};
 use trace_text::{
     Bytes, Code, Digit, EndCause, LayoutFault, Length, Number, Place, Service, SixDecimals,
     Spelled, ThreeDecimals, say_counts, say_items,

@@ -4,7 +4,7 @@ ghost use Rattle.uds_exchange.specs.ItemSeen.{item_value};
 ghost use Rattle.trace_canon.specs.ComparisonText.{shown_text};
 
 use trace_io::TextSink;
-use trace_text::say::say_text;
+use trace_text::values::say_text;
 use trace_text::{Notation, Numbering, say_item_object, say_worded};
 use uds_exchange::{Item, Meaning};
 

@@ -20,7 +20,7 @@ use crate::words::Data;
 use direction::Dir;
 use text_parts::{Part, say};
 use trace_io::TextSink;
-use trace_text::say::say_text;
+use trace_text::values::say_text;
 
 /// Says the chart of the rows around the item of this number, where the items of both sessions differ so.
 pub(crate) fn say_contrast_chart<S: TextSink>(

@@ -22,7 +22,7 @@ use text_parts::{Part, say};
 use trace_io::{Target, TextSink};
 use trace_log::{CompareFault, Fault};
 use trace_run::print;
-use trace_text::say::say_text;
+use trace_text::values::say_text;
 
 /// What a page of two logs is made for: its style, the names of the logs, and the identifiers.
 #[derive(Clone, Copy)]

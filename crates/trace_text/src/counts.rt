@@ -1,7 +1,7 @@
 //! Counts, with what stands before each and between its name and its number.
 ghost use Rattle.trace_text.specs.Counts.{counts_between};
 
-use crate::say::{say_number, say_text};
+use crate::values::{say_number, say_text};
 use trace_io::TextSink;
 use trace_log::Count;
 

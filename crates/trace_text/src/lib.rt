@@ -1,8 +1,9 @@
 //! The texts that commands share: names, numbers, the lines of items and of what became of frames, in words and as
 //! JSON.
 //!
-//! All are said to a [`TextSink`](trace_io::TextSink), by parts (`text_parts`), which here are numbers, bytes and names, or
-//! one after another ([`say`]). Which text it is, `specs` says, for JSON by the object that is meant.
+//! All are said to a [`TextSink`](trace_io::TextSink), by parts (`text_parts`), which here are numbers, bytes and names;
+//! callers that say one after another have [`values`]. Which text it is, `specs` says, for JSON by the object that is
+//! meant.
 //! [`say_items`] says the list of a meaning, [`say_remark`] a line that explains a log; [`laws`] says that equal lists
 //! have equal texts, and only they.
 #![tactic(auto)]
@@ -21,7 +22,7 @@ mod numbers;
 mod remark;
 mod remark_lines;
 mod remark_objects;
-pub mod say;
+pub mod values;
 
 pub use bytes::{Byte, Bytes, Spelled};
 pub use counts::say_counts;
