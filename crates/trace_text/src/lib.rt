@@ -1,6 +1,12 @@
 //! The texts that commands share: names, numbers, the lines of items and of what became of frames, in words and as
 //! JSON.
 //!
+//! ```text
+//! 1 exchange ReadDataByIdentifier 22F190 -> positive 62F1904142
+//! line 7: unit reception from line 3 of 20 bytes ended: late
+//! {"line":9,"event":"dropped","direction":"unit","reason":"consecutive frame unexpected"}
+//! ```
+//!
 //! All are said to a [`TextSink`](trace_io::TextSink), by parts (`text_parts`), which here are numbers, bytes and names;
 //! callers that say one after another have [`values`]. Which text it is, `specs` says, for JSON by the object that is
 //! meant.

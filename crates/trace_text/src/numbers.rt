@@ -7,7 +7,7 @@ use itoa::Buffer;
 use text_parts::{Part, say};
 use trace_io::TextSink;
 
-/// A number in decimal, whole. What says it stands apart, as what else is long to say, so that a row of parts is small.
+/// A number in decimal, whole. Not inlined, as other long parts, so that a line of many parts stays small code.
 #[derive(Clone, Copy)]
 pub struct Number(pub u64);
 
@@ -30,7 +30,8 @@ impl Part for Number {
     }
 }
 
-/// Says a number of at most four digits.
+/// Says a number of at most four digits. It is [`say_number_before`] with nothing behind, apart from it since most numbers are as
+/// short: one text is put in place of three.
 #[inline(always)]
 fn say_short_number<S: TextSink>(out: &mut S, number: u32)
     requires { number < 10000 }

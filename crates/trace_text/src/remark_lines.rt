@@ -15,7 +15,7 @@ use text_parts::{Part, say};
 use trace_io::TextSink;
 use trace_log::{Count, Summary};
 
-/// Says the line of a remark. Laid in line, since it is known where it is called what kind of remark it is.
+/// Says the line of a remark. Inlined, since it is known where it is called what kind of remark it is.
 #[inline(always)]
 pub fn say_remark<S: TextSink>(notation: Notation, told: Remark, out: &mut S)
     ensures { S.says out.old (remark_text notation told) out.new }
@@ -76,6 +76,7 @@ fn say_dropped_line<S: TextSink>(line: u64, dir: Dir, reason: Reason, out: &mut 
             ": ",
             Sender(dir),
             " frame dropped: ",
+            // One part, as `reason_line` of the definitions.
             (DropReason(reason), "\n"),
         ),
     );
