@@ -1,5 +1,15 @@
 //! The items of a meaning as objects of JSON. What is said at once goes from one value to the next, quotes included, since
 //! each piece more takes longer to say.
+//!
+//! So an object is cut amid its quotes, in `OpenObject`, which has a `Front` and an `OpenItem`, and the quote and the brace that
+//! end each object:
+//!
+//! ```text
+//! {"item":3,"kind":"exchange","service":"..","request":"22F190","outcome":"positive","answer":"62F190"}
+//! <---- Front -----><----------------------------------- OpenItem ---------------------------------->
+//!                                                             <-- OpenOutcome, here an OpenAnswer -->
+//! <------------------------------------------- OpenObject ------------------------------------------>
+//! ```
 ghost use Rattle.uds_exchange.specs.ItemSeen.{item_value};
 ghost use Rattle.trace_text.specs.Json.{object, object_line, value_text};
 ghost use Rattle.trace_text.specs.ListText.{item_object};
