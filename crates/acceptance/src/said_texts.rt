@@ -15,8 +15,8 @@ use trace_io::TextSink;
 use trace_log::Count;
 use trace_text::values::{say_byte, say_direction, say_number, say_place, say_text};
 use trace_text::{
-    Bytes, Code, Digit, EndCause, LayoutFault, Length, Number, Place, Service, SixDecimals,
-    Spelled, ThreeDecimals, say_counts, say_items,
+    Bytes, EndCause, HexadecimalDigit, LayoutFault, Length, Number, Place, ResponseCode, Service,
+    SixDecimals, ThreeDecimals, Verbatim, say_counts, say_items,
 };
 
 /// Keeps what is said, up to where memory is refused.
@@ -99,9 +99,9 @@ fn each_part_is_said(rt: HostRuntime) -> Result<(), Fail> {
     assert_part(&rt, alloc, "line ", "line ")?;
     assert_part(&rt, alloc, Place(0), "1")?;
     assert_part(&rt, alloc, Place(usize::MAX), "18446744073709551616")?;
-    assert_part(&rt, alloc, Digit(11), "B")?;
+    assert_part(&rt, alloc, HexadecimalDigit(11), "B")?;
     assert_part(&rt, alloc, SixDecimals(1_700_000_000_012_300), "012300")?;
-    assert_part(&rt, alloc, Spelled(b"7E0"), "7E0")?;
+    assert_part(&rt, alloc, Verbatim(b"7E0"), "7E0")?;
     assert_part(&rt, alloc, Bytes(&[]), "")?;
     assert_part(&rt, alloc, Bytes(&[0x22, 0xF1, 0x90]), "22F190")?;
     assert_part(
@@ -112,8 +112,8 @@ fn each_part_is_said(rt: HostRuntime) -> Result<(), Fail> {
     )?;
     assert_part(&rt, alloc, Service(0x22), "ReadDataByIdentifier")?;
     assert_part(&rt, alloc, Service(0x02), "service_02")?;
-    assert_part(&rt, alloc, Code(0x31), "requestOutOfRange")?;
-    assert_part(&rt, alloc, Code(0x02), "code_02")
+    assert_part(&rt, alloc, ResponseCode(0x31), "requestOutOfRange")?;
+    assert_part(&rt, alloc, ResponseCode(0x02), "code_02")
 }
 
 #[test]
@@ -143,13 +143,19 @@ fn each_name_and_number_is_said(rt: HostRuntime) -> Result<(), Fail> {
             ", ",
             ThreeDecimals(12_045),
             ", ",
-            Digit(15),
+            HexadecimalDigit(15),
         ),
     );
     say_byte(&mut said, 0x7F);
     say(
         &mut said,
-        (Bytes(&[0x50, 0x03]), ", ", Service(0x10), ", ", Code(0x10)),
+        (
+            Bytes(&[0x50, 0x03]),
+            ", ",
+            Service(0x10),
+            ", ",
+            ResponseCode(0x10),
+        ),
     );
     assert_kept(
         &rt,

@@ -9,7 +9,7 @@ use crate::words::{Data, Milliseconds, Seconds};
 use direction::Dir;
 use text_parts::{Either, Part, say};
 use trace_io::TextSink;
-use trace_text::{Code, Number, Sender, Service};
+use trace_text::{Number, ResponseCode, Sender, Service};
 use uds_message::{response_code, sid};
 
 /// Says the row of a message, in a page whose first frame has the time `origin`.
@@ -181,7 +181,7 @@ impl<'a> Part for RoleWords<'a> {
                 out,
                 (
                     "<b>negative</b> <em>",
-                    Code(response_code(message)),
+                    ResponseCode(response_code(message)),
                     "</em> ",
                 ),
             ),

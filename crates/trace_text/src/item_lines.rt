@@ -5,7 +5,7 @@ ghost use Rattle.trace_text.specs.ListText.{item_line, list_text, worded_line};
 use crate::bytes::Bytes;
 use crate::item_objects::say_object_line;
 use crate::item_style::{ItemStyle, Numbering};
-use crate::named::{Code, Sender, Service};
+use crate::named::{ResponseCode, Sender, Service};
 use crate::notation::Notation;
 use crate::numbers::Number;
 use text_parts::{Part, say};
@@ -132,7 +132,12 @@ impl<'a> Part for Answer<'a> {
         if is_negative_response(reply) {
             say(
                 out,
-                ("negative ", Code(response_code(reply)), " ", Bytes(reply)),
+                (
+                    "negative ",
+                    ResponseCode(response_code(reply)),
+                    " ",
+                    Bytes(reply),
+                ),
             );
         } else {
             say(out, ("positive ", Bytes(reply)));

@@ -16,7 +16,7 @@ ghost use Rattle.trace_text.specs.ListText.{item_object};
 
 use crate::bytes::Bytes;
 use crate::item_style::Numbering;
-use crate::named::{Code, Sender, Service};
+use crate::named::{ResponseCode, Sender, Service};
 use crate::numbers::Number;
 use text_parts::{Part, say};
 use trace_io::TextSink;
@@ -173,7 +173,7 @@ impl<'a> Part for OpenAnswer<'a> {
                 out,
                 (
                     "\",\"outcome\":\"negative\",\"code\":\"",
-                    Code(response_code(reply)),
+                    ResponseCode(response_code(reply)),
                     "\",\"answer\":\"",
                     Bytes(reply),
                 ),

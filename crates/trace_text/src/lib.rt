@@ -30,13 +30,13 @@ mod remark_lines;
 mod remark_objects;
 pub mod values;
 
-pub use bytes::{Byte, Bytes, Spelled};
+pub use bytes::{Byte, Bytes, Verbatim};
 pub use counts::say_counts;
 pub use item_lines::{say_item, say_items, say_worded};
 pub use item_objects::say_item_object;
 pub use item_style::{ItemStyle, Numbering};
-pub use named::{Code, DropReason, EndCause, Identifier, LayoutFault, Sender, Service};
+pub use named::{DropReason, EndCause, Identifier, LayoutFault, ResponseCode, Sender, Service};
 pub use notation::Notation;
-pub use numbers::{Digit, Length, Number, Place, SixDecimals, ThreeDecimals};
+pub use numbers::{HexadecimalDigit, Length, Number, Place, SixDecimals, ThreeDecimals};
 pub use remark::Remark;
 pub use remark_lines::say_remark;

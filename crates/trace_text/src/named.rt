@@ -1,7 +1,7 @@
 //! What has a name, as parts of a text.
 use crate::digits::{numbered_code, numbered_service};
 use crate::names::{cause_name, direction_name, layout_fault_name};
-use crate::numbers::{Digit, Length};
+use crate::numbers::{HexadecimalDigit, Length};
 use can_log::{Id, identifier_text};
 use direction::Dir;
 use isotp_pdu::PduFault;
@@ -30,9 +30,9 @@ impl Part for Service {
 
 /// The name of a response code (ISO 14229-1, Annex A.1), or `code_` and two digits where it has none.
 #[derive(Clone, Copy)]
-pub struct Code(pub u8);
+pub struct ResponseCode(pub u8);
 
-impl Part for Code {
+impl Part for ResponseCode {
     ghost use Rattle.trace_text.specs.Words.{code_text};
 
     ghost text = { λ code. code_text code.0 };
@@ -121,9 +121,9 @@ impl Part for DropReason {
                 out,
                 (
                     "sequence number ",
-                    Digit(expected),
+                    HexadecimalDigit(expected),
                     " expected, ",
-                    Digit(found),
+                    HexadecimalDigit(found),
                     " found",
                 ),
             ),

@@ -143,9 +143,9 @@ impl Part for ThreeDecimals {
 
 /// A number below 16, as one hexadecimal digit.
 #[derive(Clone, Copy)]
-pub struct Digit(pub u8);
+pub struct HexadecimalDigit(pub u8);
 
-impl Part for Digit {
+impl Part for HexadecimalDigit {
     ghost use Rattle.can_log.specs.Digits.{hexadecimal};
 
     ghost text = { λ digit. hexadecimal 1 digit.0 };
