@@ -5,7 +5,7 @@ ghost use Rattle.trace_text.specs.ListText.{item_line, list_text, worded_line};
 use crate::bytes::Bytes;
 use crate::item_objects::say_object_line;
 use crate::item_style::{ItemStyle, Numbering};
-use crate::named::{ResponseCode, Sender, Service};
+use crate::name_parts::{ResponseCode, Sender, Service};
 use crate::notation::Notation;
 use crate::numbers::Number;
 use text_parts::{Part, say};

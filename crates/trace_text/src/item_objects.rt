@@ -16,7 +16,7 @@ ghost use Rattle.trace_text.specs.ListText.{item_object};
 
 use crate::bytes::Bytes;
 use crate::item_style::Numbering;
-use crate::named::{ResponseCode, Sender, Service};
+use crate::name_parts::{ResponseCode, Sender, Service};
 use crate::numbers::Number;
 use text_parts::{Part, say};
 use trace_io::TextSink;

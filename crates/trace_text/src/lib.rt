@@ -21,7 +21,7 @@ mod item_lines;
 mod item_objects;
 mod item_style;
 pub mod laws;
-mod named;
+mod name_parts;
 pub mod names;
 mod notation;
 mod numbers;
@@ -35,7 +35,9 @@ pub use counts::say_counts;
 pub use item_lines::{say_item, say_items, say_worded};
 pub use item_objects::say_item_object;
 pub use item_style::{ItemStyle, Numbering};
-pub use named::{DropReason, EndCause, Identifier, LayoutFault, ResponseCode, Sender, Service};
+pub use name_parts::{
+    DropReason, EndCause, Identifier, LayoutFault, ResponseCode, Sender, Service,
+};
 pub use notation::Notation;
 pub use numbers::{HexadecimalDigit, Length, Number, Place, SixDecimals, ThreeDecimals};
 pub use remark::Remark;

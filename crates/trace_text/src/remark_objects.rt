@@ -4,7 +4,7 @@ ghost use Rattle.trace_text.specs.Json.{object_line};
 ghost use Rattle.trace_text.specs.declared.remark.Remark.TheVariants as remark;
 
 use crate::counts::say_counts;
-use crate::named::{DropReason, EndCause, Sender};
+use crate::name_parts::{DropReason, EndCause, Sender};
 use crate::numbers::{Length, Number};
 use crate::remark::Remark;
 use direction::Dir;

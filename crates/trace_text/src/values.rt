@@ -5,7 +5,7 @@ ghost use Rattle.can_log.specs.Digits.{hexadecimal};
 ghost use Rattle.trace_text.specs.Words.{direction_text};
 
 use crate::bytes::Byte;
-use crate::named::Sender;
+use crate::name_parts::Sender;
 use crate::numbers::{Number, Place};
 use direction::Dir;
 use text_parts::say;

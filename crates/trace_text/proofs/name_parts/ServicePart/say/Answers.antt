@@ -1,6 +1,6 @@
 use Rattle.std.proofs.Common.{◌∙◌, subst, Some, None}
 use Rattle.trace_text.proofs.NumberedNames.{service_named}
-use Rattle.trace_text.proofs.named.ServicePart.say.Goals as goal
+use Rattle.trace_text.proofs.name_parts.ServicePart.say.Goals as goal
 
 pub returns-in-Some : goal.returns-in-Some
 returns-in-Some g c =

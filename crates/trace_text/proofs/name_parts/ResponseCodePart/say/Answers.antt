@@ -1,6 +1,6 @@
 use Rattle.std.proofs.Common.{◌∙◌, subst, Some, None}
 use Rattle.trace_text.proofs.NumberedNames.{code_named}
-use Rattle.trace_text.proofs.named.ResponseCodePart.say.Goals as goal
+use Rattle.trace_text.proofs.name_parts.ResponseCodePart.say.Goals as goal
 
 pub returns-in-Some : goal.returns-in-Some
 returns-in-Some g c =
