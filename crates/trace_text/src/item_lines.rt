@@ -3,7 +3,7 @@ ghost use Rattle.uds_exchange.specs.ItemSeen.{item_value};
 ghost use Rattle.trace_text.specs.ListText.{item_line, list_text, worded_line};
 
 use crate::bytes::Bytes;
-use crate::item_objects::say_object_line;
+use crate::item_objects::say_item_object_line;
 use crate::item_style::{ItemStyle, Numbering};
 use crate::name_parts::{ResponseCode, Sender, Service};
 use crate::notation::Notation;
@@ -19,23 +19,23 @@ pub fn say_items<S: TextSink>(meaning: &Meaning, style: ItemStyle, out: &mut S)
 {
     'items: for i in 0..meaning.len() {
         if let Some(item) = meaning.item(i) {
-            say_item(i as u64 + 1, style, item, out);
+            say_item_line(i as u64 + 1, style, item, out);
         }
     }
 }
 
 /// Says the line of an item, which has this number.
-pub fn say_item<S: TextSink>(number: u64, style: ItemStyle, item: Item<'_>, out: &mut S)
+pub fn say_item_line<S: TextSink>(number: u64, style: ItemStyle, item: Item<'_>, out: &mut S)
     ensures { S.says out.old (item_line style number (item_value item.entry)) out.new }
 {
     match style.notation {
-        Notation::Text => say_worded(number, style.numbering, item, out),
-        Notation::Json => say_object_line(number, style.numbering, item, out),
+        Notation::Text => say_worded_line(number, style.numbering, item, out),
+        Notation::Json => say_item_object_line(number, style.numbering, item, out),
     }
 }
 
 /// Says the line of an item in words.
-pub fn say_worded<S: TextSink>(number: u64, numbering: Numbering, item: Item<'_>, out: &mut S)
+pub fn say_worded_line<S: TextSink>(number: u64, numbering: Numbering, item: Item<'_>, out: &mut S)
     ensures { S.says out.old (worded_line numbering number (item_value item.entry)) out.new }
 {
     say(

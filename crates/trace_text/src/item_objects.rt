@@ -36,7 +36,7 @@ pub fn say_item_object<S: TextSink>(number: u64, numbering: Numbering, item: Ite
 }
 
 /// Says the line of the object.
-pub(crate) fn say_object_line<S: TextSink>(
+pub(crate) fn say_item_object_line<S: TextSink>(
     number: u64,
     numbering: Numbering,
     item: Item<'_>,

@@ -32,7 +32,7 @@ pub mod values;
 
 pub use bytes::{Byte, Bytes, Verbatim};
 pub use counts::say_counts;
-pub use item_lines::{say_item, say_items, say_worded};
+pub use item_lines::{say_item_line, say_items, say_worded_line};
 pub use item_objects::say_item_object;
 pub use item_style::{ItemStyle, Numbering};
 pub use name_parts::{

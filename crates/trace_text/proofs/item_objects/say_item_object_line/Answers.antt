@@ -1,7 +1,7 @@
 use Rattle.std.proofs.Common.{subst}
 use Rattle.uds_exchange.specs.ItemSeen.{item_value}
 use Rattle.trace_text.proofs.ItemObjects.{object_line_is}
-use Rattle.trace_text.proofs.item_objects.say_object_line.Goals as goal
+use Rattle.trace_text.proofs.item_objects.say_item_object_line.Goals as goal
 
 pub returns : goal.returns
 returns g c =
