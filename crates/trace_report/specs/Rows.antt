@@ -19,7 +19,7 @@ use Rattle.trace_report.specs.declared.row.Arrow.TheVariants as arrow
 use Rattle.trace_report.specs.declared.row.MessagePlace.{MessagePlace}
 use Rattle.trace_report.specs.declared.row.MessageRole.{MessageRole}
 use Rattle.trace_report.specs.declared.row.MessageRole.TheVariants as role
-use Rattle.trace_text.specs.ExplainText.{cause_text, reason_text}
+use Rattle.trace_text.specs.RemarkLines.{cause_text, reason_text}
 use Rattle.trace_report.specs.Targets.{identifier, of_item, of_line, of_side, side_text}
 use Rattle.trace_report.specs.Words.{brief_data, data_text, milliseconds_between, seconds_between}
 use Rattle.trace_text.specs.Words.{direction_text, service_text, code_text}

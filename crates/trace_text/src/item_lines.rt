@@ -1,6 +1,6 @@
 //! The text of a meaning, said item by item.
 ghost use Rattle.uds_exchange.specs.ItemSeen.{item_value};
-ghost use Rattle.trace_text.specs.ListText.{item_line, list_text, worded_line};
+ghost use Rattle.trace_text.specs.ItemLines.{item_line, list_text, worded_line};
 
 use crate::bytes::Bytes;
 use crate::item_objects::say_item_object_line;
@@ -52,7 +52,7 @@ struct ItemNumber {
 }
 
 impl Part for ItemNumber {
-    ghost use Rattle.trace_text.specs.ListText.{number_text};
+    ghost use Rattle.trace_text.specs.ItemLines.{number_text};
 
     ghost text = { λ number. number_text number.numbering number.number };
 
@@ -71,7 +71,7 @@ struct ItemWords<'a>(Item<'a>);
 
 impl<'a> Part for ItemWords<'a> {
     ghost use Rattle.uds_exchange.specs.ItemSeen.{item_value};
-    ghost use Rattle.trace_text.specs.ListText.{item_text};
+    ghost use Rattle.trace_text.specs.ItemLines.{item_text};
 
     ghost text = { λ words. item_text (item_value words.0) };
 
@@ -103,7 +103,7 @@ struct Outcome<'a> {
 
 impl<'a> Part for Outcome<'a> {
     ghost use Rattle.std.specs.Prelude.{option_map};
-    ghost use Rattle.trace_text.specs.ListText.{outcome_text};
+    ghost use Rattle.trace_text.specs.ItemLines.{outcome_text};
 
     ghost text = { λ outcome. outcome_text outcome.request.now (option_map (λ reply. reply.now) outcome.answer) };
 
@@ -122,7 +122,7 @@ impl<'a> Part for Outcome<'a> {
 struct Answer<'a>(&'a [u8]);
 
 impl<'a> Part for Answer<'a> {
-    ghost use Rattle.trace_text.specs.ListText.{answer_text};
+    ghost use Rattle.trace_text.specs.ItemLines.{answer_text};
 
     ghost text = { λ answer. answer_text answer.0.now };
 

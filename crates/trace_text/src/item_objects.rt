@@ -12,7 +12,7 @@
 //! ```
 ghost use Rattle.uds_exchange.specs.ItemSeen.{item_value};
 ghost use Rattle.trace_text.specs.Json.{object, object_line, value_text};
-ghost use Rattle.trace_text.specs.ListText.{item_object};
+ghost use Rattle.trace_text.specs.ItemLines.{item_object};
 
 use crate::bytes::Bytes;
 use crate::item_style::Numbering;

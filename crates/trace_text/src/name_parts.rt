@@ -79,7 +79,7 @@ impl Part for Identifier {
 pub struct EndCause(pub Cause);
 
 impl Part for EndCause {
-    ghost use Rattle.trace_text.specs.ExplainText.{cause_text};
+    ghost use Rattle.trace_text.specs.RemarkLines.{cause_text};
 
     ghost text = { λ end. cause_text end.0 };
 
@@ -93,7 +93,7 @@ impl Part for EndCause {
 pub struct LayoutFault(pub PduFault);
 
 impl Part for LayoutFault {
-    ghost use Rattle.trace_text.specs.ExplainText.{layout_fault_text};
+    ghost use Rattle.trace_text.specs.RemarkLines.{layout_fault_text};
 
     ghost text = { λ fault. layout_fault_text fault.0 };
 
@@ -107,7 +107,7 @@ impl Part for LayoutFault {
 pub struct DropReason(pub Reason);
 
 impl Part for DropReason {
-    ghost use Rattle.trace_text.specs.ExplainText.{reason_text};
+    ghost use Rattle.trace_text.specs.RemarkLines.{reason_text};
 
     ghost text = { λ why. reason_text why.0 };
 

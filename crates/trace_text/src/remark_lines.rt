@@ -1,5 +1,5 @@
 //! A line that explains a log, in words or as an object.
-ghost use Rattle.trace_text.specs.ExplainText.{counts_text, remark_line, remark_text, summary_line};
+ghost use Rattle.trace_text.specs.RemarkLines.{counts_text, remark_line, remark_text, summary_line};
 ghost use Rattle.trace_log.specs.Summing.{seen_counts};
 ghost use Rattle.trace_text.specs.declared.remark.Remark.TheVariants as remark;
 
@@ -99,7 +99,7 @@ struct Reception {
 }
 
 impl Part for Reception {
-    ghost use Rattle.trace_text.specs.ExplainText.{reception_text};
+    ghost use Rattle.trace_text.specs.RemarkLines.{reception_text};
 
     ghost text = { λ told. reception_text told.dir told.line told.len };
 

@@ -1,5 +1,5 @@
 //! What explains a log as objects of JSON.
-ghost use Rattle.trace_text.specs.ExplainText.{remark_members};
+ghost use Rattle.trace_text.specs.RemarkLines.{remark_members};
 ghost use Rattle.trace_text.specs.Json.{object_line};
 ghost use Rattle.trace_text.specs.declared.remark.Remark.TheVariants as remark;
 
@@ -67,7 +67,7 @@ fn say_dropped_object<S: TextSink>(line: u64, dir: Dir, reason: Reason, out: &mu
 struct ReasonMembers(Reason);
 
 impl Part for ReasonMembers {
-    ghost use Rattle.trace_text.specs.ExplainText.{reason_members};
+    ghost use Rattle.trace_text.specs.RemarkLines.{reason_members};
     ghost use Rattle.trace_text.specs.Json.{later_text};
 
     ghost text = { λ why. later_text (reason_members why.0) };

@@ -1,5 +1,5 @@
 use Rattle.std.proofs.Common.{sym, arith, ap, subst, take_all}
-use Rattle.trace_text.specs.ListText.{list_text}
+use Rattle.trace_text.specs.ItemLines.{list_text}
 use Rattle.trace_text.proofs.ItemLines.{more_lines, is_there}
 use Rattle.trace_text.proofs.item_lines.say_items.Goals as goal
 use Rattle.trace_text.proofs.item_lines.say_items.Goals.{in-Some, in_default}

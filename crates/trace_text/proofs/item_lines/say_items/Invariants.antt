@@ -1,5 +1,5 @@
 use Rattle.std.proofs.Common.{take}
-use Rattle.trace_text.specs.ListText.{list_text}
+use Rattle.trace_text.specs.ItemLines.{list_text}
 use Rattle.trace_text.proofs.item_lines.say_items.Given as goal
 
 abbrev pub invariant-items : goal.invariant-items
