@@ -1,3 +1,4 @@
+-- The counts up to the place of the loop are said.
 use Rattle.std.proofs.Common.{take}
 use Rattle.trace_text.specs.Counts.{counts_between}
 use Rattle.trace_text.proofs.counts.say_counts.Given as goal

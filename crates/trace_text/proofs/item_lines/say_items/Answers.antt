@@ -1,3 +1,4 @@
+-- Each item adds its line, numbered by its place.
 use Rattle.std.proofs.Common.{sym, arith, ap, subst, take_all}
 use Rattle.trace_text.specs.ItemLines.{list_text}
 use Rattle.trace_text.proofs.ItemLines.{more_lines, is_there}

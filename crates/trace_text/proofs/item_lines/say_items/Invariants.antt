@@ -1,3 +1,4 @@
+-- The lines of the items up to the number of the loop are said.
 use Rattle.std.proofs.Common.{take}
 use Rattle.trace_text.specs.ItemLines.{list_text}
 use Rattle.trace_text.proofs.item_lines.say_items.Given as goal

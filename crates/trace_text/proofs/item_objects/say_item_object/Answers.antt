@@ -1,3 +1,4 @@
+-- The open object and its end are the object of the definition.
 use Rattle.std.proofs.Common.{subst}
 use Rattle.uds_exchange.specs.ItemSeen.{item_value}
 use Rattle.trace_text.proofs.ItemObjects.{object_is}

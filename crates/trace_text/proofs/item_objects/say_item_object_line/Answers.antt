@@ -1,3 +1,4 @@
+-- The open object, its end and the end of the line are the line of the definition.
 use Rattle.std.proofs.Common.{subst}
 use Rattle.uds_exchange.specs.ItemSeen.{item_value}
 use Rattle.trace_text.proofs.ItemObjects.{object_line_is}

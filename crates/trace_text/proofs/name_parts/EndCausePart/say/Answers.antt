@@ -1,3 +1,4 @@
+-- The name that is said is the text of the cause.
 use Rattle.std.proofs.Common.{subst}
 use Rattle.trace_text.proofs.name_parts.EndCausePart.say.Goals as goal
 

@@ -1,3 +1,4 @@
+-- A response code is said by its name in the table, or else by its number.
 use Rattle.std.proofs.Common.{◌∙◌, subst, Some, None}
 use Rattle.trace_text.proofs.NumberedNames.{code_named}
 use Rattle.trace_text.proofs.name_parts.ResponseCodePart.say.Goals as goal

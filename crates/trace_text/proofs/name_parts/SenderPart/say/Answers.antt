@@ -1,3 +1,4 @@
+-- The name that is said is the text of the direction.
 use Rattle.std.proofs.Common.{subst}
 use Rattle.trace_text.proofs.name_parts.SenderPart.say.Goals as goal
 

@@ -1,3 +1,4 @@
+-- A service is said by its name in the table, or else by its number.
 use Rattle.std.proofs.Common.{◌∙◌, subst, Some, None}
 use Rattle.trace_text.proofs.NumberedNames.{service_named}
 use Rattle.trace_text.proofs.name_parts.ServicePart.say.Goals as goal

@@ -1,3 +1,4 @@
+-- A reason with numbers has them as members; every other one is a word.
 use Rattle.std.proofs.Common.{◌≡◌, refl, ap, sym, subst, inl, inr, ◌∙◌}
 use Rattle.isotp_receive.specs.declared.event.Reason.{Reason}
 use Rattle.trace_text.specs.RemarkLines.{named_reason, reason_members, reason_text}
