@@ -16,7 +16,7 @@ use trace_log::Count;
 use trace_text::values::{say_byte, say_direction, say_number, say_place, say_text};
 use trace_text::{
     Bytes, EndCause, HexadecimalDigit, LayoutFault, Length, Number, Place, ResponseCode, Service,
-    SixDecimals, ThreeDecimals, Verbatim, say_counts, say_items,
+    SixDecimals, Stamp, ThreeDecimals, Verbatim, say_counts, say_items,
 };
 
 /// Keeps what is said, up to where memory is refused.
@@ -101,6 +101,12 @@ fn each_part_is_said(rt: HostRuntime) -> Result<(), Fail> {
     assert_part(&rt, alloc, Place(usize::MAX), "18446744073709551616")?;
     assert_part(&rt, alloc, HexadecimalDigit(11), "B")?;
     assert_part(&rt, alloc, SixDecimals(1_700_000_000_012_300), "012300")?;
+    assert_part(
+        &rt,
+        alloc,
+        Stamp(1_700_000_000_012_300),
+        "1700000000.012300",
+    )?;
     assert_part(&rt, alloc, Verbatim(b"7E0"), "7E0")?;
     assert_part(&rt, alloc, Bytes(&[]), "")?;
     assert_part(&rt, alloc, Bytes(&[0x22, 0xF1, 0x90]), "22F190")?;

@@ -2,7 +2,7 @@
 -- and written there; the style shows it first.
 use Rattle.std.specs.Fmt.{decimal}
 use Rattle.std.specs.Prelude.{ℕ, ◌==◌, ◌&&◌, ◌||◌, not, nat_lt, Bool, List, [], ◌++◌, codes, Option, if◌then◌else◌}
-use Rattle.trace_canon.specs.MessageLines.{stamp_text}
+use Rattle.trace_text.specs.Words.{stamp_text}
 use Rattle.trace_report.specs.Causes.{cause_line}
 use Rattle.trace_report.specs.Counts.{counts_text}
 use Rattle.trace_report.specs.Links.{look_text}

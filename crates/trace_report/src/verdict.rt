@@ -11,10 +11,11 @@ use crate::reasons::UncleanReasons;
 use crate::refusal::RefusedHeading;
 use crate::span::{Span, first_of, last_of};
 use crate::tally::Tally;
-use crate::words::{Seconds, Stamp};
+use crate::words::Seconds;
 use text_parts::{Either, Part, say};
 use trace_io::TextSink;
 use trace_log::{Fault, Summary};
+use trace_text::Stamp;
 
 /// The verdict of a log.
 #[derive(Clone, Copy)]

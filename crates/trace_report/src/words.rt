@@ -7,7 +7,7 @@ use can_log::digits_of_bytes;
 use std::simd::prelude::*;
 use text_parts::{Either, Part, When, say};
 use trace_io::TextSink;
-use trace_text::{Byte, Number, SixDecimals, ThreeDecimals};
+use trace_text::{Byte, Number, Stamp, ThreeDecimals};
 
 /// Up to so many bytes, all of a message are shown.
 pub(crate) const MOST_SHOWN: usize = 64;
@@ -17,20 +17,6 @@ const MOST_FOLDED: usize = 512;
 
 /// So many are the first ones.
 pub(crate) const SHOWN_FIRST: usize = 32;
-
-/// A time in seconds.
-#[derive(Clone, Copy)]
-pub(crate) struct Stamp(pub u64);
-
-impl Part for Stamp {
-    ghost use Rattle.trace_canon.specs.MessageLines.{stamp_text};
-
-    ghost text = { λ stamp. stamp_text stamp.0 };
-
-    fn say<S: TextSink>(self, out: &mut S) {
-        say(out, (Number(self.0 / 1_000_000), ".", SixDecimals(self.0)));
-    }
-}
 
 /// The seconds from one time to another: a minus, where one is before another.
 #[derive(Clone, Copy)]

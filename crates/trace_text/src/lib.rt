@@ -39,6 +39,6 @@ pub use name_parts::{
     DropReason, EndCause, Identifier, LayoutFault, ResponseCode, Sender, Service,
 };
 pub use notation::Notation;
-pub use numbers::{HexadecimalDigit, Length, Number, Place, SixDecimals, ThreeDecimals};
+pub use numbers::{HexadecimalDigit, Length, Number, Place, SixDecimals, Stamp, ThreeDecimals};
 pub use remark::Remark;
 pub use remark_lines::say_remark;

@@ -1,4 +1,4 @@
-//! Numbers as parts of a text, in decimal or as a hexadecimal digit.
+//! Numbers as parts of a text, in decimal or as a hexadecimal digit, and times.
 ghost use Rattle.std.specs.Prelude.{◌<◌, ◌≤◌, ◌++◌};
 ghost use Rattle.std.specs.Fmt.{decimal};
 
@@ -138,6 +138,21 @@ impl Part for ThreeDecimals {
 
     fn say<S: TextSink>(self, out: &mut S) {
         out.put_whole(&three_decimals(self.0));
+    }
+}
+
+/// The time of a frame, which is so many microseconds: its seconds, a dot, and six digits.
+#[derive(Clone, Copy)]
+pub struct Stamp(pub u64);
+
+impl Part for Stamp {
+    ghost use Rattle.trace_text.specs.Words.{stamp_text};
+
+    ghost text = { λ stamp. stamp_text stamp.0 };
+
+    #[inline(always)]
+    fn say<S: TextSink>(self, out: &mut S) {
+        say(out, (Number(self.0 / 1_000_000), ".", SixDecimals(self.0)));
     }
 }
 
