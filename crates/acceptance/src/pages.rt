@@ -143,7 +143,7 @@ first: FramePlace { line: 5, micros: 4000 }, last: FramePlace { line: 5, micros:
 Unfinished { dir: Unit, line: 6, len: 10 }, \
 NoAnswer { number: 2, silent: false }], \
 summary: Summary { lines: 6, frames: 6, tester_frames: 2, unit_frames: 4, messages: 3, dropped: 1, ended: 1, unfinished: 1, \
-pending: 0, ends_in_line_feed: true, looks_exchanged: false }, span: Some(Span { first: 0, last: 5000 }) }";
+pending: 0, ends_in_line_feed: true, looks_exchanged: false }, times: Some(Times { first: 0, last: 5000 }) }";
 
 #[test]
 fn a_session_that_is_kept_is_printed(rt: HostRuntime) -> Result<(), Fail> {

@@ -49,10 +49,10 @@ last_next earlier [] e = refl
 last_next earlier (x ∷ T) e = last_next x.micros T e
 
 -- the times of a trace with one more frame
-pub span_next : (T : List Entry) (e : Entry) (first last : ℕ) → first ≡ first_time (T ++ e ∷ []) → last ≡ e.micros
+pub times_next : (T : List Entry) (e : Entry) (first last : ℕ) → first ≡ first_time (T ++ e ∷ []) → last ≡ e.micros
     → Some (record { first = first; last = last }) ≡ times_of (T ++ e ∷ [])
-span_next [] e first last first_is last_is = (λ i. Some (record { first = first_is i; last = last_is i }))
-span_next (x ∷ T) e first last first_is last_is = (λ i. Some (record { first = first_is i; last = (last_is ∙ sym (last_next x.micros T e)) i }))
+times_next [] e first last first_is last_is = (λ i. Some (record { first = first_is i; last = last_is i }))
+times_next (x ∷ T) e first last first_is last_is = (λ i. Some (record { first = first_is i; last = (last_is ∙ sym (last_next x.micros T e)) i }))
 
 -- Rows are few: three of a frame at the most.
 

@@ -9,8 +9,8 @@ use crate::counts::{AnswersOf, Counts, SortCounts};
 use crate::links::{Link, LookLine};
 use crate::reasons::UncleanReasons;
 use crate::refusal::RefusedHeading;
-use crate::span::{Span, first_of, last_of};
 use crate::tally::Tally;
+use crate::times::{Times, first_of, last_of};
 use crate::words::Seconds;
 use text_parts::{Either, Part, say};
 use trace_io::TextSink;
@@ -22,20 +22,20 @@ use trace_text::Stamp;
 pub(crate) struct Verdict<'a> {
     pub tally: &'a Tally,
     pub summary: &'a Summary,
-    pub span: Option<Span>,
+    pub times: Option<Times>,
 }
 
 impl<'a> Part for Verdict<'a> {
     ghost use Rattle.trace_report.specs.Verdict.{verdict_text};
-    ghost use Rattle.trace_report.specs.proving.Lending.{first_of_span, last_of_span};
+    ghost use Rattle.trace_report.specs.proving.Lending.{first_of_times, last_of_times};
 
-    ghost text = { λ verdict. verdict_text verdict.tally.now verdict.summary.now (first_of_span verdict.span) (last_of_span verdict.span) };
+    ghost text = { λ verdict. verdict_text verdict.tally.now verdict.summary.now (first_of_times verdict.times) (last_of_times verdict.times) };
 
     fn say<S: TextSink>(self, out: &mut S) {
         let Verdict {
             tally,
             summary,
-            span,
+            times,
         } = self;
         say(
             out,
@@ -46,7 +46,7 @@ impl<'a> Part for Verdict<'a> {
                 Findings {
                     tally,
                     summary,
-                    span,
+                    times,
                 },
             ),
         );
@@ -60,20 +60,20 @@ pub(crate) struct RefusedVerdict<'a> {
     pub cause: Option<Cause>,
     pub tally: &'a Tally,
     pub summary: &'a Summary,
-    pub span: Option<Span>,
+    pub times: Option<Times>,
 }
 
 impl<'a> Part for RefusedVerdict<'a> {
     ghost use Rattle.trace_report.specs.Verdict.{refused_verdict};
-    ghost use Rattle.trace_report.specs.proving.Lending.{first_of_span, last_of_span};
+    ghost use Rattle.trace_report.specs.proving.Lending.{first_of_times, last_of_times};
 
-    ghost text = { λ verdict. refused_verdict verdict.why verdict.cause verdict.tally.now verdict.summary.now (first_of_span verdict.span) (last_of_span verdict.span) };
+    ghost text = { λ verdict. refused_verdict verdict.why verdict.cause verdict.tally.now verdict.summary.now (first_of_times verdict.times) (last_of_times verdict.times) };
 
     fn say<S: TextSink>(self, out: &mut S) {
         let findings = Findings {
             tally: self.tally,
             summary: self.summary,
-            span: self.span,
+            times: self.times,
         };
         say(out, (RefusedHeading(self.why, self.cause), findings));
     }
@@ -84,27 +84,27 @@ impl<'a> Part for RefusedVerdict<'a> {
 struct Findings<'a> {
     tally: &'a Tally,
     summary: &'a Summary,
-    span: Option<Span>,
+    times: Option<Times>,
 }
 
 impl<'a> Part for Findings<'a> {
     ghost use Rattle.trace_report.specs.Verdict.{findings_text};
-    ghost use Rattle.trace_report.specs.proving.Lending.{first_of_span, last_of_span};
+    ghost use Rattle.trace_report.specs.proving.Lending.{first_of_times, last_of_times};
 
-    ghost text = { λ found. findings_text found.tally.now found.summary.now (first_of_span found.span) (last_of_span found.span) };
+    ghost text = { λ found. findings_text found.tally.now found.summary.now (first_of_times found.times) (last_of_times found.times) };
 
     fn say<S: TextSink>(self, out: &mut S) {
         let Findings {
             tally,
             summary,
-            span,
+            times,
         } = self;
         say(
             out,
             (
                 Looks(tally),
                 Counts(&tally.counts, summary),
-                SpanOf(summary.frames, first_of(span), last_of(span)),
+                SpanOf(summary.frames, first_of(times), last_of(times)),
                 "</section>\n",
             ),
         );

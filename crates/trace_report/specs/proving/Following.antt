@@ -25,7 +25,7 @@ use Rattle.trace_report.specs.declared.follower.NewRows.{NewRows}
 use Rattle.trace_report.specs.declared.frames.FrameCounts.{FrameCounts}
 use Rattle.trace_report.specs.declared.places.Places.{Places}
 use Rattle.trace_report.specs.declared.reporter.Reporter.{Reporter}
-use Rattle.trace_report.specs.declared.span.Span.{Span}
+use Rattle.trace_report.specs.declared.times.Times.{Times}
 use Rattle.trace_report.specs.declared.row.Row.{Row}
 use Rattle.trace_report.specs.proving.Pages.{row_of, title_of}
 
@@ -119,7 +119,7 @@ pub record IsChartOf (rows : List RowValue) (chart : Chart) : Type 0 where
   pub tally : chart.tally ≡ tally_of rows
 
 -- the times of the first frame and the last one, if there are frames
-abbrev pub times_of : List Entry → Option Span
+abbrev pub times_of : List Entry → Option Times
 times_of [] = None
 times_of (e ∷ rest) = Some (record { first = e.micros; last = last_time e.micros rest })
 
@@ -127,6 +127,6 @@ times_of (e ∷ rest) = Some (record { first = e.micros; last = last_time e.micr
 pub record Reports (title : PageTitle) (T : List Entry) (reporter : Reporter) : Type 0 where
   pub few : length T ≤ 2 ^ 62
   pub same : title_of reporter.title ≡ title
-  pub span : reporter.span ≡ times_of T
+  pub times : reporter.times ≡ times_of T
   pub follows : Follows T reporter.follower
   pub chart : IsChartOf (rows_of MESSAGE_LIMIT T) reporter.chart

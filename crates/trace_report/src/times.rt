@@ -2,25 +2,25 @@
 ghost use Rattle.std.specs.Prelude.{◌≡◌, List, [], ◌∷◌, ◌++◌, Some};
 ghost use Rattle.isotp_receive.specs.Trace.{Entry};
 ghost use Rattle.trace_report.specs.proving.Following.{times_of};
-ghost use Rattle.trace_report.specs.proving.Lending.{first_of_span, last_of_span};
+ghost use Rattle.trace_report.specs.proving.Lending.{first_of_times, last_of_times};
 
 /// The times of the first frame of a trace, and of its last one.
 #[derive(Clone, Copy, Debug)]
-pub(crate) struct Span {
+pub(crate) struct Times {
     pub first: u64,
     pub last: u64,
 }
 
 /// The times of the first frame and the last one, with one more frame.
-pub(crate) fn span_with(span: Option<Span>, micros: u64) -> Span
-    ensures { (T : List Entry) (e : Entry) → span ≡ times_of T → e.micros ≡ micros → Some result ≡ times_of (T ++ e ∷ []) }
+pub(crate) fn times_with(times: Option<Times>, micros: u64) -> Times
+    ensures { (T : List Entry) (e : Entry) → times ≡ times_of T → e.micros ≡ micros → Some result ≡ times_of (T ++ e ∷ []) }
 {
-    match span {
-        Some(span) => Span {
-            first: span.first,
+    match times {
+        Some(times) => Times {
+            first: times.first,
             last: micros,
         },
-        None => Span {
+        None => Times {
             first: micros,
             last: micros,
         },
@@ -28,21 +28,21 @@ pub(crate) fn span_with(span: Option<Span>, micros: u64) -> Span
 }
 
 /// The time of the first frame; 0 where there is none.
-pub(crate) fn first_of(span: Option<Span>) -> u64
-    ensures { result ≡ first_of_span span }
+pub(crate) fn first_of(times: Option<Times>) -> u64
+    ensures { result ≡ first_of_times times }
 {
-    match span {
-        Some(span) => span.first,
+    match times {
+        Some(times) => times.first,
         None => 0,
     }
 }
 
 /// The time of the last frame; 0 where there is none.
-pub(crate) fn last_of(span: Option<Span>) -> u64
-    ensures { result ≡ last_of_span span }
+pub(crate) fn last_of(times: Option<Times>) -> u64
+    ensures { result ≡ last_of_times times }
 {
-    match span {
-        Some(span) => span.last,
+    match times {
+        Some(times) => times.last,
         None => 0,
     }
 }
