@@ -8,7 +8,7 @@ use Rattle.trace_report.specs.Counts.{counts_text}
 use Rattle.trace_report.specs.Links.{look_text}
 use Rattle.trace_report.specs.Words.{seconds_between}
 use Rattle.trace_log.specs.Summing.{is_clean}
-use Rattle.trace_report.specs.declared.cause.Cause.{Cause}
+use Rattle.trace_report.specs.declared.cause.RefusalCause.{RefusalCause}
 use Rattle.trace_report.specs.declared.counts.SortCounts.{SortCounts}
 use Rattle.trace_report.specs.declared.tally.Tally.{Tally}
 use Rattle.trace_log.specs.declared.fault.Fault.{Fault}
@@ -159,7 +159,7 @@ abbrev pub stop_line : Fault → List ℕ
 stop_line why = codes "<p class=\"stop\"><b>Refused here:</b> " ++ refusal_words why ++ codes ".</p>\n"
 
 -- the heading, its sentences, and the cause, where there is one
-abbrev pub refused_heading : Fault → Option Cause → List ℕ
+abbrev pub refused_heading : Fault → Option RefusalCause → List ℕ
 refused_heading why cause =
     codes "<section id=\"verdict\" class=\"bad\">\n<h2><span aria-hidden=\"true\">&#10005;</span> The log is refused</h2>\n<p><em>"
     ++ refusal_words why
@@ -167,5 +167,5 @@ refused_heading why cause =
     ++ cause_line cause
 
 -- the verdict of a log that is refused, by what the lines before say
-abbrev pub refused_verdict : Fault → Option Cause → Tally → Summary → ℕ → ℕ → List ℕ
+abbrev pub refused_verdict : Fault → Option RefusalCause → Tally → Summary → ℕ → ℕ → List ℕ
 refused_verdict why cause tally summary first last = refused_heading why cause ++ findings_text tally summary first last

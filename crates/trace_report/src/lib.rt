@@ -74,7 +74,7 @@ mod two;
 mod verdict;
 mod words;
 
-pub use cause::{Cause, CauseOf, CauseRow, cause_of, row_of_cause};
+pub use cause::{CauseOf, CauseRow, RefusalCause, cause_of, row_of_cause};
 pub use keeper::keep_two;
 pub use looks::{Look, look_told};
 pub use pair_page::{PairTitle, write_pair_page};

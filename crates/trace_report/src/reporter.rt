@@ -11,14 +11,14 @@ ghost use Rattle.trace_report.specs.proving.Pages.{title_of};
 ghost use Rattle.trace_log.specs.Devices.{HasLowCounts};
 
 use crate::blocks::BlockEnd;
-use crate::cause::{Cause, cause_of};
+use crate::cause::{RefusalCause, cause_of};
 use crate::chart::Chart;
 use crate::follower::Follower;
 use crate::front::{Front, Title};
 use crate::help::Help;
 use crate::refusal::StopLine;
 use crate::times::Times;
-use crate::verdict::{RefusedVerdict, Verdict};
+use crate::verdict::{RefusedVerdict, VerdictSection};
 use isotp_receive::Pair;
 use std::alloc::{AllocError, Global};
 use text_parts::{Part, say};
@@ -182,7 +182,7 @@ impl<'a> Part for PageEnd<'a> {
     ghost text = { λ end. page_end end.chart.now.blocks end.chart.now.tally end.summary.now (first_of_times end.times) (last_of_times end.times) };
 
     fn say<S: TextSink>(self, out: &mut S) {
-        let verdict = Verdict {
+        let verdict = VerdictSection {
             tally: &self.chart.tally,
             summary: self.summary,
             times: self.times,
@@ -203,7 +203,7 @@ impl<'a> Part for PageEnd<'a> {
 #[derive(Clone, Copy)]
 struct RefusedEnd<'a> {
     why: Fault,
-    cause: Option<Cause>,
+    cause: Option<RefusalCause>,
     chart: &'a Chart,
     summary: &'a Summary,
     times: Option<Times>,

@@ -4,7 +4,7 @@ ghost use Rattle.std.specs.Prelude.{◌≡◌};
 ghost use Rattle.trace_report.specs.Links as Links;
 ghost use Rattle.trace_report.specs.Verdict as Spec;
 
-use crate::cause::Cause;
+use crate::cause::RefusalCause;
 use crate::counts::{AnswersOf, Counts, SortCounts};
 use crate::links::{Link, LookLine};
 use crate::reasons::UncleanReasons;
@@ -19,20 +19,20 @@ use trace_text::Stamp;
 
 /// The verdict of a log.
 #[derive(Clone, Copy)]
-pub(crate) struct Verdict<'a> {
+pub(crate) struct VerdictSection<'a> {
     pub tally: &'a Tally,
     pub summary: &'a Summary,
     pub times: Option<Times>,
 }
 
-impl<'a> Part for Verdict<'a> {
+impl<'a> Part for VerdictSection<'a> {
     ghost use Rattle.trace_report.specs.Verdict.{verdict_text};
     ghost use Rattle.trace_report.specs.proving.Lending.{first_of_times, last_of_times};
 
     ghost text = { λ verdict. verdict_text verdict.tally.now verdict.summary.now (first_of_times verdict.times) (last_of_times verdict.times) };
 
     fn say<S: TextSink>(self, out: &mut S) {
-        let Verdict {
+        let VerdictSection {
             tally,
             summary,
             times,
@@ -57,7 +57,7 @@ impl<'a> Part for Verdict<'a> {
 #[derive(Clone, Copy)]
 pub(crate) struct RefusedVerdict<'a> {
     pub why: Fault,
-    pub cause: Option<Cause>,
+    pub cause: Option<RefusalCause>,
     pub tally: &'a Tally,
     pub summary: &'a Summary,
     pub times: Option<Times>,
