@@ -7,7 +7,7 @@ use Rattle.uds_exchange.proofs.Promises.{message_stays}
 use Rattle.trace_report.specs.Rows.{RowValue, message}
 use Rattle.trace_report.specs.Sorts.{counts_in, sort_of}
 use Rattle.trace_report.specs.declared.counts.SortCounts.{SortCounts}
-use Rattle.trace_report.specs.declared.kept_rows.KeptItem.{KeptItem}
+use Rattle.trace_report.specs.declared.kept_rows.ItemPlace.{ItemPlace}
 use Rattle.trace_report.specs.declared.kept_rows.KeptRow.{KeptRow}
 use Rattle.trace_report.specs.declared.kept_rows.KeptRow.TheVariants as kept
 use Rattle.trace_report.specs.proving.Keeping.{row_at, rows_at, IsLaid, AreLaid, AreKept, ArePlaced, places_next, waiting_next}
@@ -62,7 +62,7 @@ module _ (old new : List (List ℕ)) (on : GoesOn old new) where
     rows-more =
         ap (rows_at new) all ∙ map-append (row_at new) rows (row ∷ []) ∙ (λ i. rows-stay rows laid i ++ is i ∷ [])
 
-    pub kept-more : (places places-then : List KeptItem) (waiting waiting-then : Option ℕ) (counts counts-then : SortCounts) (at : ℕ)
+    pub kept-more : (places places-then : List ItemPlace) (waiting waiting-then : Option ℕ) (counts counts-then : SortCounts) (at : ℕ)
         → ArePlaced (rows_at old rows) places (items_in (rows_at old rows)) → waiting ≡ waiting_in (rows_at old rows) → counts ≡ counts_in (rows_at old rows)
         → at ≡ length rows → length rows < 2 ^ 64 - 1
         → places-then ≡ places_next value places waiting at → waiting-then ≡ waiting_next value places waiting → counts-then ≡ counts_with (sort_of value) counts

@@ -28,7 +28,7 @@ use Rattle.trace_report.specs.Events.{asked_in, completes_request, completes_req
 use Rattle.trace_report.specs.Rows.{RowValue}
 use Rattle.trace_report.specs.Rows.{message as message_row}
 use Rattle.trace_report.specs.declared.follower.Follower.{Follower}
-use Rattle.trace_report.specs.declared.places.Extent.{Extent}
+use Rattle.trace_report.specs.declared.places.MessageExtent.{MessageExtent}
 use Rattle.trace_report.specs.proving.Following.{IsSilent, KnowsMessages, dropped_by, dropped_rows}
 use Rattle.trace_report.proofs.Steps.{asked_next}
 
@@ -146,7 +146,7 @@ pub rows_of_message : (ended closing : List RowValue) (row : RowValue) → (ende
 rows_of_message ended closing row = append_assoc ended closing (row ∷ [])
 
 -- so they are the rows of the event
-pub message_event : (T : List Entry) (e : Entry) (d : Dir) (event : EventValue) (bytes : List ℕ) (asked : ℕ) (here : FramePlace) (extent : Extent)
+pub message_event : (T : List Entry) (e : Entry) (d : Dir) (event : EventValue) (bytes : List ℕ) (asked : ℕ) (here : FramePlace) (extent : MessageExtent)
     → e.dir ≡ d → event ≡ verdict MESSAGE_LIMIT T e → event.verdict ≡ message bytes → asked ≡ asked_in MESSAGE_LIMIT T → here ≡ place_of e
     → extent.first ≡ place_of (first_frame T e) → extent.frames ≡ frames_by (stands MESSAGE_LIMIT e.dir T) (role e.dir e)
     → ended_rows e event.ended

@@ -15,7 +15,7 @@ ghost use Rattle.trace_report.specs.proving.Following.{Follows, IsSilent, IsWait
 ghost use Rattle.trace_report.specs.proving.Pages.{row_of};
 
 use crate::events::role_of_step;
-use crate::places::{Extent, Places};
+use crate::places::{MessageExtent, Places};
 use crate::row::{MessagePlace, Row};
 use direction::Dir;
 use isotp_receive::{Ended, Event, Pair, Verdict};
@@ -91,7 +91,7 @@ impl Follower {
         &mut self,
         here: FramePlace,
         message: Judged<'a>,
-        extent: Extent,
+        extent: MessageExtent,
     ) -> (Option<Row<'a>>, Row<'a>)
         ensures places { self.new.places ≡ self.old.places }
         ensures next { (M : List Message) → IsJudgedAfter M message.entry → message.entry.item ≡ number_after M (sent message.entry)

@@ -57,7 +57,7 @@ pub(crate) enum KeptRow {
 
 /// Where an item stands among the rows: the message that begins it, and its answer, if it has one.
 #[derive(Clone, Copy)]
-pub(crate) struct KeptItem {
+pub(crate) struct ItemPlace {
     pub begin: usize,
     pub answer: Option<usize>,
 }
@@ -68,7 +68,7 @@ pub(crate) struct KeptItem {
 pub(crate) struct KeptRows {
     messages: Messages,
     rows: Vec<KeptRow>,
-    items: Vec<KeptItem>,
+    items: Vec<ItemPlace>,
     /// The item, counted from 0, whose request has no answer so far, if one waits.
     waiting: Option<usize>,
     counts: SortCounts,
@@ -204,7 +204,7 @@ fn laid(messages: &mut Messages, row: Row<'_>) -> Result<KeptRow, AllocError>
 
 /// Notes what the row at this place is to items.
 #[inline(always)]
-fn note_row(items: &mut Vec<KeptItem>, waiting: &mut Option<usize>, at: usize, row: Row<'_>)
+fn note_row(items: &mut Vec<ItemPlace>, waiting: &mut Option<usize>, at: usize, row: Row<'_>)
     requires room { vec_len items.old < vec_capacity items.old }
     requires there { IfSome waiting.old (λ number. number < length items.old.items) }
     ensures items { items.new.items ≡ places_next (row_of row.entry) items.old.items waiting.old at }
@@ -220,7 +220,7 @@ fn note_row(items: &mut Vec<KeptItem>, waiting: &mut Option<usize>, at: usize, r
 /// Notes what a message of this role is to items, which the row at this place tells.
 #[inline(always)]
 fn note_message(
-    items: &mut Vec<KeptItem>,
+    items: &mut Vec<ItemPlace>,
     waiting: &mut Option<usize>,
     at: usize,
     role: MessageRole,
@@ -246,11 +246,11 @@ fn note_message(
 
 /// Notes that an item begins in the row at this place.
 #[inline(always)]
-fn begin_item(items: &mut Vec<KeptItem>, at: usize)
+fn begin_item(items: &mut Vec<ItemPlace>, at: usize)
     requires { vec_len items.old < vec_capacity items.old }
     ensures { items.new.items ≡ items.old.items ++ record { begin = at; answer = None } ∷ [] }
 {
-    items.push_reserved(KeptItem {
+    items.push_reserved(ItemPlace {
         begin: at,
         answer: None,
     });
@@ -258,7 +258,7 @@ fn begin_item(items: &mut Vec<KeptItem>, at: usize)
 
 /// Notes that the row at this place answers the request that waits, if one does.
 #[inline(always)]
-fn answer_waiting(items: &mut Vec<KeptItem>, waiting: Option<usize>, at: usize)
+fn answer_waiting(items: &mut Vec<ItemPlace>, waiting: Option<usize>, at: usize)
     requires { IfSome waiting (λ number. number < length items.old.items) }
     ensures { items.new.items ≡ places_answered items.old.items waiting at }
 {
@@ -269,7 +269,7 @@ fn answer_waiting(items: &mut Vec<KeptItem>, waiting: Option<usize>, at: usize)
 
 /// Notes where the answer of an item stands.
 #[inline(always)]
-fn answer_with(item: &mut KeptItem, at: usize)
+fn answer_with(item: &mut ItemPlace, at: usize)
     ensures { item.new ≡ Keeping.answered_at item.old at }
 {
     item.answer = Some(at);
@@ -307,7 +307,7 @@ fn row_at<'a>(messages: &'a Messages, row: KeptRow) -> Row<'a>
 
 /// The item that stands there among the rows, lent.
 #[inline(always)]
-fn item_at<'a>(messages: &'a Messages, rows: &'a [KeptRow], item: KeptItem) -> Option<LentItem<'a>>
+fn item_at<'a>(messages: &'a Messages, rows: &'a [KeptRow], item: ItemPlace) -> Option<LentItem<'a>>
     requires { AreLaid messages.now rows.now }
     ensures { option_map item_of result ≡ Keeping.placed_at (rows_at messages.now rows.now) item }
 {
