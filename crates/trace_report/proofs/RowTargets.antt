@@ -46,9 +46,9 @@ led_to sort.KeepAlives number = None
 led_to sort.Strays number = Some (of_item number)
 led_to sort.Unanswered number = Some (of_item number)
 led_to sort.Silent number = None
-led_to sort.Drops number = Some (of_line number)
-led_to sort.Ends number = Some (of_line number)
-led_to sort.Partials number = Some (of_side (side_of number))
+led_to sort.Dropped number = Some (of_line number)
+led_to sort.Ended number = Some (of_line number)
+led_to sort.Unfinished number = Some (of_side (side_of number))
 
 -- the link to this row leads to one of these places
 abbrev pub Leads : List Target → RowValue → Type 0

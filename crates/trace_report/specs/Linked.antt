@@ -53,9 +53,9 @@ LeadTo rows to numbers = AllByRecursion (λ number. IsAmong (linked_to to number
 
 -- so do all links of a verdict on these rows
 pub record HasEachTarget (rows : List RowValue) : Type 0 where
-  pub drops : LeadTo rows link.Line (first_targets rows).drops
-  pub ends : LeadTo rows link.Line (first_targets rows).ends
-  pub partials : LeadTo rows link.Side (first_targets rows).partials
+  pub dropped : LeadTo rows link.Line (first_targets rows).dropped
+  pub ended : LeadTo rows link.Line (first_targets rows).ended
+  pub unfinished : LeadTo rows link.Side (first_targets rows).unfinished
   pub negatives : LeadTo rows link.Item (first_targets rows).negatives
   pub unanswered : LeadTo rows link.Item (first_targets rows).unanswered
   pub strays : LeadTo rows link.Item (first_targets rows).strays

@@ -20,9 +20,9 @@ pub(crate) struct SortCounts {
     pub pendings: u64,
     pub keep_alives: u64,
     pub strays: u64,
-    pub drops: u64,
-    pub ends: u64,
-    pub partials: u64,
+    pub dropped: u64,
+    pub ended: u64,
+    pub unfinished: u64,
 }
 
 impl SortCounts {
@@ -39,9 +39,9 @@ impl SortCounts {
             pendings: 0,
             keep_alives: 0,
             strays: 0,
-            drops: 0,
-            ends: 0,
-            partials: 0,
+            dropped: 0,
+            ended: 0,
+            unfinished: 0,
         }
     }
 
@@ -58,9 +58,9 @@ impl SortCounts {
             Sort::Strays => self.strays = self.strays.saturating_add(1),
             Sort::Unanswered => self.unanswered = self.unanswered.saturating_add(1),
             Sort::Silent => self.silent = self.silent.saturating_add(1),
-            Sort::Drops => self.drops = self.drops.saturating_add(1),
-            Sort::Ends => self.ends = self.ends.saturating_add(1),
-            Sort::Partials => self.partials = self.partials.saturating_add(1),
+            Sort::Dropped => self.dropped = self.dropped.saturating_add(1),
+            Sort::Ended => self.ended = self.ended.saturating_add(1),
+            Sort::Unfinished => self.unfinished = self.unfinished.saturating_add(1),
         }
     }
 }
@@ -120,9 +120,9 @@ impl<'a> Part for Counts<'a> {
                     CountLine(true, "stray", counts.strays),
                 ),
                 (
-                    CountLine(true, "dropped", counts.drops),
-                    CountLine(true, "ended", counts.ends),
-                    CountLine(true, "unfinished", counts.partials),
+                    CountLine(true, "dropped", counts.dropped),
+                    CountLine(true, "ended", counts.ended),
+                    CountLine(true, "unfinished", counts.unfinished),
                 ),
                 "</dl>\n",
             ),

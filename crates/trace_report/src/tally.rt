@@ -13,9 +13,9 @@ use arrayvec::ArrayVec;
 /// Of each sort that needs a look, where links to its first rows lead.
 #[derive(Debug, Drop)]
 pub(crate) struct FirstTargets {
-    pub drops: ArrayVec<u64, 10>,
-    pub ends: ArrayVec<u64, 10>,
-    pub partials: ArrayVec<u64, 10>,
+    pub dropped: ArrayVec<u64, 10>,
+    pub ended: ArrayVec<u64, 10>,
+    pub unfinished: ArrayVec<u64, 10>,
     pub negatives: ArrayVec<u64, 10>,
     pub unanswered: ArrayVec<u64, 10>,
     pub strays: ArrayVec<u64, 10>,
@@ -27,9 +27,9 @@ impl FirstTargets {
         ensures { result ≡ first_targets [] }
     {
         FirstTargets {
-            drops: ArrayVec::new(),
-            ends: ArrayVec::new(),
-            partials: ArrayVec::new(),
+            dropped: ArrayVec::new(),
+            ended: ArrayVec::new(),
+            unfinished: ArrayVec::new(),
             negatives: ArrayVec::new(),
             unanswered: ArrayVec::new(),
             strays: ArrayVec::new(),
@@ -41,9 +41,9 @@ impl FirstTargets {
         ensures { self.new ≡ first_with sort target self.old }
     {
         match sort {
-            Sort::Drops => keep(&mut self.drops, target),
-            Sort::Ends => keep(&mut self.ends, target),
-            Sort::Partials => keep(&mut self.partials, target),
+            Sort::Dropped => keep(&mut self.dropped, target),
+            Sort::Ended => keep(&mut self.ended, target),
+            Sort::Unfinished => keep(&mut self.unfinished, target),
             Sort::Negatives => keep(&mut self.negatives, target),
             Sort::Unanswered => keep(&mut self.unanswered, target),
             Sort::Strays => keep(&mut self.strays, target),

@@ -129,20 +129,20 @@ impl<'a> Part for Looks<'a> {
         let dropped = LookLine {
             words: "dropped frames",
             link: Link::Line,
-            count: counts.drops,
-            first: &first.drops,
+            count: counts.dropped,
+            first: &first.dropped,
         };
         let ended = LookLine {
             words: "ended early",
             link: Link::Line,
-            count: counts.ends,
-            first: &first.ends,
+            count: counts.ended,
+            first: &first.ended,
         };
         let unfinished = LookLine {
             words: "unfinished",
             link: Link::Side,
-            count: counts.partials,
-            first: &first.partials,
+            count: counts.unfinished,
+            first: &first.unfinished,
         };
         let negative = LookLine {
             words: "negative answers",
@@ -177,9 +177,9 @@ impl<'a> Part for Looks<'a> {
 fn needs_no_look(counts: &SortCounts) -> bool
     ensures { result ≡ Links.needs_no_look counts.now }
 {
-    counts.drops == 0
-        && counts.ends == 0
-        && counts.partials == 0
+    counts.dropped == 0
+        && counts.ended == 0
+        && counts.unfinished == 0
         && counts.negatives == 0
         && counts.unanswered == 0
         && counts.strays == 0
