@@ -10,15 +10,21 @@ use crate::row::Row;
 use crate::sorts::{Sort, sort_of, target_of};
 use arrayvec::ArrayVec;
 
+/// So many rows of a sort are linked to.
+pub(crate) const MOST_LINKS: u64 = 10;
+
+/// Where links to rows of a sort lead, to the first [`MOST_LINKS`] of them.
+pub(crate) type Targets = ArrayVec<u64, 10>;
+
 /// Of each sort that needs a look, where links to its first rows lead.
 #[derive(Debug, Drop)]
 pub(crate) struct FirstTargets {
-    pub dropped: ArrayVec<u64, 10>,
-    pub ended: ArrayVec<u64, 10>,
-    pub unfinished: ArrayVec<u64, 10>,
-    pub negatives: ArrayVec<u64, 10>,
-    pub unanswered: ArrayVec<u64, 10>,
-    pub strays: ArrayVec<u64, 10>,
+    pub dropped: Targets,
+    pub ended: Targets,
+    pub unfinished: Targets,
+    pub negatives: Targets,
+    pub unanswered: Targets,
+    pub strays: Targets,
 }
 
 impl FirstTargets {
@@ -54,7 +60,7 @@ impl FirstTargets {
 }
 
 /// Keeps a target behind those before it, if there is room.
-fn keep(first: &mut ArrayVec<u64, 10>, target: u64)
+fn keep(first: &mut Targets, target: u64)
     ensures { first.new.items ≡ take most_links (first.old.items ++ target ∷ []) }
 {
     if !first.is_full() {
