@@ -17,7 +17,7 @@ use Rattle.trace_report.specs.Rows.{RowValue}
 use Rattle.trace_report.specs.Rows as row
 use Rattle.trace_report.specs.declared.row.MessagePlace.{MessagePlace}
 use Rattle.trace_report.specs.declared.row.MessageRole.{MessageRole}
-use Rattle.trace_report.specs.declared.row.MessageRole.TheVariants as is
+use Rattle.trace_report.specs.declared.row.MessageRole.TheVariants as message_role
 
 -- the message begins an exchange
 abbrev pub is_request_step : Step → Bool
@@ -52,22 +52,22 @@ asked_in limit T = asked_behind limit 0 [] T
 
 -- an answer by its first byte
 abbrev pub answer_role : ℕ → List ℕ → MessageRole
-answer_role asked bytes = if is_negative_response bytes then is.Negative asked else is.Positive asked
+answer_role asked bytes = if is_negative_response bytes then message_role.Negative asked else message_role.Positive asked
 
 -- a message of a tester that belongs to no exchange: the keep-alive, or a stray
 abbrev pub other_tester_role : List ℕ → MessageRole
-other_tester_role bytes = if is_keep_alive bytes then is.KeepAlive else is.Stray
+other_tester_role bytes = if is_keep_alive bytes then message_role.KeepAlive else message_role.Stray
 
 -- of either side
 abbrev pub other_role : Dir → List ℕ → MessageRole
 other_role dir.Tester bytes = other_tester_role bytes
-other_role dir.Unit bytes = is.Stray
+other_role dir.Unit bytes = message_role.Stray
 
 -- what a message is, by what becomes of it, where the last request was complete at the time `asked`
 abbrev pub role_of_step : ℕ → Step → Dir → List ℕ → MessageRole
-role_of_step asked (becomes.Request service) d bytes = is.Request
+role_of_step asked (becomes.Request service) d bytes = message_role.Request
 role_of_step asked becomes.Answer d bytes = answer_role asked bytes
-role_of_step asked becomes.Removed d bytes = is.Pending asked
+role_of_step asked becomes.Removed d bytes = message_role.Pending asked
 role_of_step asked becomes.Hold d bytes = other_role d bytes
 role_of_step asked becomes.Pass d bytes = other_role d bytes
 

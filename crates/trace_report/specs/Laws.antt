@@ -31,7 +31,7 @@ use Rattle.trace_report.specs.declared.contrast.LogName.{LogName}
 use Rattle.trace_report.specs.declared.contrast.LogName.TheVariants.{A, B}
 use Rattle.trace_report.specs.declared.row.MessagePlace.{MessagePlace}
 use Rattle.trace_report.specs.declared.row.MessageRole.{MessageRole}
-use Rattle.trace_report.specs.declared.row.MessageRole.TheVariants as is
+use Rattle.trace_report.specs.declared.row.MessageRole.TheVariants as message_role
 
 -- a byte that opens and closes nothing in HTML: printable ASCII, and none of < > " '
 abbrev pub is_harmless : ℕ → Bool
@@ -105,7 +105,7 @@ RowsAroundHaveTheItem = (number : ℕ) (rows : List RowValue)
 
 -- an answer is told as negative exactly where it is a negative response
 abbrev pub NegativeIsNegative : Type 0
-NegativeIsNegative = (asked : ℕ) (d : Dir) (bytes : List ℕ) → (role_of_step asked becomes.Answer d bytes ≡ is.Negative asked) ↔ (is_negative_response bytes ≡ true)
+NegativeIsNegative = (asked : ℕ) (d : Dir) (bytes : List ℕ) → (role_of_step asked becomes.Answer d bytes ≡ message_role.Negative asked) ↔ (is_negative_response bytes ≡ true)
 
 -- the answer to an exchange in this one of two logs
 abbrev pub answer_of : LogName → Option RowMessage → Option RowMessage → Option RowMessage
