@@ -57,7 +57,7 @@ impl Follower {
         }
     }
 
-    /// Takes what a frame did, and answers its rows. Most frames add none: laid in line, so that no room is cleared for rows
+    /// Takes what a frame did, and answers its rows. Most frames add none: inlined, so that no room is cleared for rows
     /// then.
     #[inline(always)]
     pub(crate) fn take<'a>(&mut self, seen: Seen<'a>) -> NewRows<'a>

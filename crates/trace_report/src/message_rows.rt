@@ -67,7 +67,16 @@ impl Part for MessageFront {
     }
 }
 
-/// How a message looks.
+/// How a message looks, a class of the style. The other rows have some, too:
+///
+/// | Class | Rows | Look |
+/// |---|---|---|
+/// | `q` | a request | the tester's colour |
+/// | `ok` | a positive answer | the unit's colour |
+/// | `p` | a pending reply, a keep-alive; an item that asked for no positive answer | grey |
+/// | `n` | a negative answer | red |
+/// | `m`, `x` | no answer; what was dropped, ended or stands unfinished | red, with a dashed arrow |
+/// | `s` | a stray | the colour of a warning |
 #[derive(Clone, Copy)]
 struct RoleClass(MessageRole);
 
