@@ -137,7 +137,7 @@ first: FramePlace { line: 1, micros: 0 }, last: FramePlace { line: 1, micros: 0 
 Ended { place: FramePlace { line: 3, micros: 2000 }, ended: Ended { begun_line: 2, len: 8, dir: Unit, cause: NewStart } }, \
 Message { role: Positive { asked: 0 }, dir: Unit, place: MessagePlace { item: 1, \
 first: FramePlace { line: 3, micros: 2000 }, last: FramePlace { line: 3, micros: 2000 }, frames: 1 }, message: [98, 241, 144, 65] }, \
-Dropped { place: FramePlace { line: 4, micros: 3000 }, dir: Unit, named: false, reason: NextUnexpected }, \
+Dropped { place: FramePlace { line: 4, micros: 3000 }, dir: Unit, linked: true, reason: NextUnexpected }, \
 Message { role: Request, dir: Tester, place: MessagePlace { item: 2, \
 first: FramePlace { line: 5, micros: 4000 }, last: FramePlace { line: 5, micros: 4000 }, frames: 1 }, message: [34, 241, 145] }, \
 Unfinished { dir: Unit, line: 6, len: 10 }, \

@@ -37,14 +37,14 @@ module _ (old new : List (List ℕ)) (on : GoesOn old new) where
   row-stays : (row : KeptRow) → IsLaid old row → row_at new row ≡ row_at old row
   row-stays (kept.Message sent) laid = ap (message sent.role sent.dir sent.place) (lies-still sent.bytes laid).bytes
   row-stays (kept.NoAnswer number silent) laid = refl
-  row-stays (kept.Dropped place d named why) laid = refl
+  row-stays (kept.Dropped place d linked why) laid = refl
   row-stays (kept.Ended place end) laid = refl
   row-stays (kept.Unfinished d line len) laid = refl
 
   laid-still : (row : KeptRow) → IsLaid old row → IsLaid new row
   laid-still (kept.Message sent) laid = (lies-still sent.bytes laid).inside
   laid-still (kept.NoAnswer number silent) laid = tt
-  laid-still (kept.Dropped place d named why) laid = tt
+  laid-still (kept.Dropped place d linked why) laid = tt
   laid-still (kept.Ended place end) laid = tt
   laid-still (kept.Unfinished d line len) laid = tt
 

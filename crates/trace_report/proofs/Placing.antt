@@ -34,7 +34,7 @@ answer-by-parts (message (role.Pending asked) d place bytes ∷ rest) = answer-b
 answer-by-parts (message role.KeepAlive d place bytes ∷ rest) = answer-by-parts rest
 answer-by-parts (message role.Stray d place bytes ∷ rest) = answer-by-parts rest
 answer-by-parts (no_answer number silent ∷ rest) = answer-by-parts rest
-answer-by-parts (dropped place d named why ∷ rest) = answer-by-parts rest
+answer-by-parts (dropped place d linked why ∷ rest) = answer-by-parts rest
 answer-by-parts (ended place end ∷ rest) = answer-by-parts rest
 answer-by-parts (unfinished d line len ∷ rest) = answer-by-parts rest
 
@@ -50,7 +50,7 @@ items-by-parts (message role.KeepAlive d place bytes ∷ rest) =
 items-by-parts (message role.Stray d place bytes ∷ rest) =
     ap (λ l. item_by (record { role = role.Stray; dir = d; place = place; bytes = bytes }) None ∷ l) (items-by-parts rest)
 items-by-parts (no_answer number silent ∷ rest) = items-by-parts rest
-items-by-parts (dropped place d named why ∷ rest) = items-by-parts rest
+items-by-parts (dropped place d linked why ∷ rest) = items-by-parts rest
 items-by-parts (ended place end ∷ rest) = items-by-parts rest
 items-by-parts (unfinished d line len ∷ rest) = items-by-parts rest
 
@@ -331,7 +331,7 @@ module _ (rows : List RowValue) (places : List ItemPlace) (waiting : Option ℕ)
   row-more (message role.KeepAlive d place bytes) = begun-more (message role.KeepAlive d place bytes) (record { role = role.KeepAlive; dir = d; place = place; bytes = bytes }) refl refl
   row-more (message role.Stray d place bytes) = begun-more (message role.Stray d place bytes) (record { role = role.Stray; dir = d; place = place; bytes = bytes }) refl refl
   row-more (no_answer number silent) = nothing-more (no_answer number silent) refl
-  row-more (dropped place d named why) = nothing-more (dropped place d named why) refl
+  row-more (dropped place d linked why) = nothing-more (dropped place d linked why) refl
   row-more (ended place end) = nothing-more (ended place end) refl
   row-more (unfinished d line len) = nothing-more (unfinished d line len) refl
 

@@ -109,18 +109,18 @@ message_rows limit T e bytes step =
     rows_before (messages limit T) step
     ++ row.message (role_of_step (asked_in limit T) step e.dir bytes) e.dir (message_place limit T e bytes) bytes ∷ []
 
--- something ended
-abbrev pub is_there : Option Ended → Bool
-is_there None = false
-is_there (Some end) = true
+-- nothing ended
+abbrev pub ends_nothing : Option Ended → Bool
+ends_nothing None = true
+ends_nothing (Some end) = false
 
 -- of what the frame e does after the frames T
 abbrev pub verdict_rows : ℕ → List Entry → Entry → Bool → VerdictValue → List RowValue
-verdict_rows limit T e named (message bytes) = message_rows limit T e bytes (step_after (messages limit T) (e.dir, bytes))
-verdict_rows limit T e named began = []
-verdict_rows limit T e named stored = []
-verdict_rows limit T e named flowed = []
-verdict_rows limit T e named (dropped reason) = row.dropped (place_of e) e.dir named reason ∷ []
+verdict_rows limit T e linked (message bytes) = message_rows limit T e bytes (step_after (messages limit T) (e.dir, bytes))
+verdict_rows limit T e linked began = []
+verdict_rows limit T e linked stored = []
+verdict_rows limit T e linked flowed = []
+verdict_rows limit T e linked (dropped reason) = row.dropped (place_of e) e.dir linked reason ∷ []
 
 -- of what it ends
 abbrev pub ended_rows : Entry → Option Ended → List RowValue
@@ -129,7 +129,7 @@ ended_rows e (Some end) = row.ended (place_of e) end ∷ []
 
 -- of both
 abbrev pub event_rows : ℕ → List Entry → Entry → EventValue → List RowValue
-event_rows limit T e event = ended_rows e event.ended ++ verdict_rows limit T e (is_there event.ended) event.verdict
+event_rows limit T e event = ended_rows e event.ended ++ verdict_rows limit T e (ends_nothing event.ended) event.verdict
 
 -- the rows of the frame e after the frames T
 abbrev pub frame_rows : ℕ → List Entry → Entry → List RowValue

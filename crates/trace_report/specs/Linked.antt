@@ -15,7 +15,7 @@ use Rattle.trace_report.specs.declared.links.Link.TheVariants as link
 abbrev pub target_at : RowValue → Option Target
 target_at (message is d place bytes) = if begins_item is then Some (of_item place.item) else None
 target_at (no_answer number silent) = None
-target_at (dropped place d named why) = if named then None else Some (of_line place.line)
+target_at (dropped place d linked why) = if linked then Some (of_line place.line) else None
 target_at (ended place end) = Some (of_line place.line)
 target_at (unfinished d begun len) = Some (of_side d)
 

@@ -31,7 +31,7 @@ sort_of_silence false = sort.Unanswered
 abbrev pub sort_of : RowValue → Sort
 sort_of (message is d place bytes) = sort_of_role is
 sort_of (no_answer number asked) = sort_of_silence asked
-sort_of (dropped place d named why) = sort.Dropped
+sort_of (dropped place d linked why) = sort.Dropped
 sort_of (ended place end) = sort.Ended
 sort_of (unfinished d line len) = sort.Unfinished
 
@@ -62,7 +62,7 @@ side_number dir.Unit = 1
 abbrev pub target_of : RowValue → ℕ
 target_of (message is d place bytes) = place.item
 target_of (no_answer number asked) = number
-target_of (dropped place d named why) = place.line
+target_of (dropped place d linked why) = place.line
 target_of (ended place end) = place.line
 target_of (unfinished d line len) = side_number d
 

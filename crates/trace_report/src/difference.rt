@@ -154,7 +154,7 @@ fn say_contrast_row<S: TextSink>(number: u64, how: Contrast, origin: u64, row: R
             dir,
             reason,
             ..
-        } => say_dropped_row(origin, place, dir, true, reason, out),
+        } => say_dropped_row(false, origin, place, dir, reason, out),
         Row::Ended { place, ended } => say_ended_row(false, origin, place, ended, out),
         Row::Unfinished { dir, line, len } => say_unfinished_row(false, dir, line, len, out),
     }

@@ -170,7 +170,7 @@ fn dropped_row<'a>(here: FramePlace, dir: Dir, event: Event<'_>) -> Option<Row<'
         Verdict::Dropped(reason) => Some(Row::Dropped {
             place: here,
             dir,
-            named: event.ended.is_some(),
+            linked: event.ended.is_none(),
             reason,
         }),
         Verdict::Message(_) | Verdict::Began | Verdict::Stored | Verdict::Flow => None,

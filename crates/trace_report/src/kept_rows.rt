@@ -41,7 +41,7 @@ pub(crate) enum KeptRow {
     Dropped {
         place: FramePlace,
         dir: Dir,
-        named: bool,
+        linked: bool,
         reason: Reason,
     },
     Ended {
@@ -189,12 +189,12 @@ fn laid(messages: &mut Messages, row: Row<'_>) -> Result<KeptRow, AllocError>
         Row::Dropped {
             place,
             dir,
-            named,
+            linked,
             reason,
         } => Ok(KeptRow::Dropped {
             place,
             dir,
-            named,
+            linked,
             reason,
         }),
         Row::Ended { place, ended } => Ok(KeptRow::Ended { place, ended }),
@@ -292,12 +292,12 @@ fn row_at<'a>(messages: &'a Messages, row: KeptRow) -> Row<'a>
         KeptRow::Dropped {
             place,
             dir,
-            named,
+            linked,
             reason,
         } => Row::Dropped {
             place,
             dir,
-            named,
+            linked,
             reason,
         },
         KeptRow::Ended { place, ended } => Row::Ended { place, ended },

@@ -43,9 +43,9 @@ fn say_row<S: TextSink>(brief: bool, origin: u64, row: Row<'_>, out: &mut S)
         Row::Dropped {
             place,
             dir,
-            named,
+            linked,
             reason,
-        } => { say_dropped_row(origin, place, dir, named, reason, out) }
+        } => { say_dropped_row(linked, origin, place, dir, reason, out) }
         Row::Ended { place, ended } => say_ended_row(true, origin, place, ended, out),
         Row::Unfinished { dir, line, len } => say_unfinished_row(true, dir, line, len, out),
     }

@@ -13,7 +13,7 @@ use Rattle.uds_message.specs.Message.{is_suppressing}
 use Rattle.trace_canon.specs.declared.begun.FramePlace.{FramePlace}
 use Rattle.trace_canon.specs.proving.Begun.{IsBegunAt}
 use Rattle.trace_report.specs.Blocks.{blocks_of}
-use Rattle.trace_report.specs.Events.{asked_in, is_request_step, is_there, rows_of}
+use Rattle.trace_report.specs.Events.{asked_in, is_request_step, ends_nothing, rows_of}
 use Rattle.trace_report.specs.Front.{PageTitle}
 use Rattle.trace_report.specs.Page.{last_time}
 use Rattle.trace_report.specs.Rows.{RowValue}
@@ -98,15 +98,15 @@ rows_in rows = row_if rows.first ++ row_if rows.second ++ row_if rows.third
 
 -- the row of a frame here of which this became
 abbrev pub dropped_by : FramePlace → Dir → Bool → VerdictValue → List RowValue
-dropped_by here d named (message bytes) = []
-dropped_by here d named began = []
-dropped_by here d named stored = []
-dropped_by here d named flowed = []
-dropped_by here d named (dropped reason) = row.dropped here d named reason ∷ []
+dropped_by here d linked (message bytes) = []
+dropped_by here d linked began = []
+dropped_by here d linked stored = []
+dropped_by here d linked flowed = []
+dropped_by here d linked (dropped reason) = row.dropped here d linked reason ∷ []
 
 -- the row of a frame here, if it was dropped
 abbrev pub dropped_rows : FramePlace → Dir → EventValue → List RowValue
-dropped_rows here d event = dropped_by here d (is_there event.ended) event.verdict
+dropped_rows here d event = dropped_by here d (ends_nothing event.ended) event.verdict
 
 -- the row of a reception that stands at the end, if one does
 abbrev pub unfinished_if : Dir → Option (ℕ × ℕ) → List RowValue

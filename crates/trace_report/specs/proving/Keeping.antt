@@ -17,7 +17,7 @@ use Rattle.trace_report.specs.declared.row.MessageRole.TheVariants as role
 abbrev pub row_at : List (List ℕ) → KeptRow → RowValue
 row_at blocks (kept.Message sent) = message sent.role sent.dir sent.place (bytes_at blocks sent.bytes)
 row_at blocks (kept.NoAnswer number silent) = no_answer number silent
-row_at blocks (kept.Dropped place d named why) = dropped place d named why
+row_at blocks (kept.Dropped place d linked why) = dropped place d linked why
 row_at blocks (kept.Ended place end) = ended place end
 row_at blocks (kept.Unfinished d line len) = unfinished d line len
 
@@ -29,7 +29,7 @@ rows_at blocks rows = map (row_at blocks) rows
 abbrev pub IsLaid : List (List ℕ) → KeptRow → Type 0
 IsLaid blocks (kept.Message sent) = IsInside blocks sent.bytes
 IsLaid blocks (kept.NoAnswer number silent) = ⊤
-IsLaid blocks (kept.Dropped place d named why) = ⊤
+IsLaid blocks (kept.Dropped place d linked why) = ⊤
 IsLaid blocks (kept.Ended place end) = ⊤
 IsLaid blocks (kept.Unfinished d line len) = ⊤
 
@@ -60,7 +60,7 @@ part_by role.Stray sent = begins sent
 abbrev pub part_of : RowValue → RowPart
 part_of (message is d place bytes) = part_by is (record { role = is; dir = d; place = place; bytes = bytes })
 part_of (no_answer number silent) = nothing
-part_of (dropped place d named why) = nothing
+part_of (dropped place d linked why) = nothing
 part_of (ended place end) = nothing
 part_of (unfinished d line len) = nothing
 
@@ -189,13 +189,13 @@ waiting_by role.Stray places waiting = waiting
 abbrev pub places_next : RowValue → List ItemPlace → Option ℕ → ℕ → List ItemPlace
 places_next (message is d place bytes) places waiting at = places_by is places waiting at
 places_next (no_answer number silent) places waiting at = places
-places_next (dropped place d named why) places waiting at = places
+places_next (dropped place d linked why) places waiting at = places
 places_next (ended place end) places waiting at = places
 places_next (unfinished d line len) places waiting at = places
 
 abbrev pub waiting_next : RowValue → List ItemPlace → Option ℕ → Option ℕ
 waiting_next (message is d place bytes) places waiting = waiting_by is places waiting
 waiting_next (no_answer number silent) places waiting = waiting
-waiting_next (dropped place d named why) places waiting = waiting
+waiting_next (dropped place d linked why) places waiting = waiting
 waiting_next (ended place end) places waiting = waiting
 waiting_next (unfinished d line len) places waiting = waiting
