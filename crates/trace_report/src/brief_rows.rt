@@ -35,7 +35,12 @@ pub(crate) fn say_brief_message<S: TextSink>(
         say(
             out,
             (
-                MessageFront(true, origin, role, place),
+                MessageFront {
+                    linked: true,
+                    origin,
+                    role,
+                    place,
+                },
                 "<td class=\"",
                 Side(dir),
                 "\">",

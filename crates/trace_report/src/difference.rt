@@ -175,7 +175,12 @@ fn say_contrast_message<S: TextSink>(
     say(
         out,
         (
-            MessageFront(false, origin, role, place),
+            MessageFront {
+                linked: false,
+                origin,
+                role,
+                place,
+            },
             CellFront(dir),
             RoleWords(role, dir, message),
             ContrastData(mark, message),

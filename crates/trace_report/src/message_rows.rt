@@ -26,7 +26,12 @@ pub(crate) fn say_message_row<S: TextSink>(
     say(
         out,
         (
-            MessageFront(true, origin, role, place),
+            MessageFront {
+                linked: true,
+                origin,
+                role,
+                place,
+            },
             CellFront(dir),
             RoleWords(role, dir, message),
             Data(message),
@@ -38,15 +43,25 @@ pub(crate) fn say_message_row<S: TextSink>(
 
 /// Where a message stands, as a row to which links lead or not.
 #[derive(Clone, Copy)]
-pub(crate) struct MessageFront(pub bool, pub u64, pub MessageRole, pub MessagePlace);
+pub(crate) struct MessageFront {
+    pub linked: bool,
+    pub origin: u64,
+    pub role: MessageRole,
+    pub place: MessagePlace,
+}
 
 impl Part for MessageFront {
     ghost use Rattle.trace_report.specs.Rows.{message_front};
 
-    ghost text = { λ front. message_front front.0 front.1 front.2 front.3 };
+    ghost text = { λ front. message_front front.linked front.origin front.role front.place };
 
     fn say<S: TextSink>(self, out: &mut S) {
-        let MessageFront(linked, origin, role, place) = self;
+        let MessageFront {
+            linked,
+            origin,
+            role,
+            place,
+        } = self;
         let item = ItemCell {
             linked,
             role,

@@ -200,6 +200,10 @@ fn say_span_of_session<S: TextSink>(session: &Session, out: &mut S)
 {
     say(
         out,
-        SpanOf(session.summary().frames, session.first(), session.last()),
+        SpanOf {
+            frames: session.summary().frames,
+            first: session.first(),
+            last: session.last(),
+        },
     );
 }

@@ -104,7 +104,11 @@ impl<'a> Part for Findings<'a> {
             (
                 Looks(tally),
                 Counts(&tally.counts, summary),
-                SpanOf(summary.frames, first_of(times), last_of(times)),
+                SpanOf {
+                    frames: summary.frames,
+                    first: first_of(times),
+                    last: last_of(times),
+                },
                 "</section>\n",
             ),
         );
@@ -249,15 +253,23 @@ impl<'a> Part for StartOf<'a> {
 
 /// From when to when a log of so many frames goes, where it has some.
 #[derive(Clone, Copy)]
-pub(crate) struct SpanOf(pub u64, pub u64, pub u64);
+pub(crate) struct SpanOf {
+    pub frames: u64,
+    pub first: u64,
+    pub last: u64,
+}
 
 impl Part for SpanOf {
     ghost use Rattle.trace_report.specs.Verdict.{span_of};
 
-    ghost text = { λ span. span_of span.0 span.1 span.2 };
+    ghost text = { λ span. span_of span.frames span.first span.last };
 
     fn say<S: TextSink>(self, out: &mut S) {
-        let SpanOf(frames, first, last) = self;
+        let SpanOf {
+            frames,
+            first,
+            last,
+        } = self;
         if frames > 0 {
             say(
                 out,
