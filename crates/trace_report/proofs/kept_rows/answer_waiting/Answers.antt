@@ -1,3 +1,4 @@
+-- The request that waits gets the place of its answer.
 use Rattle.std.proofs.Common.{◌<◌, IfSome, length, ap, sym, subst, ◌∙◌}
 use Rattle.trace_report.specs.proving.Keeping.{places_answered}
 use Rattle.trace_report.proofs.Placing.{set-answered}

@@ -1,3 +1,4 @@
+-- The first time stays, and the last one is that of the frame.
 use Rattle.std.proofs.Common.{sym, ◌∙◌}
 use Rattle.trace_report.proofs.Holding.{times_begin, times_go_on}
 use Rattle.trace_report.proofs.times.times_with.Goals as goal

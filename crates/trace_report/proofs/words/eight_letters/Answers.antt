@@ -1,3 +1,4 @@
+-- Each letter is that of its byte.
 use Rattle.std.proofs.Common.{ap}
 use Rattle.std.proofs.lemmas.Simd.{pick_l_whole}
 use Rattle.trace_report.specs.Words.{letters}

@@ -1,3 +1,4 @@
+-- No four in a row go over a byte that is no mark.
 use Rattle.std.proofs.Common.{ap, sym, ◌∙◌}
 use Rattle.std.proofs.lemmas.List.{take_rest}
 use Rattle.trace_report.specs.Words.{has_word}

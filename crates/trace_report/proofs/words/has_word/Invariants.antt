@@ -1,3 +1,4 @@
+-- A word stands in all bytes exactly where one stands in the rest.
 use Rattle.std.proofs.Common.{◌≡◌, length}
 use Rattle.trace_report.specs.Words.{has_word}
 use Rattle.trace_report.proofs.words.has_word.Given as goal

@@ -1,3 +1,4 @@
+-- The letters up to the place of the loop are said.
 use Rattle.std.proofs.Common.{take}
 use Rattle.trace_report.specs.Words.{letters}
 use Rattle.trace_report.proofs.words.say_few_letters.Given as goal

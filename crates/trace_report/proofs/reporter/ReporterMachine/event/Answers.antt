@@ -1,3 +1,4 @@
+-- A frame adds the front, where it is the first, and its rows.
 use Rattle.std.proofs.Common.{◌<◌, ◌^◌, ◌-◌, List, arith, ap, sym, subst, ◌∙◌, [], ◌∷◌, ◌++◌, length}
 use Rattle.std.proofs.lemmas.List.{length-append}
 use Rattle.isotp_receive.specs.declared.TheConstants.{MESSAGE_LIMIT}

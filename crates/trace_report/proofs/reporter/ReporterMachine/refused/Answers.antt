@@ -1,3 +1,4 @@
+-- Where the log is refused, the page ends with the rows so far and the cause.
 use Rattle.std.proofs.Common.{subst, ap, ◌∙◌}
 use Rattle.trace_report.specs.Causes.{cause_of}
 use Rattle.trace_report.specs.Front.{PageTitle}

@@ -1,3 +1,4 @@
+-- What is said so far and the letters of the rest are those of all bytes.
 use Rattle.std.proofs.Common.{◌≡◌, ◌++◌, List, ℕ, length}
 use Rattle.trace_report.specs.Words.{letters}
 use Rattle.trace_report.proofs.words.LettersPart.say.Given as goal
