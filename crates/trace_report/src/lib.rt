@@ -23,10 +23,10 @@
 //! event -> Follower -> rows -> Keeper -> Session -> Two -> page
 //! ```
 //!
-//! The rows of a [`Session`] are `kept_rows`, which know where the `items` stand among them. [`Two`] has both sessions,
-//! whose items stand side by side, and their comparison. The first `contrast` of a pair is the difference that the page
-//! tells (`pair_verdict`) and shows by the rows around it (`difference`), with a mark at the byte (`marks`). The items
-//! before and behind it are rows of a table (`item_rows`, `pair_items`).
+//! The rows of a [`Session`] are `kept_rows`, which note the `item_places` among them, and lend `items`. [`Two`] has both
+//! sessions, whose items stand side by side, and their comparison. The first `contrast` of a pair is the difference that
+//! the page tells (`pair_verdict`) and shows by the rows around it (`difference`), with a mark at the byte (`marks`). The
+//! items before and behind it are rows of a table (`item_rows`, `pair_items`).
 //!
 //! [`in_memory`] answers of logs in memory with their page and the counts.
 #![tactic(auto)]
@@ -45,6 +45,7 @@ mod frames;
 mod front;
 mod help;
 pub mod in_memory;
+mod item_places;
 mod item_rows;
 mod items;
 mod keeper;

@@ -5,7 +5,7 @@ use Rattle.trace_report.specs.Items.{RowMessage, PlacedItem, items_in, message_i
 use Rattle.trace_report.specs.Rows.{RowValue, message, no_answer, dropped, ended, unfinished}
 use Rattle.trace_report.specs.Sorts.{counts_in}
 use Rattle.trace_report.specs.declared.counts.SortCounts.{SortCounts}
-use Rattle.trace_report.specs.declared.kept_rows.ItemPlace.{ItemPlace}
+use Rattle.trace_report.specs.declared.item_places.ItemPlace.{ItemPlace}
 use Rattle.trace_report.specs.declared.kept_rows.KeptRow.{KeptRow}
 use Rattle.trace_report.specs.declared.kept_rows.KeptRow.TheVariants as kept
 use Rattle.trace_report.specs.declared.row.MessageRole.{MessageRole}

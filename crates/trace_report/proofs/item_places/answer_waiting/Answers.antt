@@ -2,7 +2,7 @@
 use Rattle.std.proofs.Common.{◌<◌, IfSome, length, ap, sym, subst, ◌∙◌}
 use Rattle.trace_report.specs.proving.Keeping.{places_answered}
 use Rattle.trace_report.proofs.Placing.{set-answered}
-use Rattle.trace_report.proofs.kept_rows.answer_waiting.Goals as goal
+use Rattle.trace_report.proofs.item_places.answer_waiting.Goals as goal
 
 pub returns-in-Some : goal.returns-in-Some
 returns-in-Some c =
