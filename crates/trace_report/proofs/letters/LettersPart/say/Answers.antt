@@ -2,7 +2,7 @@
 use Rattle.std.proofs.Common.{[], ◌++◌, refl, ap, sym, subst, ◌∙◌, append_assoc}
 use Rattle.trace_report.specs.Words.{letters}
 use Rattle.trace_report.proofs.BytesBehind.{eight_letters_more}
-use Rattle.trace_report.proofs.words.LettersPart.say.Goals as goal
+use Rattle.trace_report.proofs.letters.LettersPart.say.Goals as goal
 
 pub eights-init : goal.eights-init
 eights-init g c = ([], refl, g.met.S.TextSink.nothing c.args.out.now)

@@ -2,7 +2,7 @@
 use Rattle.std.proofs.Common.{refl, sym, subst}
 use Rattle.trace_report.specs.Words.{letter_text}
 use Rattle.trace_text.proofs.Promises.{one_more_text}
-use Rattle.trace_report.proofs.words.say_few_letters.Goals as goal
+use Rattle.trace_report.proofs.letters.say_few_letters.Goals as goal
 
 pub bytes-init : goal.bytes-init
 bytes-init g c = g.met.S.TextSink.nothing c.args.out.now

@@ -3,7 +3,7 @@ use Rattle.std.proofs.Common.{ap, sym, ◌∙◌}
 use Rattle.std.proofs.lemmas.List.{take_rest}
 use Rattle.trace_report.specs.Words.{has_word}
 use Rattle.trace_report.proofs.WordPlaces.{behind_fourth, behind_third, none_of_few}
-use Rattle.trace_report.proofs.words.has_word.Goals as goal
+use Rattle.trace_report.proofs.letters.has_word.Goals as goal
 
 pub places-preserved-then-not-is_mark : goal.places-preserved-then-not-is_mark
 places-preserved-then-not-is_mark c =

@@ -2,7 +2,7 @@
 use Rattle.std.proofs.Common.{ap}
 use Rattle.std.proofs.lemmas.Simd.{pick_l_whole}
 use Rattle.trace_report.specs.Words.{letters}
-use Rattle.trace_report.proofs.words.eight_letters.Goals as goal
+use Rattle.trace_report.proofs.letters.eight_letters.Goals as goal
 
 pub returns : goal.returns
 returns c =
