@@ -10,9 +10,11 @@
 //!                                                             <-- OpenOutcome, here an OpenAnswer -->
 //! <------------------------------------------- OpenObject ------------------------------------------>
 //! ```
+ghost use Rattle.std.specs.Prelude.{◌++◌};
 ghost use Rattle.uds_exchange.specs.ItemSeen.{item_value};
 ghost use Rattle.trace_text.specs.Json.{object, object_line, value_text};
 ghost use Rattle.trace_text.specs.ItemLines.{item_object};
+ghost use Rattle.trace_text.specs.proving.OpenItems.{open_object};
 
 use crate::bytes::Bytes;
 use crate::item_style::Numbering;
@@ -27,12 +29,7 @@ use uds_message::{is_negative_response, is_suppressing, response_code, sid};
 pub fn say_item_object<S: TextSink>(number: u64, numbering: Numbering, item: Item<'_>, out: &mut S)
     ensures { S.says out.old (value_text (object (item_object numbering number (item_value item.entry)))) out.new }
 {
-    let open = OpenObject {
-        number,
-        numbering,
-        item,
-    };
-    say(out, (open, "\"}"));
+    say_closed(number, numbering, item, "\"}", out);
 }
 
 /// Says the line of the object.
@@ -44,12 +41,26 @@ pub(crate) fn say_item_object_line<S: TextSink>(
 )
     ensures { S.says out.old (object_line (item_object numbering number (item_value item.entry))) out.new }
 {
+    say_closed(number, numbering, item, "\"}\n", out);
+}
+
+/// Says the open object and this end.
+#[inline(always)]
+fn say_closed<S: TextSink>(
+    number: u64,
+    numbering: Numbering,
+    item: Item<'_>,
+    end: &str,
+    out: &mut S,
+)
+    ensures { S.says out.old (open_object numbering number (item_value item.entry) ++ end.now) out.new }
+{
     let open = OpenObject {
         number,
         numbering,
         item,
     };
-    say(out, (open, "\"}\n"));
+    say(out, (open, end));
 }
 
 /// The object up to the quote and the brace that end it, whatever the item is.
