@@ -1,4 +1,5 @@
 pub mod Words
+pub mod Style
 pub mod Front
 pub mod Targets
 pub mod Rows

@@ -1,6 +1,6 @@
 //! What holds of a page, whatever log it is of. A law is its contract; a call does nothing.
 
-ghost use Rattle.trace_report.specs.Laws.{AfterIsFromTheLastFrame, AfterIsToTheFirstFrame, AgreesWithCompare, ComparisonIsOfItems, IdentifiersStandOnce, ItemsAreTheMeaning, LettersAreHarmless, LinksHaveTargets, NameIsHarmless, NegativeIsNegative, RowsAroundHaveTheItem, TimeIsOfTheLastFrame, UnansweredHasNone};
+ghost use Rattle.trace_report.specs.Laws.{AfterIsFromTheLastFrame, AfterIsToTheFirstFrame, AgreesWithCompare, ComparisonIsOfItems, IdentifiersStandOnce, ItemsAreTheMeaning, LettersAreHarmless, LinksHaveTargets, NameIsHarmless, NegativeIsNegative, RowsAroundHaveTheItem, StyleHoldsNoTag, TimeIsOfTheLastFrame, UnansweredHasNone};
 
 /// The name of a log opens and closes nothing on its page.
 pub fn name_is_harmless()
@@ -10,6 +10,11 @@ pub fn name_is_harmless()
 /// Nor do the letters that are shown for bytes of a message.
 pub fn letters_are_harmless()
     ensures { LettersAreHarmless }
+{}
+
+/// Nor does the style of a page.
+pub fn style_holds_no_tag()
+    ensures { StyleHoldsNoTag }
 {}
 
 /// No two identifiers of a page are the same.

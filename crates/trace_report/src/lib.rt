@@ -14,8 +14,8 @@
 //!
 //! The text of a page is in pieces: its `front`; the rows of messages (`message_rows`, `brief_rows`) and of what is
 //! missing (`lost_rows`), by `cells`, `words` and `letters`; the `verdict`, with `reasons`, `links` and `counts`; of a
-//! refused log the `refusal`, with its `cause`, by what it `looks` like; and the `help`. The style is no part of what is
-//! proved.
+//! refused log the `refusal`, with its `cause`, by what it `looks` like; and the `help`. Of the style it is proved that it
+//! holds no tag.
 //!
 //! Of two logs a page says first whether they are the same. So both are kept: [`keep_two`] keeps the rows of each
 //! (`keeper`), and [`write_pair_page`] writes the page of both.
