@@ -23,5 +23,6 @@ pub mod Session
 pub mod Held
 pub mod PairPage
 pub mod InMemory
+pub mod Numbers
 pub mod Laws
 pub mod proving
