@@ -5,9 +5,9 @@ use Rattle.trace_canon.specs.declared.comparing.Comparison.{Comparison}
 use Rattle.trace_text.specs.declared.item_style.Numbering.{Numbering}
 use Rattle.trace_text.specs.declared.remark.Remark.{Remark}
 use Rattle.trace_canon.specs.ComparisonText.{comparison_members}
-use Rattle.trace_text.specs.ExplainText.{remark_members}
+use Rattle.trace_text.specs.RemarkLines.{remark_members}
 use Rattle.trace_canon.specs.Finding.{pair_object}
-use Rattle.trace_text.specs.ListText.{item_object}
+use Rattle.trace_text.specs.ItemLines.{item_object}
 use Rattle.trace_canon.specs.MessageLines.{PlacedMessage, placed_members}
 use Rattle.uds_exchange.specs.Meaning.{ItemValue}
 use Rattle.uds_find.specs.Finding.{credit_line}

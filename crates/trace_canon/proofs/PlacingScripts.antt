@@ -17,10 +17,10 @@ use Rattle.uds_exchange.specs.Judging.{step_after, number_after}
 use Rattle.uds_exchange.specs.declared.step.Step.{Step}
 use Rattle.trace_canon.specs.proving.ReceptionStarts.{IsBegunAt}
 use Rattle.trace_canon.specs.ReceptionStarts.{begun_after, begun_of, began_at}
-use Rattle.trace_canon.specs.MessageLines.{PlacedMessage, judged_at, place_of, stamp_text, first_frame, placed_members, placed_text, placed_behind, delivered_line}
+use Rattle.trace_canon.specs.MessageLines.{PlacedMessage, judged_at, place_of, first_frame, placed_members, placed_text, placed_behind, delivered_line}
 use Rattle.trace_text.specs.Words.{role_text}
 use Rattle.trace_text.specs.Json.{object_line}
-use Rattle.trace_text.specs.Words.{bytes_text, direction_text}
+use Rattle.trace_text.specs.Words.{bytes_text, direction_text, stamp_text}
 use Rattle.trace_canon.specs.declared.reception_starts.ReceptionStarts.{ReceptionStarts}
 use Rattle.trace_canon.specs.declared.reception_starts.FramePlace.{FramePlace}
 use Rattle.trace_text.specs.declared.notation.Notation.{Notation}

@@ -15,7 +15,7 @@ use Rattle.uds_exchange.specs.Judging.{one_more, sent}
 use Rattle.uds_exchange.specs.declared.judge.Judged.{Judged}
 use Rattle.trace_run.proofs.Promises.{CompletesJudged}
 use Rattle.uds_exchange.proofs.Promises.{decided_grows, decided_then_undecided, items_are_few, none_is_lost}
-use Rattle.trace_text.specs.ListText.{item_line, list_text, list_text_from}
+use Rattle.trace_text.specs.ItemLines.{item_line, list_text, list_text_from}
 use Rattle.trace_log.specs.Messages.{meaning_of_lines}
 use Rattle.trace_canon.specs.MemoryNeeded.{CompletesKept}
 use Rattle.trace_log.specs.Settings.{Settings}

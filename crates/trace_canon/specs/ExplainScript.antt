@@ -8,7 +8,7 @@ use Rattle.isotp_receive.specs.Verdict.{VerdictValue, EventValue, message, began
 use Rattle.trace_text.specs.declared.notation.Notation.{Notation}
 use Rattle.trace_text.specs.declared.remark.Remark.TheVariants as remark
 use Rattle.trace_log.specs.declared.summary.Summary.{Summary}
-use Rattle.trace_text.specs.ExplainText.{remark_text}
+use Rattle.trace_text.specs.RemarkLines.{remark_text}
 use Rattle.trace_run.specs.Told.{Script}
 
 -- of a reception that the frame of this line ended, if it ended one

@@ -19,7 +19,7 @@ use Rattle.trace_log.specs.ReadAs.{IsReadAs}
 use Rattle.trace_canon.specs.ExplainScript.{explain_script}
 use Rattle.trace_canon.specs.Finding.{IsFoundIn, NeedsMemoryToFind, pairs_text}
 use Rattle.trace_canon.specs.MemoryNeeded.{NeedsMemoryToCollect, NeedsMemoryToOrder}
-use Rattle.trace_text.specs.ListText.{list_text}
+use Rattle.trace_text.specs.ItemLines.{list_text}
 use Rattle.trace_log.specs.CanonicalLog.{canonical_log_of_lines}
 use Rattle.trace_log.specs.Needing.{BeginsWithLines, NeedsMemoryToReceive}
 use Rattle.trace_log.specs.Outcome.{IsOutcome}

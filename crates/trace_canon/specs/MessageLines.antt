@@ -1,8 +1,7 @@
 -- The text that places the messages of a log: a line for each message that is delivered, in the order of delivery, in
 -- words or as an object of JSON.
-use Rattle.std.specs.Prelude.{ℕ, ◌/◌, Bool, true, false, List, [], ◌∷◌, ◌++◌, codes, if◌then◌else◌}
+use Rattle.std.specs.Prelude.{ℕ, Bool, true, false, List, [], ◌∷◌, ◌++◌, codes, if◌then◌else◌}
 use Rattle.std.specs.Fmt.{decimal}
-use Rattle.can_log.specs.Digits as digits
 use Rattle.direction.specs.Dir.{Message}
 use Rattle.direction.specs.declared.Dir.{Dir}
 use Rattle.isotp_receive.specs.Trace.{Entry, FrameRole, single, first, consecutive, continue_or_wait, overflow, no_part, role}
@@ -16,11 +15,7 @@ use Rattle.trace_canon.specs.declared.reception_starts.FramePlace.{FramePlace}
 use Rattle.trace_text.specs.declared.notation.Notation.{Notation}
 use Rattle.trace_text.specs.declared.notation.Notation.TheVariants.{Text, Json}
 use Rattle.trace_run.specs.Told.{Script}
-use Rattle.trace_text.specs.Words.{bytes_text, direction_text, role_text}
-
--- the time of a frame: its seconds without leading zeros, a dot, and six digits
-abbrev pub stamp_text : ℕ → List ℕ
-stamp_text micros = decimal (micros / 1000000) ++ codes "." ++ digits.decimal 6 micros
+use Rattle.trace_text.specs.Words.{bytes_text, direction_text, role_text, stamp_text}
 
 -- where a frame stands: its line and its time
 abbrev pub place_of : Entry → FramePlace

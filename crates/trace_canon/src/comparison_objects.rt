@@ -6,7 +6,7 @@ use crate::compared_items::say_item_at;
 use crate::comparing::{Compared, Comparison};
 use text_parts::say;
 use trace_io::TextSink;
-use trace_text::say::say_text;
+use trace_text::values::say_text;
 use trace_text::{Notation, Place};
 
 /// Says how two logs compare, as an object in a line.

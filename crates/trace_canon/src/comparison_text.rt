@@ -10,7 +10,7 @@ use text_parts::{Part, say};
 use trace_io::{Target, TextSink};
 use trace_log::Fault;
 use trace_run::print;
-use trace_text::say::say_text;
+use trace_text::values::say_text;
 use trace_text::{Notation, Place};
 
 /// How a comparison is written.

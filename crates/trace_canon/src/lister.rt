@@ -1,6 +1,6 @@
 //! `list`: the items of a log, written once they are known.
 ghost use Rattle.isotp_receive.specs.declared.TheConstants.{MESSAGE_LIMIT};
-ghost use Rattle.trace_text.specs.ListText.{list_text};
+ghost use Rattle.trace_text.specs.ItemLines.{list_text};
 ghost use Rattle.trace_canon.specs.ItemText.{RanOverItems};
 ghost use Rattle.trace_io.specs.Counted.{IsLowCount};
 ghost use Rattle.trace_log.specs.Devices.{HasLowCounts};
@@ -31,7 +31,7 @@ pub fn list<R: Source, W: Target>(
 }
 
 impl ItemText for ItemStyle {
-    ghost use Rattle.trace_text.specs.ListText.{list_text};
+    ghost use Rattle.trace_text.specs.ItemLines.{list_text};
 
     ghost text = { λ style. list_text style };
 

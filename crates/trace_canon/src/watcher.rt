@@ -17,7 +17,7 @@ use std::alloc::{AllocError, Global};
 use trace_io::{Source, Target, TextSink};
 use trace_log::{Config, Fault, Summary};
 use trace_run::{Glimpse, Machine, Seen, Stop, run_lenient};
-use trace_text::{ItemStyle, say_item};
+use trace_text::{ItemStyle, say_item_line};
 use uds_exchange::{Decider, Item, ItemSink, Judged};
 
 /// Reads a log and writes the lines of [`list`](crate::list), each as soon as its item is decided: an exchange when its
@@ -131,13 +131,13 @@ pub(crate) struct LineSink<'a, S> {
 impl<'a, S: TextSink> ItemSink for LineSink<'a, S> {
     ghost use Rattle.std.specs.Prelude.{◌≡◌};
     ghost use Rattle.uds_exchange.specs.Judging.{one_more};
-    ghost use Rattle.trace_text.specs.ListText.{item_line};
+    ghost use Rattle.trace_text.specs.ItemLines.{item_line};
 
     ghost takes = { λ s item t. (t.out.ghost_name ≡ s.out.ghost_name) × (t.number.ghost_name ≡ s.number.ghost_name)
         × (t.style ≡ s.style) × (t.number.now ≡ one_more s.number.now) × S.says s.out.now (item_line s.style s.number.now item) t.out.now };
 
     fn put(&mut self, item: Item<'_>) {
-        say_item(*self.number, self.style, item, self.out);
+        say_item_line(*self.number, self.style, item, self.out);
         *self.number = self.number.saturating_add(1);
     }
 }

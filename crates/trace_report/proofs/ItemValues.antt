@@ -35,7 +35,7 @@ kind (message (role.Pending asked) d place bytes) = nothing
 kind (message role.KeepAlive d place bytes) = strays d bytes
 kind (message role.Stray d place bytes) = strays d bytes
 kind (no_answer number silent) = nothing
-kind (dropped place d named why) = nothing
+kind (dropped place d linked why) = nothing
 kind (ended place end) = nothing
 kind (unfinished d line len) = nothing
 
@@ -66,7 +66,7 @@ answer-by-kinds (message (role.Pending asked) d place bytes ∷ rest) = answer-b
 answer-by-kinds (message role.KeepAlive d place bytes ∷ rest) = answer-by-kinds rest
 answer-by-kinds (message role.Stray d place bytes ∷ rest) = answer-by-kinds rest
 answer-by-kinds (no_answer number silent ∷ rest) = answer-by-kinds rest
-answer-by-kinds (dropped place d named why ∷ rest) = answer-by-kinds rest
+answer-by-kinds (dropped place d linked why ∷ rest) = answer-by-kinds rest
 answer-by-kinds (ended place end ∷ rest) = answer-by-kinds rest
 answer-by-kinds (unfinished d line len ∷ rest) = answer-by-kinds rest
 
@@ -79,7 +79,7 @@ values-by-kinds (message (role.Pending asked) d place bytes ∷ rest) = values-b
 values-by-kinds (message role.KeepAlive d place bytes ∷ rest) = ap (λ l. stray d bytes ∷ l) (values-by-kinds rest)
 values-by-kinds (message role.Stray d place bytes ∷ rest) = ap (λ l. stray d bytes ∷ l) (values-by-kinds rest)
 values-by-kinds (no_answer number silent ∷ rest) = values-by-kinds rest
-values-by-kinds (dropped place d named why ∷ rest) = values-by-kinds rest
+values-by-kinds (dropped place d linked why ∷ rest) = values-by-kinds rest
 values-by-kinds (ended place end ∷ rest) = values-by-kinds rest
 values-by-kinds (unfinished d line len ∷ rest) = values-by-kinds rest
 

@@ -3,7 +3,7 @@
 use Rattle.std.specs.Prelude.{ℕ, false, List, [], ◌∷◌, ◌++◌, codes, Option}
 use Rattle.isotp_receive.specs.Trace.{Entry}
 use Rattle.trace_report.specs.declared.blocks.Blocks.{Blocks}
-use Rattle.trace_report.specs.declared.cause.Cause.{Cause}
+use Rattle.trace_report.specs.declared.cause.RefusalCause.{RefusalCause}
 use Rattle.trace_report.specs.declared.tally.Tally.{Tally}
 use Rattle.trace_log.specs.declared.summary.Summary.{Summary}
 use Rattle.trace_report.specs.Blocks.{block_end, blocks_of, rows_text}
@@ -49,7 +49,7 @@ abbrev pub page_end : Blocks → Tally → Summary → ℕ → ℕ → List ℕ
 page_end blocks tally summary first last = block_end blocks.count ++ codes "</main>\n" ++ verdict_text tally summary first last ++ help_text
 
 -- and of the page of a log that is refused
-abbrev pub refused_end : Fault → Option Cause → Blocks → Tally → Summary → ℕ → ℕ → List ℕ
+abbrev pub refused_end : Fault → Option RefusalCause → Blocks → Tally → Summary → ℕ → ℕ → List ℕ
 refused_end why cause blocks tally summary first last =
     block_end blocks.count ++ stop_line why ++ codes "</main>\n" ++ refused_verdict why cause tally summary first last ++ help_text
 

@@ -15,7 +15,7 @@ ghost use Rattle.trace_report.specs.proving.Following.{Follows, IsSilent, IsWait
 ghost use Rattle.trace_report.specs.proving.Pages.{row_of};
 
 use crate::events::role_of_step;
-use crate::places::{Extent, Places};
+use crate::places::{MessageExtent, Places};
 use crate::row::{MessagePlace, Row};
 use direction::Dir;
 use isotp_receive::{Ended, Event, Pair, Verdict};
@@ -57,7 +57,7 @@ impl Follower {
         }
     }
 
-    /// Takes what a frame did, and answers its rows. Most frames add none: laid in line, so that no room is cleared for rows
+    /// Takes what a frame did, and answers its rows. Most frames add none: inlined, so that no room is cleared for rows
     /// then.
     #[inline(always)]
     pub(crate) fn take<'a>(&mut self, seen: Seen<'a>) -> NewRows<'a>
@@ -91,7 +91,7 @@ impl Follower {
         &mut self,
         here: FramePlace,
         message: Judged<'a>,
-        extent: Extent,
+        extent: MessageExtent,
     ) -> (Option<Row<'a>>, Row<'a>)
         ensures places { self.new.places ≡ self.old.places }
         ensures next { (M : List Message) → IsJudgedAfter M message.entry → message.entry.item_number ≡ number_after M (sent message.entry)
@@ -170,7 +170,7 @@ fn dropped_row<'a>(here: FramePlace, dir: Dir, event: Event<'_>) -> Option<Row<'
         Verdict::Dropped(reason) => Some(Row::Dropped {
             place: here,
             dir,
-            named: event.ended.is_some(),
+            linked: event.ended.is_none(),
             reason,
         }),
         Verdict::Message(_) | Verdict::Began | Verdict::Stored | Verdict::Flow => None,

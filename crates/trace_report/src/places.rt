@@ -23,7 +23,7 @@ pub(crate) struct Places {
 
 /// Where a message begins, and how many frames carry it.
 #[derive(Clone, Copy, Debug)]
-pub(crate) struct Extent {
+pub(crate) struct MessageExtent {
     pub first: FramePlace,
     pub frames: u64,
 }
@@ -42,7 +42,7 @@ impl Places {
     /// Takes what a frame in this place did, and answers the extent of the message that it completed. Where it completed none,
     /// the answer says nothing.
     #[inline(always)]
-    pub(crate) fn take(&mut self, here: FramePlace, dir: Dir, event: Event<'_>) -> Extent
+    pub(crate) fn take(&mut self, here: FramePlace, dir: Dir, event: Event<'_>) -> MessageExtent
         ensures next { (T : List Entry) (e : Entry) → e.line ≡ here.line → e.micros ≡ here.micros → e.dir ≡ dir → length T < 2 ^ 62
             → seen_event event.entry ≡ verdict MESSAGE_LIMIT T e → KnowsPlaces T self.old → KnowsPlaces (T ++ e ∷ []) self.new }
         ensures first { (T : List Entry) (e : Entry) (bytes : List ℕ) → e.line ≡ here.line → e.micros ≡ here.micros → e.dir ≡ dir
@@ -56,6 +56,6 @@ impl Places {
         let frames = frames_carrying(begun, self.frames.of(dir));
         let first = self.begun.take(here, dir, event);
         self.frames.take(dir, event.verdict);
-        Extent { first, frames }
+        MessageExtent { first, frames }
     }
 }

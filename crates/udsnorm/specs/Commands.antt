@@ -14,7 +14,7 @@ use Rattle.trace_canon.specs.ComparisonText.{comparison_text}
 use Rattle.trace_log.specs.Devices.{AgreesWith, bytes_given, ReadFrom, WroteTo}
 use Rattle.trace_canon.specs.ExplainScript.{explain_script}
 use Rattle.trace_canon.specs.Finding.{Finds, NeedsMemoryToFind, RanToFind}
-use Rattle.trace_text.specs.ListText.{list_text}
+use Rattle.trace_text.specs.ItemLines.{list_text}
 use Rattle.trace_canon.specs.ItemText.{RanOverItems, TextOfItems, WritesItems}
 use Rattle.trace_canon.specs.MessageLines.{placing_script}
 use Rattle.trace_log.specs.Needing.{HasFrame, IsKeptForMessage, NeedsMemoryToReceive}

@@ -7,7 +7,7 @@ use Rattle.trace_log.specs.declared.fault.Fault.{Fault}
 use Rattle.trace_log.specs.declared.fault.Fault.TheVariants.{BadLine, Oversize, LogLimit, OutputLimit, Read, Write, Memory}
 use Rattle.trace_log.specs.declared.summary.Summary.{Summary}
 use Rattle.trace_report.specs.Causes.{cause_of}
-use Rattle.trace_report.specs.declared.cause.Cause.{Cause}
+use Rattle.trace_report.specs.declared.cause.RefusalCause.{RefusalCause}
 use Rattle.trace_run.specs.Told.{GlimpseValue}
 use Rattle.udsnorm.specs.declared.commands.Job.{Job}
 use Rattle.udsnorm.specs.declared.commands.Job.TheVariants as job
@@ -25,7 +25,7 @@ abbrev pub knows : Which → Matter → Option Known
 knows which about = Some (record { which = which; matter = about })
 
 -- it is known why this log is refused, if anything is
-abbrev pub knows_cause : Which → Option Cause → Option Known
+abbrev pub knows_cause : Which → Option RefusalCause → Option Known
 knows_cause which None = None
 knows_cause which (Some cause) = knows which (matter.Refused cause)
 

@@ -6,7 +6,7 @@ use Rattle.isotp_receive.specs.Trace.{Entry}
 use Rattle.isotp_receive.specs.Verdict.{messages}
 use Rattle.uds_exchange.specs.Decider.{DeciderValue, decider_after, AreDecidedBy}
 use Rattle.uds_exchange.specs.Meaning.{ItemValue}
-use Rattle.trace_text.specs.ListText.{list_text_from}
+use Rattle.trace_text.specs.ItemLines.{list_text_from}
 use Rattle.trace_canon.specs.WatchScript.{decided_of}
 use Rattle.trace_text.specs.declared.item_style.ItemStyle.{ItemStyle}
 

@@ -1,7 +1,7 @@
 -- The sink was put each item that the message decides.
 use Rattle.std.proofs.Common.{[], ap, sym, subst, ◌∙◌}
 use Rattle.std.proofs.lemmas.Result.{on_ok_weaker, on_err_weaker}
-use Rattle.trace_text.specs.ListText.{list_text_from}
+use Rattle.trace_text.specs.ItemLines.{list_text_from}
 use Rattle.trace_canon.proofs.WatchScripts.{said_items}
 use Rattle.trace_canon.proofs.watcher.say_decided.Goals as goal
 

@@ -1,7 +1,7 @@
 -- The sink was put each item that is left.
 use Rattle.std.proofs.Common.{sym, subst, ◌∙◌}
 use Rattle.uds_exchange.specs.Decided.{undecided}
-use Rattle.trace_text.specs.ListText.{list_text_from}
+use Rattle.trace_text.specs.ItemLines.{list_text_from}
 use Rattle.trace_canon.proofs.WatchScripts.{said_items}
 use Rattle.trace_canon.proofs.watcher.say_undecided.Goals as goal
 

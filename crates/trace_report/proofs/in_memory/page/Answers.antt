@@ -1,3 +1,4 @@
+-- The text that the machine writes is the page, and the counts are those of its answer.
 use Rattle.std.proofs.Common.{[], ap, sym, ◌∙◌}
 use Rattle.isotp_receive.specs.declared.TheConstants.{MESSAGE_LIMIT}
 use Rattle.trace_canon.proofs.Promises.{agrees_in_memory, gathered, taken_is_held, told_in_memory}

@@ -1,3 +1,4 @@
+-- The run is by the script of the page, whose title is made of what the call is handed.
 use Rattle.std.proofs.Common.{◌≡◌, subst}
 use Rattle.isotp_receive.specs.declared.TheConstants.{MESSAGE_LIMIT}
 use Rattle.trace_run.specs.Told.{RanLenient, answers_counts, command, glimpse_of, needs_none}

@@ -1,3 +1,4 @@
+-- The rows of a frame, by whether it completed a message, and what the follower knows behind it.
 use Rattle.std.proofs.Common.{◌≡◌, refl, List, ap, sym, subst, ◌∙◌, [], ◌∷◌, ◌++◌}
 use Rattle.isotp_receive.specs.declared.TheConstants.{MESSAGE_LIMIT}
 use Rattle.isotp_receive.specs.EventSeen.{seen_event}

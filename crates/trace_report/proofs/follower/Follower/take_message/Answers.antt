@@ -1,3 +1,4 @@
+-- The row of a message and what closes before it, by what becomes of the message.
 use Rattle.std.proofs.Common.{◌≡◌, ◌⊎◌, inl, inr, Bool, Option, Some, ℕ, ap, sym, ◌∙◌, true, false}
 use Rattle.std.specs.Prelude.{if◌then◌else◌}
 use Rattle.uds_exchange.specs.Judging.{number_after, sent, step_after}

@@ -1,3 +1,4 @@
+-- Where a message begins and how many frames carry it is known by what stood before.
 use Rattle.std.proofs.Common.{arith, ap, ◌∙◌}
 use Rattle.isotp_receive.specs.EventSeen.{seen_event}
 use Rattle.isotp_receive.specs.Verdict.{EventValue}
