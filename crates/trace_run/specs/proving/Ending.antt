@@ -60,7 +60,8 @@ GivesUp stands refusals target fault.Write receiver old result new = (result ≡
 -- a run ends with this answer of the machine, and all that it told was written
 abbrev pub EndsSaying : {A W : Type 0} → Ghosts W → Script → Answering A → W → Settings → List ℕ → List (Option Stamped) → Result A Stop → W → Type 0
 EndsSaying target script answers start settings log meanings result new =
-    answers (trace settings meanings) (summary_of MESSAGE_LIMIT settings log meanings) result × Carries target start (whole_of_lines script MESSAGE_LIMIT settings log meanings) false [] new
+    answers (trace settings meanings) (summary_of MESSAGE_LIMIT settings log meanings) result
+    × Carries target start (whole_of_lines script MESSAGE_LIMIT settings log meanings) false [] new
 
 -- how a run ends that has read the log, whose lines mean this
 abbrev pub EndsTelling : {A W : Type 0} → Ghosts W → Script → Answering A → W → Settings → List ℕ → List (Option Stamped) → Result A Fault → W → Type 0

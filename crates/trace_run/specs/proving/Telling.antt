@@ -53,7 +53,8 @@ pub record Tells {M W : Type 0} (stands : List Entry → M → Type 0) (target :
   pub carried : Carries target start (told script.word T) failed held now
 
 -- The run stopped at the frame e: nothing of it was said.
-pub record StopsTelling {W : Type 0} (target : Ghosts W) (script : Script) (needs : List Entry → Entry → Type 0) (start : W) (T : List Entry) (e : Entry) (why : Fault) (failed : Bool) (held : List ℕ) (now : W) : Type 0 where
+pub record StopsTelling {W : Type 0} (target : Ghosts W) (script : Script) (needs : List Entry → Entry → Type 0) (start : W) (T : List Entry)
+    (e : Entry) (why : Fault) (failed : Bool) (held : List ℕ) (now : W) : Type 0 where
   pub within : script.strict ≡ true → AllByRecursion AnnouncesWithin T
   pub reason : StopsFor script.strict needs T e why
   pub carried : Carries target start (told script.word T) failed held now
@@ -96,7 +97,8 @@ IsFrameEvent T e frame = IsEventOf T e frame.line frame.micros frame.dir frame.e
 -- The frame e was told after the frames T, or the run stopped at it. Whatever was written before is.
 pub record TellsFrame {M W A : Type 0} (stands : M → List Entry → M → Type 0) (scripts : M → Script) (needs : M → List Entry → Entry → Type 0) (target : Ghosts W)
     (T : List Entry) (e : Entry) (before : Telling M W) (old : W) (result : Result A Fault) (after : Telling M W) (new : W) : Type 0 where
-  pub ok : OnOk result ((target_start : W) (machine_start : M) → HasTold stands scripts target target_start machine_start T before old → HasTold stands scripts target target_start machine_start (T ++ e ∷ []) after new)
+  pub ok : OnOk result ((target_start : W) (machine_start : M) → HasTold stands scripts target target_start machine_start T before old
+      → HasTold stands scripts target target_start machine_start (T ++ e ∷ []) after new)
   pub err : IfErr result (λ fault. (target_start : W) (machine_start : M) → HasTold stands scripts target target_start machine_start T before old
       → HasStopped scripts needs target target_start machine_start T e fault after new)
   pub kept : (target_start : W) (machine_start : M) (earlier : List Entry) → HasTold stands scripts target target_start machine_start T before old
