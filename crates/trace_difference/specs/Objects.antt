@@ -5,7 +5,7 @@ use Rattle.uds_difference.specs.declared.row.Row.{Row}
 use Rattle.uds_difference.specs.declared.row.Row.TheVariants.{Same, Changed, OnlyLeft, OnlyRight}
 use Rattle.trace_text.specs.Json.{Value, Members, nothing, member, object_line}
 use Rattle.trace_text.specs.Json as json
-use Rattle.trace_text.specs.ListText.{item_object}
+use Rattle.trace_text.specs.ItemLines.{item_object}
 use Rattle.trace_text.specs.declared.item_style.Numbering.TheVariants.{Hidden}
 use Rattle.trace_difference.specs.Hunks.{is_change, left_in, right_in}
 

@@ -7,7 +7,7 @@ ghost use Rattle.trace_difference.specs.Written.{difference_text, written_rows};
 
 use crate::written::{Side, write_difference};
 use std::alloc::{AllocError, Global};
-use trace_canon::counted::CountedComparison;
+use trace_canon::in_memory::CountedComparison;
 use trace_canon::{Compared, compare};
 use trace_io::{Bytes, Writing};
 use trace_log::{CompareFault, Config, Fault};

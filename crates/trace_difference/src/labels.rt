@@ -5,7 +5,7 @@ ghost use Rattle.trace_difference.specs.Labels.{escaped, is_plain, is_plain_name
 
 use text_parts::Part;
 use trace_io::TextSink;
-use trace_text::say::say_text;
+use trace_text::values::say_text;
 
 /// The name of a file: as it is where it is plain, and else between quotes.
 #[derive(Clone, Copy)]

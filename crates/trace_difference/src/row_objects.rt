@@ -9,7 +9,7 @@ use crate::hunk_rows::{is_change, left_in, right_in};
 use crate::written::Side;
 use text_parts::{Either, Part, say};
 use trace_io::TextSink;
-use trace_text::say::say_text;
+use trace_text::values::say_text;
 use trace_text::{Number, Numbering, say_item_object};
 use uds_difference::Row;
 use uds_exchange::Meaning;

@@ -2,7 +2,7 @@
 use Rattle.std.proofs.Common.{◌≡◌, ◌⊎◌, ℕ, List, [], ◌∷◌, length, Result, Ok, Err, arith, refl, ap, sym, ◌∙◌}
 use Rattle.std.specs.Prelude.{◌↔◌}
 use Rattle.isotp_receive.specs.declared.TheConstants.{MESSAGE_LIMIT}
-use Rattle.trace_canon.specs.declared.counted.CountedComparison.{CountedComparison}
+use Rattle.trace_canon.specs.declared.in_memory.CountedComparison.{CountedComparison}
 use Rattle.trace_difference.specs.Written.{difference_text}
 use Rattle.trace_difference.proofs.Promises.{nothing_is_written_of_equal_sessions}
 use Rattle.trace_log.specs.Settings.{Settings}

@@ -8,7 +8,7 @@ use Rattle.trace_canon.specs.Compared.{difference}
 use Rattle.trace_canon.specs.InMemory.{ComparesWithCounts, IsCanonicalLogWith, IsRefused, NeedsMemoryForCanonicalLog}
 use Rattle.trace_canon.specs.declared.comparing.Comparison.{Comparison}
 use Rattle.trace_canon.specs.declared.comparing.Comparison.TheVariants.{Same, Different}
-use Rattle.trace_canon.specs.declared.counted.CountedComparison.{CountedComparison}
+use Rattle.trace_canon.specs.declared.in_memory.CountedComparison.{CountedComparison}
 use Rattle.trace_log.specs.Answers.{TellsOutcome}
 use Rattle.trace_log.specs.Laws.{HaveSameMeaning, IsMessageLimit, OutcomeIsOne}
 use Rattle.trace_log.specs.Messages.{HasMeaning}

@@ -8,7 +8,7 @@ use Rattle.trace_canon.specs.InMemory.{ComparesWithCounts}
 use Rattle.trace_canon.specs.Sessions.{IsAcceptedWith}
 use Rattle.trace_canon.specs.declared.comparing.Compared.{Compared}
 use Rattle.trace_canon.specs.declared.comparing.Comparison.{Comparison}
-use Rattle.trace_canon.specs.declared.counted.CountedComparison.{CountedComparison}
+use Rattle.trace_canon.specs.declared.in_memory.CountedComparison.{CountedComparison}
 use Rattle.trace_log.specs.Laws.{CleanLogHasBothSides}
 use Rattle.trace_log.specs.Settings.{Settings}
 use Rattle.trace_log.specs.Summing.{is_clean, summary_of}

@@ -4,7 +4,7 @@ ghost use Rattle.udsnorm_c.specs.Answered as Spec;
 ghost use Rattle.udsnorm_c.specs.Spelled.{status_words};
 
 use trace_canon::Comparison;
-use trace_canon::counted::CountedComparison;
+use trace_canon::in_memory::CountedComparison;
 use trace_log::{CompareFault, ConfigFault, Fault, Summary};
 use trace_report::in_memory::NoPairPage;
 

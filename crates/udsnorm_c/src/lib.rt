@@ -27,7 +27,7 @@ use crate::room::{put, put_front};
 use crate::sides::{USUAL_TESTER, USUAL_UNIT, config_of, notation_of, style_of};
 pub use answer::{UdsnormAnswer, UdsnormWords};
 use std::alloc::Global;
-use trace_canon::counted;
+use trace_canon::in_memory;
 
 /// The numbers of the version, a byte for each: that of `VERSION` at the top.
 const VERSION: u32 = 0x01_00_00;
@@ -47,7 +47,7 @@ pub extern "C" fn udsnorm_normalise(
     ensures status { result ≡ answer.new.status }
 {
     *answer = match config_of(tester, unit, limit) {
-        Ok(config) => put(counted::canonical_log(alloc, &config, log), out),
+        Ok(config) => put(in_memory::canonical_log(alloc, &config, log), out),
         Err(fault) => refusal_of(fault),
     };
     answer.status
@@ -70,7 +70,7 @@ pub extern "C" fn udsnorm_list(
 {
     *answer = match config_of(tester, unit, limit) {
         Ok(config) => match style_of(style) {
-            Some(style) => put(counted::item_list(alloc, &config, style, log), out),
+            Some(style) => put(in_memory::item_list(alloc, &config, style, log), out),
             None => no_style(),
         },
         Err(fault) => refusal_of(fault),
@@ -95,7 +95,7 @@ pub extern "C" fn udsnorm_messages(
 {
     *answer = match config_of(tester, unit, limit) {
         Ok(config) => match notation_of(style) {
-            Some(notation) => put(counted::message_lines(alloc, &config, notation, log), out),
+            Some(notation) => put(in_memory::message_lines(alloc, &config, notation, log), out),
             None => no_style(),
         },
         Err(fault) => refusal_of(fault),
@@ -120,7 +120,7 @@ pub extern "C" fn udsnorm_explain(
 {
     *answer = match config_of(tester, unit, limit) {
         Ok(config) => match notation_of(style) {
-            Some(notation) => put(counted::explanation(alloc, &config, notation, log), out),
+            Some(notation) => put(in_memory::explanation(alloc, &config, notation, log), out),
             None => no_style(),
         },
         Err(fault) => refusal_of(fault),
@@ -143,7 +143,7 @@ pub extern "C" fn udsnorm_find(
 {
     *answer = match config_of(USUAL_TESTER, USUAL_UNIT, limit) {
         Ok(config) => match notation_of(style) {
-            Some(notation) => put(counted::pair_lines(alloc, &config, notation, log), out),
+            Some(notation) => put(in_memory::pair_lines(alloc, &config, notation, log), out),
             None => no_style(),
         },
         Err(fault) => refusal_of(fault),
@@ -166,7 +166,7 @@ pub extern "C" fn udsnorm_compare(
     ensures status { result ≡ answer.new.status }
 {
     *answer = match config_of(tester, unit, limit) {
-        Ok(config) => comparison_answer(counted::comparison(alloc, &config, left, right)),
+        Ok(config) => comparison_answer(in_memory::comparison(alloc, &config, left, right)),
         Err(fault) => refusal_of(fault),
     };
     answer.status

@@ -6,7 +6,7 @@ ghost use Rattle.udsnorm_c.specs.Spelled.{put_at_front};
 use crate::answer::{
     UdsnormAnswer, fault_answer, no_pair_answer, pair_answer, side_answer, text_answer,
 };
-use trace_canon::counted::CountedText;
+use trace_canon::in_memory::CountedText;
 use trace_difference::in_memory::CountedDifference;
 use trace_log::{CompareFault, Fault};
 use trace_report::in_memory::{CountedPage, NoPairPage};
