@@ -10,7 +10,7 @@ use Rattle.can_log.specs.declared.frame.Id.TheVariants as id
 use Rattle.uds_find.specs.Credit.{is_same, is_same_pair}
 use Rattle.uds_find.specs.Finding.{line_order}
 use Rattle.uds_find.specs.contracts.pair.CreditLineOrd.TheImpl as line_ord
-use Rattle.uds_find.specs.contracts.pair.PairOrd.TheImpl as pair_ord
+use Rattle.uds_find.specs.contracts.pair.IdPairOrd.TheImpl as pair_ord
 use Rattle.uds_find.specs.declared.pair.CreditLine.{CreditLine}
 use Rattle.uds_find.specs.declared.pair.IdPair.{IdPair}
 
