@@ -53,13 +53,3 @@ pub difference_of : (notation : Notation) (left_name right_name : List ℕ) (lim
     → IsDifferenceWith notation left_name right_name limit settings one other text counted
 difference_of notation left_name right_name limit settings one other text answer compared counted is compares said counts =
     (compared, subst (ComparesInMemory limit settings one other) is compares, said, counts)
-
--- there is none where memory was refused to it
-pub none_of_compared : (limit : ℕ) (settings : Settings) (one other : List ℕ) (answer : Result Compared CompareFault) (compared : Compared) → answer ≡ Ok compared
-    → ComparesInMemory limit settings one other answer → HasNoDifferenceText limit settings one other (Right Memory)
-none_of_compared limit settings one other answer compared is compares = inr (refl, compared, subst (ComparesInMemory limit settings one other) is compares)
-
--- nor where a log has no meaning
-pub none_of_fault : (limit : ℕ) (settings : Settings) (one other : List ℕ) (answer : Result Compared CompareFault) (fault : CompareFault) → answer ≡ Err fault
-    → ComparesInMemory limit settings one other answer → HasNoDifferenceText limit settings one other fault
-none_of_fault limit settings one other answer fault is compares = inl (subst (ComparesInMemory limit settings one other) is compares)

@@ -1,5 +1,5 @@
 -- Hunks lead from the left list to the right one.
-use Rattle.std.proofs.Common.{◌≡◌, ℕ, zero, suc, ◌+◌, ◌-◌, ◌≤◌, ◌<◌, Bool, false, ◌||◌, List, [], ◌∷◌, ◌++◌, length, take, drop, map, ap, ap₂, subst, sym, ◌∙◌, arith, refl, inl, inr, Some, Option}
+use Rattle.std.proofs.Common.{◌≡◌, ℕ, zero, suc, ◌+◌, ◌*◌, ◌-◌, ◌≤◌, ◌<◌, Bool, false, ◌||◌, List, [], ◌∷◌, ◌++◌, length, take, drop, map, ap, ap₂, subst, sym, ◌∙◌, arith, refl, inl, inr, Some, Option}
 use Rattle.std.specs.Prelude.{slice_get}
 use Rattle.text_parts.specs.Parts.{text_if_some}
 use Rattle.std.proofs.Math.Seq.{drop-nil}
