@@ -3,7 +3,8 @@ use Rattle.std.proofs.Common.{◌≡◌, ℕ, ◌+◌, ◌-◌, ◌<◌, Bool, t
 use Rattle.std.specs.List.{flat_map}
 use Rattle.uds_exchange.specs.Meaning.{ItemValue}
 use Rattle.uds_difference.specs.declared.row.Row.{Row}
-use Rattle.trace_difference.specs.Hunks.{Hunk, changes_within, hunk_length, left_count, left_in, right_count, right_in}
+use Rattle.shown_rows.specs.Hunks.{Hunk, hunk_length}
+use Rattle.shown_rows.specs.Rows.{changes_within, left_count, left_in, right_count, right_in}
 use Rattle.trace_difference.specs.Lines.{line_text, lines_of}
 use Rattle.trace_difference.specs.Unified.{hunk_text, span_text}
 use Rattle.trace_difference.specs.proving.HunkOf.{hunk_of}

@@ -1,5 +1,4 @@
 pub mod Saying
-pub mod RowSteps
 pub mod LineSteps
 pub mod HunkSteps
 pub mod LineTurns
@@ -8,5 +7,5 @@ pub mod ObjectTexts
 pub mod ObjectTurns
 pub mod Leading
 pub mod EqualSessions
-pub mod Counted
+pub mod ListedLines
 pub mod Promises

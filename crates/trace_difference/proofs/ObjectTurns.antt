@@ -3,7 +3,7 @@ use Rattle.std.proofs.Common.{◌≡◌, ℕ, ◌+◌, Bool, true, false, List, 
 use Rattle.uds_exchange.specs.Meaning.{ItemValue}
 use Rattle.uds_difference.specs.declared.row.Row.{Row}
 use Rattle.trace_text.specs.Json.{object_line}
-use Rattle.trace_difference.specs.Hunks.{is_change, left_in, right_in}
+use Rattle.shown_rows.specs.Rows.{is_change, left_in, right_in}
 use Rattle.trace_difference.specs.Objects.{place_of, row_members, row_text, rows_text}
 use Rattle.trace_difference.proofs.Saying.{IsLeft, same-rest, say-more}
 

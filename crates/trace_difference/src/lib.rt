@@ -17,7 +17,6 @@
 #![tactic(auto)]
 
 mod hunk_lines;
-mod hunk_rows;
 mod labels;
 pub mod laws;
 mod row_objects;

@@ -1,6 +1,6 @@
 use Rattle.std.proofs.Common.{◌≤◌, drop}
 use Rattle.std.specs.List.{flat_map}
-use Rattle.trace_difference.specs.Hunks.{hunks}
+use Rattle.shown_rows.specs.Hunks.{hunks}
 use Rattle.trace_difference.specs.Unified.{hunk_text}
 use Rattle.trace_difference.proofs.HunkSteps.{hunks_left}
 use Rattle.trace_difference.proofs.Saying.{IsLeft}

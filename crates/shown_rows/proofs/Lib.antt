@@ -1,0 +1,6 @@
+pub mod RowSteps
+pub mod Counted
+pub mod ShownRows
+pub mod EachChange
+pub mod ChangeSteps
+pub mod Promises
