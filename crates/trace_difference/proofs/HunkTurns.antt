@@ -9,7 +9,7 @@ use Rattle.trace_difference.specs.Lines.{line_text, lines_of}
 use Rattle.trace_difference.specs.Unified.{hunk_text, span_text}
 use Rattle.trace_difference.specs.proving.HunkOf.{hunk_of}
 use Rattle.trace_difference.proofs.HunkSteps.{at-hunk, before-hunk, hunks_left, in-hunk}
-use Rattle.trace_difference.proofs.Saying.{IsLeft, same-rest, say-more}
+use Rattle.text_parts.proofs.Promises.{IsLeft, same-rest, say-more}
 
 module _ {S : Type 0} (says : S → List ℕ → S → Type 0) (onward : (s m t : S) (a b : List ℕ) → says s a m → says m b t → says s (a ++ b) t)
     (text : Hunk → List ℕ) (old : S) (whole : List ℕ) (rows later : List Row) (row : Row) (shown i j : ℕ) (now : S) where

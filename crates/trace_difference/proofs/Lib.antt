@@ -1,4 +1,3 @@
-pub mod Saying
 pub mod LineSteps
 pub mod HunkSteps
 pub mod LineTurns

@@ -23,7 +23,7 @@ use uds_exchange::Messages;
 
 /// A message that is kept: what a row tells of it, and where its bytes lie.
 #[derive(Clone, Copy)]
-pub(crate) struct KeptMessage {
+pub struct KeptMessage {
     pub role: MessageRole,
     pub dir: Dir,
     pub place: MessagePlace,
@@ -65,7 +65,7 @@ pub(crate) struct KeptItem {
 /// The rows of a session, seen as their list. What they tell of items and of sorts is kept as they come, and not looked
 /// for.
 #[derive(Drop)]
-pub(crate) struct KeptRows {
+pub struct KeptRows {
     messages: Messages,
     rows: Vec<KeptRow>,
     items: Vec<KeptItem>,
@@ -116,16 +116,24 @@ impl KeptRows {
     }
 
     /// How many rows there are.
-    pub(crate) fn len(&self) -> usize
+    pub fn len(&self) -> usize
         ensures value { result ≡ length self.now }
         ensures small { result < 2 ^ 63 }
     {
         self.rows.len()
     }
 
+    /// Where the row stands with which the item of a place begins, counted from 0, if there is one.
+    pub fn begin(&self, item: usize) -> Option<usize> {
+        match self.items.get(item) {
+            Some(item) => Some(item.begin),
+            None => None,
+        }
+    }
+
     /// The row at a place, counted from 0, if there is one.
     #[inline(always)]
-    pub(crate) fn row(&self, at: usize) -> Option<Row<'_>>
+    pub fn row(&self, at: usize) -> Option<Row<'_>>
         ensures { option_map row_of result ≡ slice_get self.now at }
     {
         match self.rows.get(at) {
@@ -135,7 +143,7 @@ impl KeptRows {
     }
 
     /// How many items they tell.
-    pub(crate) fn items(&self) -> usize
+    pub fn items(&self) -> usize
         ensures value { result ≡ length (items_in self.now) }
         ensures small { result < 2 ^ 63 }
     {
@@ -144,7 +152,7 @@ impl KeptRows {
 
     /// The item at a place, counted from 0, if there is one.
     #[inline(always)]
-    pub(crate) fn item(&self, at: usize) -> Option<LentItem<'_>>
+    pub fn item(&self, at: usize) -> Option<LentItem<'_>>
         ensures { option_map item_of result ≡ slice_get (items_in self.now) at }
     {
         match self.items.get(at) {
@@ -154,7 +162,7 @@ impl KeptRows {
     }
 
     /// How many there are of each sort.
-    pub(crate) fn counts(&self) -> SortCounts
+    pub fn counts(&self) -> SortCounts
         ensures { result ≡ counts_in self.now }
     {
         self.counts

@@ -53,6 +53,7 @@ pub mod laws;
 mod links;
 mod log_names;
 mod looks;
+mod loss_words;
 mod lost_rows;
 mod marks;
 mod message_rows;
@@ -74,11 +75,29 @@ mod two;
 mod verdict;
 mod words;
 
-pub use cause::{Cause, CauseOf, CauseRow, cause_of, row_of_cause};
+pub use blocks::{ChartHead, is_request_role};
+pub use cause::{Cause, CauseLine, CauseOf, CauseRow, cause_of, row_of_cause};
+pub use cells::{CellEnd, CellFront};
+pub use counts::{Counts, SortCounts};
+pub use front::{Identifiers, PageStart, Shapes};
+pub use help::{HelpHeading, Legend, Limits, Tail, TimesWords};
+pub use items::{LentItem, LentMessage, is_answer_role};
 pub use keeper::keep_two;
+pub use kept_rows::{KeptMessage, KeptRows};
+pub use log_names::Name;
 pub use looks::{Look, look_told};
+pub use loss_words::{DroppedWords, EndedWords, UnfinishedWords};
+pub use lost_rows::{say_dropped_row, say_ended_row, say_no_answer_row, say_unfinished_row};
+pub use message_rows::{
+    FurtherNote, MessageFront, NamedLines, Note, RoleWords, asked_at, begins_item,
+};
 pub use pair_page::{PairTitle, write_pair_page};
+pub use reasons::{StrictWords, UncleanReasons};
+pub use refusal::Refusal;
 pub use reporter::report;
+pub use row::{Arrow, MessagePlace, MessageRole, Row};
 pub use session::Session;
 pub use style::report_style;
 pub use two::Two;
+pub use verdict::{SpanOf, is_called_clean};
+pub use words::{BytesApart, Data, MoreWords, Seconds, Stamp, has_word, shown_byte};

@@ -210,7 +210,7 @@ impl<'a> Part for Heading<'a> {
 }
 
 /// Whether a page calls the recording clean: it is, and tester and unit don't look exchanged.
-pub(crate) fn is_called_clean(summary: &Summary) -> bool
+pub fn is_called_clean(summary: &Summary) -> bool
     ensures { result ≡ Spec.is_called_clean summary.now }
 {
     summary.is_clean() && !summary.looks_exchanged
@@ -248,7 +248,7 @@ impl<'a> Part for StartOf<'a> {
 
 /// From when to when a log of so many frames goes, where it has some.
 #[derive(Clone, Copy)]
-pub(crate) struct SpanOf(pub u64, pub u64, pub u64);
+pub struct SpanOf(pub u64, pub u64, pub u64);
 
 impl Part for SpanOf {
     ghost use Rattle.trace_report.specs.Verdict.{span_of};

@@ -20,7 +20,7 @@ pub(crate) const SHOWN_FIRST: usize = 32;
 
 /// A time in seconds.
 #[derive(Clone, Copy)]
-pub(crate) struct Stamp(pub u64);
+pub struct Stamp(pub u64);
 
 impl Part for Stamp {
     ghost use Rattle.trace_canon.specs.MessageLines.{stamp_text};
@@ -34,7 +34,7 @@ impl Part for Stamp {
 
 /// The seconds from one time to another: a minus, where one is before another.
 #[derive(Clone, Copy)]
-pub(crate) struct Seconds(pub u64, pub u64);
+pub struct Seconds(pub u64, pub u64);
 
 impl Part for Seconds {
     ghost use Rattle.trace_report.specs.Words.{seconds_between};
@@ -154,7 +154,7 @@ fn is_mark(byte: u8) -> bool
 }
 
 /// Whether four bytes in a row are.
-fn has_word(bytes: &[u8]) -> bool
+pub fn has_word(bytes: &[u8]) -> bool
     ensures { result ≡ Spec.has_word bytes.now }
 {
     let mut rest = bytes;
@@ -176,7 +176,7 @@ fn has_word(bytes: &[u8]) -> bool
 }
 
 /// What is shown for a byte among others that may be text.
-fn shown_byte(byte: u8) -> u8
+pub fn shown_byte(byte: u8) -> u8
     ensures { result ≡ Spec.shown_byte byte }
 {
     if is_mark(byte) || byte == b' ' {
@@ -257,7 +257,7 @@ impl<'a> Part for Letters<'a> {
 
 /// Two digits for each byte, and a blank between.
 #[derive(Clone, Copy)]
-struct BytesApart<'a>(&'a [u8]);
+pub struct BytesApart<'a>(pub &'a [u8]);
 
 impl<'a> Part for BytesApart<'a> {
     ghost use Rattle.trace_report.specs.Words.{bytes_apart};
@@ -274,7 +274,7 @@ impl<'a> Part for BytesApart<'a> {
 
 /// The bytes of a message, as far as its row shows them.
 #[derive(Clone, Copy)]
-pub(crate) struct Data<'a>(pub &'a [u8]);
+pub struct Data<'a>(pub &'a [u8]);
 
 impl<'a> Part for Data<'a> {
     ghost use Rattle.trace_report.specs.Words.{data_text};
@@ -344,9 +344,23 @@ impl<'a> Part for BriefData<'a> {
                     BytesApart(front),
                     " and ",
                     Number(more),
-                    Either(more == 1, " byte more", " bytes more"),
+                    MoreWords(more),
                 ),
             );
         }
+    }
+}
+
+/// So many bytes more, in words behind their number.
+#[derive(Clone, Copy)]
+pub struct MoreWords(pub u64);
+
+impl Part for MoreWords {
+    ghost use Rattle.trace_report.specs.Words.{more_words};
+
+    ghost text = { λ more. more_words more.0 };
+
+    fn say<S: TextSink>(self, out: &mut S) {
+        say(out, Either(self.0 == 1, " byte more", " bytes more"));
     }
 }

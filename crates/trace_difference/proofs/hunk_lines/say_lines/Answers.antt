@@ -3,7 +3,7 @@ use Rattle.std.proofs.lemmas.List.{drop_all, drop_more}
 use Rattle.uds_difference.specs.declared.row.Row.TheVariants.{Same, Changed, OnlyLeft, OnlyRight}
 use Rattle.trace_difference.proofs.LineSteps.{begins}
 use Rattle.trace_difference.proofs.LineTurns.{turn-changed, turn-end, turn-left, turn-right, turn-same}
-use Rattle.trace_difference.proofs.Saying.{none-said}
+use Rattle.text_parts.proofs.Promises.{none-said}
 use Rattle.trace_difference.proofs.hunk_lines.say_lines.Goals as goal
 use Rattle.trace_difference.proofs.hunk_lines.say_lines.Goals.{in-Same, in-Changed, in-OnlyLeft, in-OnlyRight}
 
