@@ -1,5 +1,5 @@
 //! What holds of the columns of any two messages. Each law is its contract; a call does nothing.
-ghost use Rattle.byte_columns.specs.Laws.{ColumnsHaveBothMessages, EqualLengthsPairByPlace, LinesStandOnce, NoneDiffersInTheSame};
+ghost use Rattle.byte_columns.specs.Laws.{ColumnsHaveBothMessages, EqualLengthsPairByPlace, LinesStandOnce, NoneDiffersInTheSame, StretchesAreWalked};
 
 /// Without gaps the columns are both messages.
 pub fn columns_have_both_messages()
@@ -19,4 +19,9 @@ pub fn none_differs_in_the_same()
 /// Each line stands once, in order, shown or folded.
 pub fn lines_stand_once()
     ensures { LinesStandOnce }
+{}
+
+/// The stretches of lines are those that a walk finds.
+pub fn stretches_are_walked()
+    ensures { StretchesAreWalked }
 {}

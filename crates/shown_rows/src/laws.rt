@@ -1,5 +1,5 @@
 //! What holds of any rows. Each law is its contract; a call does nothing.
-ghost use Rattle.shown_rows.specs.Laws.{ChangesHaveEachRow, CountsAddUp, ShownRowsAreThoseOfHunks};
+ghost use Rattle.shown_rows.specs.Laws.{ChangesHaveEachRow, CountsAddUp, EachItemStandsOnce, ShownRowsAreThoseOfHunks};
 
 /// What a page shows unfolded is what the hunks of a text have.
 pub fn shown_rows_are_those_of_hunks()
@@ -14,4 +14,9 @@ pub fn changes_have_each_row()
 /// The counts of the rows add up to those of both sessions.
 pub fn counts_add_up()
     ensures { CountsAddUp }
+{}
+
+/// Each item of both sessions stands in one row, in order.
+pub fn each_item_stands_once()
+    ensures { EachItemStandsOnce }
 {}
