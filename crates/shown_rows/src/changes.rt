@@ -41,7 +41,7 @@ pub fn change_at(front: Row, left: usize, right: usize, rows: &[Row]) -> Option<
 }
 
 /// Whether a change begins with a row, by the row in front of it.
-fn begins_change(front: Row, row: Row) -> bool
+pub fn begins_change(front: Row, row: Row) -> bool
     ensures { result ≡ begins_change front row }
 {
     match (front, row) {

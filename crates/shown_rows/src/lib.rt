@@ -18,7 +18,7 @@ mod hunks;
 pub mod laws;
 mod rows;
 
-pub use changes::{Change, change_at, count_changes};
+pub use changes::{Change, begins_change, change_at, count_changes};
 pub use folds::{context_behind, folded, is_shown};
 pub use hunks::hunk_length;
 pub use rows::{
