@@ -134,13 +134,7 @@ pub fn say_ended_row<S: TextSink>(
 }
 
 /// Says the row of a reception that stands at the end, to which links lead or not.
-pub fn say_unfinished_row<S: TextSink>(
-    linked: bool,
-    dir: Dir,
-    line: u64,
-    len: u32,
-    out: &mut S,
-)
+pub fn say_unfinished_row<S: TextSink>(linked: bool, dir: Dir, line: u64, len: u32, out: &mut S)
     ensures { S.says out.old (unfinished_row linked dir line len) out.new }
 {
     say(

@@ -340,12 +340,7 @@ impl<'a> Part for BriefData<'a> {
             let more = rest.len() as u64;
             say(
                 out,
-                (
-                    BytesApart(front),
-                    " and ",
-                    Number(more),
-                    MoreWords(more),
-                ),
+                (BytesApart(front), " and ", Number(more), MoreWords(more)),
             );
         }
     }
