@@ -2,14 +2,13 @@
 ghost use Rattle.std.specs.Prelude.{◌≡◌, ◌+◌, ◌-◌, ◌≤◌, ◌<◌, ◌++◌, codes, length, take, drop};
 ghost use Rattle.byte_columns.specs.Lines.{line, line_count};
 ghost use Rattle.trace_report.specs.Words.{letters};
-ghost use Rattle.trace_pair.specs.ColumnLines.{bytes_in, cells, line_of, whose_text};
-ghost use Rattle.trace_pair.specs.ColumnLines as Lines;
+ghost use Rattle.trace_pair.specs.ColumnLines.{bytes_in, cells, cells_behind, line_of, whose_text};
 ghost use Rattle.trace_pair.specs.Logs as Spec;
 
-use crate::column_words::{ByteOrGap, Whose};
+use crate::column_words::{ByteOrGap, MarkEnd, MarkStart, Whose};
 use crate::log::Log;
 use byte_columns::{Beside, Column};
-use text_parts::{When, say};
+use text_parts::say;
 use trace_io::TextSink;
 use trace_report::shown_byte;
 use trace_text::Number;
@@ -66,22 +65,49 @@ fn say_cells<S: TextSink>(log: Log, columns: &Beside<'_>, from: usize, to: usize
     requires inside { to ≤ length columns.now }
     ensures { S.says out.old (cells log (take (to - from) (drop from columns.now))) out.new }
 {
-    let mut marked = false;
+    if from < to {
+        let column = columns.column(from);
+        let differs = column.differs();
+        say(
+            out,
+            (
+                MarkStart(false, differs),
+                ByteOrGap(byte_of(log, column)),
+            ),
+        );
+        say_cells_behind(log, columns, from + 1, to, differs, out);
+    }
+}
+
+/// Says them behind a column that has a mark or has none.
+fn say_cells_behind<S: TextSink>(
+    log: Log,
+    columns: &Beside<'_>,
+    from: usize,
+    to: usize,
+    marked: bool,
+    out: &mut S,
+)
+    requires forward { from ≤ to }
+    requires inside { to ≤ length columns.now }
+    ensures { S.says out.old (cells_behind log marked (take (to - from) (drop from columns.now))) out.new }
+{
+    let mut marked = marked;
     'columns: for at in from..to {
         let column = columns.column(at);
         let differs = column.differs();
         say(
             out,
             (
-                When(marked && !differs, "</mark>"),
-                When(at > from, " "),
-                When(differs && !marked, "<mark>"),
+                MarkEnd(marked, differs),
+                " ",
+                MarkStart(marked, differs),
                 ByteOrGap(byte_of(log, column)),
             ),
         );
         marked = differs;
     }
-    say(out, When(marked, "</mark>"));
+    say(out, MarkEnd(marked, false));
 }
 
 /// Says its bytes there as letters.

@@ -26,6 +26,42 @@ impl Part for Whose {
     }
 }
 
+/// The start of a mark: of a column that differs or does not, behind one that has a mark or has none.
+#[derive(Clone, Copy)]
+pub(crate) struct MarkStart(pub bool, pub bool);
+
+impl Part for MarkStart {
+    ghost use Rattle.trace_pair.specs.ColumnLines.{mark_start};
+
+    ghost text = { λ mark. mark_start mark.0 mark.1 };
+
+    fn say<S: TextSink>(self, out: &mut S) {
+        if self.1 {
+            if !self.0 {
+                say(out, "<mark>");
+            }
+        }
+    }
+}
+
+/// The end of a mark: behind a column that has one or has none, before one that differs or does not.
+#[derive(Clone, Copy)]
+pub(crate) struct MarkEnd(pub bool, pub bool);
+
+impl Part for MarkEnd {
+    ghost use Rattle.trace_pair.specs.ColumnLines.{mark_end};
+
+    ghost text = { λ mark. mark_end mark.0 mark.1 };
+
+    fn say<S: TextSink>(self, out: &mut S) {
+        if self.0 {
+            if !self.1 {
+                say(out, "</mark>");
+            }
+        }
+    }
+}
+
 /// A byte, or a gap.
 #[derive(Clone, Copy)]
 pub(crate) struct ByteOrGap(pub Option<u8>);
