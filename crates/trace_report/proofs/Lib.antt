@@ -21,7 +21,7 @@ mod PairTexts
 mod Distinct
 mod LineOrder
 mod RowTargets
-mod Identifiers
+mod DistinctIdentifiers
 pub mod Harmless
 pub mod ToldAnswers
 pub mod ToldTimes
