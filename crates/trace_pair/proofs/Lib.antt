@@ -1,3 +1,5 @@
 pub mod Cells
 pub mod Stretches
 pub mod Tables
+mod Beside
+mod PagesInMemory

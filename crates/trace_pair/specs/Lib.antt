@@ -15,4 +15,5 @@ pub mod ItemTables
 pub mod Help
 pub mod Titles
 pub mod Page
+pub mod InMemory
 pub mod proving

@@ -4,7 +4,7 @@ use Rattle.trace_log.specs.declared.fault.CompareFault.{CompareFault}
 use Rattle.trace_log.specs.declared.fault.CompareFault.TheVariants.{Left, Right}
 use Rattle.trace_log.specs.declared.fault.Fault.{Fault}
 use Rattle.trace_log.specs.declared.fault.Fault.TheVariants.{BadLine, LogLimit, Oversize, OutputLimit, Read, Write, Memory}
-use Rattle.trace_report.specs.Causes.{cause_line}
+use Rattle.trace_report.specs.Causes.{cause_line, cause_of}
 use Rattle.trace_report.specs.Counts.{counts_text}
 use Rattle.trace_report.specs.Front.{identifiers_text, name_text, page_start, shapes_text}
 use Rattle.trace_report.specs.Held.{TwoValue}
@@ -12,6 +12,7 @@ use Rattle.trace_report.specs.Session.{SessionValue}
 use Rattle.trace_report.specs.Sorts.{counts_in}
 use Rattle.trace_report.specs.Verdict.{refusal_words, span_of}
 use Rattle.trace_report.specs.declared.cause.Cause.{Cause}
+use Rattle.trace_run.specs.Told.{Glimpse}
 use Rattle.uds_difference.specs.Bound.{bound_for}
 use Rattle.uds_difference.specs.Rows.{is_shortest, rows_of}
 use Rattle.uds_difference.specs.declared.row.Row.{Row}
@@ -103,3 +104,8 @@ abbrev pub pair_page : TitleValue → Result TwoValue CompareFault → Option Ca
 pair_page title (Ok two) cause = page_of title two.left two.right
 pair_page title (Err (Left why)) cause = unread_page title A why cause
 pair_page title (Err (Right why)) cause = unread_page title B why cause
+
+-- the cause of a refusal of one of two logs with this limit, by what is seen of both sources
+abbrev pub cause_of_pair : CompareFault → ℕ → Glimpse → Glimpse → Option Cause
+cause_of_pair (Left why) most left right = cause_of why most left
+cause_of_pair (Right why) most left right = cause_of why most right

@@ -1,7 +1,8 @@
 //! Two recorded sessions as a page: what stands beside what, and each byte that differs.
 //!
-//! Both logs are kept by [`keep_two`](trace_report::keep_two), and [`Aligned`] sets them side by side: the rows of a page are
-//! those of [`Difference::between`](uds_difference::Difference::between). Then the page is written from its front on.
+//! [`align_two`] reads both logs and sets them side by side, as [`Aligned`]: the rows of a page are those of
+//! [`Difference::between`](uds_difference::Difference::between). Then the page is written from its front on. [`in_memory`]
+//! answers of logs in memory with their page and the counts.
 //!
 //! ```text
 //! Two -> Aligned -> front, verdict, recordings, differences, first, item_tables, help -> page
@@ -18,6 +19,7 @@
 #![tactic(auto)]
 
 mod aligned;
+mod aligner;
 mod byte_words;
 mod change_top;
 mod change_words;
@@ -32,6 +34,7 @@ mod first;
 mod folds;
 mod front;
 mod help;
+pub mod in_memory;
 mod item_row;
 mod item_tables;
 mod item_words;
@@ -51,6 +54,7 @@ mod verdict;
 mod verdict_words;
 
 pub use aligned::Aligned;
+pub use aligner::align_two;
 pub use page::write_pair_page;
 pub use style::pair_style;
 pub use title::Title;
