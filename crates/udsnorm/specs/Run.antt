@@ -12,7 +12,7 @@ use Rattle.trace_io.specs.Stream.{Took}
 use Rattle.trace_run.specs.Told.{glimpse_of}
 use Rattle.trace_io.specs.declared.device.Source.{Ghosts as SourceGhosts}
 use Rattle.trace_io.specs.declared.device.Target.{Ghosts as TargetGhosts}
-use Rattle.udsnorm.specs.Commands.{EngineAnswers, EngineNeeds, EngineReads, EngineTellsEagerly, PairEngineAnswers, PairEngineNeeds, PairEngineReads, has_text}
+use Rattle.udsnorm.specs.Commands.{EngineAnswers, EngineNeeds, EngineReads, EngineTellsEagerly, PairEngineAnswers, PairEngineNeedsLeft, PairEngineNeedsRight, PairEngineReads, has_text}
 use Rattle.udsnorm.specs.Ending.{ComesTo, answer_written, flushes, status_of_run, status_of_run_of_two}
 use Rattle.udsnorm.specs.FaultLines.{run_text, run_two_text}
 use Rattle.udsnorm.specs.Telling.{TookText, WroteText}
@@ -65,9 +65,9 @@ pub record RanTwo {A B W E : Type 0} (left : SourceGhosts A) (right : SourceGhos
   pub unread : (fault : Fault) → answer ≡ Err (Left fault) → other_now ≡ other
   -- memory was refused only for a log that needs it
   pub left_memory : (a : List ℕ) → AgreesWith left one one_now a → answer ≡ Err (Left Memory)
-      → PairEngineNeeds job left_name right_name (glimpse_of left one_now) (glimpse_of right other_now) limit settings a
+      → PairEngineNeedsLeft job left_name right_name (glimpse_of left one_now) (glimpse_of right other_now) limit settings a
   pub right_memory : (b : List ℕ) → AgreesWith right other other_now b → answer ≡ Err (Right Memory)
-      → PairEngineNeeds job left_name right_name (glimpse_of left one_now) (glimpse_of right other_now) limit settings b
+      → PairEngineNeedsRight job left_name right_name (glimpse_of left one_now) (glimpse_of right other_now) limit settings b
   -- reading stopped within one piece of what refuses a log
   pub left_near : (a : List ℕ) → AgreesWith left one one_now a
       → PairEngineReads job left_name right_name (glimpse_of left one_now) (glimpse_of right other_now) limit settings a (bytes_given left one one_now) (left.failures one) (left.failures one_now)

@@ -6,7 +6,7 @@ ghost use Rattle.udsnorm_c.specs.Spelled.{put_at_front};
 use crate::answer::{UdsnormAnswer, fault_answer, no_pair_answer, pair_answer, text_answer};
 use trace_canon::counted::CountedText;
 use trace_log::Fault;
-use trace_report::in_memory::{CountedPage, NoPairPage};
+use trace_pair::in_memory::{CountedPage, NoPairPage};
 
 /// Puts what was told of a log at the front of a buffer, where it has room, and answers what is known of it.
 pub(crate) fn put(told: Result<CountedText, Fault>, out: &mut [u8]) -> UdsnormAnswer
