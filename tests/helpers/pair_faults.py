@@ -18,9 +18,28 @@ def faults(page, ours, theirs):
     return [
         *row_faults(read, rows),
         *change_faults(read, rows, changes),
+        *word_faults(read, rows, changes, ours, theirs),
         *mark_faults(read, ours, theirs),
         *link_faults(read),
     ]
+
+
+def told_otherwise(page, came):
+    """What is wrong with the page of two logs that come to this."""
+    if came.refused:
+        fault = came.fault.split(": ", 1)[1]
+        text = f"{came.refused} is refused, so nothing is compared</h2>\n<p><em>{fault}.</em>"
+        return ([] if text in page else [f"{text!r} is not there"]) + (["a refused log has rows"] if "<tr" in page else [])
+    return faults(page, *came.items) + verdict_faults(pair_reader.read(page), came)
+
+
+def verdict_faults(read, came):
+    """Whether the verdict is green only without a doubt, and says of the same sessions how far that can be known."""
+    look = pair_facts.look_of(came)
+    wrong = [] if read.look == look else [f"the verdict looks {read.look}, not {look}"]
+    if came.items[0] == came.items[1] and read.heading != pair_facts.same_heading_of(came):
+        wrong.append(f"the heading is {read.heading!r}, not {pair_facts.same_heading_of(came)!r}")
+    return wrong
 
 
 def row_faults(read, rows):
@@ -54,6 +73,17 @@ def change_faults(read, rows, changes):
         wrong.append("a difference of the list is of another kind")
     if [line.place for line in read.listed] != [place_of(rows, change) for change in listed]:
         wrong.append("a difference of the list stands elsewhere")
+    return wrong
+
+
+def word_faults(read, rows, changes, ours, theirs):
+    """Whether list and first difference say in words what the changes are."""
+    wrong, words = [], [pair_facts.what_of(change, rows, ours, theirs) for change in changes[:LISTED]]
+    if read.listed and [line.words for line in read.listed] != words:
+        wrong += [f"{line.words!r} stands for {wanted!r}" for line, wanted in zip(read.listed, words) if line.words != wanted][:3]
+    first = read.first.words if read.first else None
+    if first != (words[0] if words else None):
+        wrong.append(f"the first difference is {first!r}, not {words[:1]}")
     return wrong
 
 

@@ -6,8 +6,8 @@ What has none of the forms below is an error, so that nothing of a row is passed
 import re
 from collections import namedtuple
 
-# The heading, the sentence below it, the lines of the list, and the rows of the table of items.
-Page = namedtuple("Page", "look heading same_line notes listed rows folds identifiers targets")
+# The heading, the sentence below it, the lines of the list, what the first difference is said to be, and the rows of the table of items.
+Page = namedtuple("Page", "look heading same_line notes listed first rows folds identifiers targets")
 
 # What becomes of the items, their numbers, the identifier, whether it stands in a fold of equal items, what stands above its items, the lines
 # of bytes that stand under each other, what is missing of each log, and all its text.
@@ -34,6 +34,8 @@ LOST = re.compile(r'<p class="lost">(.*?)</p>')
 LISTED = re.compile(
     r'<li><span class="where"><a href="#d(\d+)">(.*?)</a></span> <b class="tag">(.*?)</b> <span class="what">(.*?)</span>\n'
 )
+FIRST = re.compile(r'<section id="difference">\n<h2>(.*?)</h2>\n<p><span class="where">(.*?)</span> <b class="tag">(.*?)</b> <span class="what">(.*?)</span></p>\n')
+TAG = re.compile(r"<[^>]*>")
 FOLD = re.compile(
     r'<details class="b same(?: long)?">\n<summary><b>(\d+) items?, the same</b> <i>A&#160;(\d+)(?:&#8211;(\d+))?, B&#160;(\d+)(?:&#8211;(\d+))?</i>'
 )
@@ -109,6 +111,17 @@ def fold_spans(page):
     return spans
 
 
+def words_of(text):
+    """The words of a text, without what is said of a loss behind them."""
+    return TAG.sub("", re.sub(r' <em class="loss">.*?</em>', "", text))
+
+
+def first_of(page):
+    """What the first difference is said to be, if there is one."""
+    match = FIRST.search(page)
+    return Listed(1, match[2], match[3], words_of(match[4])) if match else None
+
+
 def read(page):
     """What a page of two logs that can be read tells."""
     verdict = VERDICT.search(page)
@@ -124,7 +137,8 @@ def read(page):
         verdict[3],
         paragraphs[0] if paragraphs else None,
         paragraphs[1:],
-        [Listed(int(match[1]), match[2], match[3], match[4]) for match in LISTED.finditer(page)],
+        [Listed(int(match[1]), match[2], match[3], words_of(match[4])) for match in LISTED.finditer(page)],
+        first_of(page),
         rows,
         [fold_of(match) for match in FOLD.finditer(page)],
         re.findall(r' id="(\w+)"', page),
