@@ -3,9 +3,10 @@
 
     tests/pages/report_pairs.py crates/udsnorm/out/udsnorm [TEST..]
 
-Of the sample logs, the logs that tests/rows compares, logs made for one difference each and 300 random ones, each beside a changed
-copy, the page tells what a second reading of both logs finds, and says what `compare` says. Then come names of files, options,
-streams, devices and memory. Prints a line for each case and ends with `N passed, M failed`; its status is 1 where a case failed.
+Pages of each kind are those of golden/pairs, byte for byte. Of the sample logs, the logs that tests/rows compares, logs made for one
+difference each and 300 random ones, each beside a changed copy, the page tells what a second reading of both logs finds, and says
+what `compare` says. Then come names of files, options, streams, devices and memory. Prints a line for each case and ends with
+`N passed, M failed`; its status is 1 where a case failed.
 """
 
 import itertools
@@ -19,6 +20,7 @@ from pathlib import Path
 
 sys.path.insert(0, str(Path(__file__).resolve().parents[1] / "helpers"))
 
+import golden_pairs
 import oracle
 import pair_facts
 import pair_faults as second_reading
@@ -28,7 +30,7 @@ from cases import DEVICE, DIFFERENT, DONE, REFUSAL, UNCLEAN, WORDS, Cases
 from oracle import TESTER, UNIT
 from random_logs import random_logs
 from report import ANSWER, EXTENDED, FIRST, NAMES, OUT_OF_ORDER, REFUSED, REQUEST, STRAY, UNKNOWN, WRONG_VALUES, log_of, text_faults
-from report_facts import last_part
+from report_facts import first_difference, last_part
 from runs import differences, files, peak_kilobytes, start
 from tables import EXAMPLES, VIN
 from told import LONG_CANONICAL, LONG_LOG, READ_FAILED, WRITE_FAILED, oversize, place
@@ -152,6 +154,16 @@ def pages(cases):
     for name, left, right, options in itertools.chain(sample_pairs(), table_pairs(), made_pairs(), long_messages(), many_items(), random_pairs()):
         wrong = pair_faults(cases, left, right, **options)
         cases.report(name, wrong + ([f"the logs {left!r} and {right!r}"] if wrong and len(left + right) < 2000 else []))
+
+
+def golden(cases):
+    """The pages of golden/pairs are written as they stand there, and tell what a second reading of their logs does."""
+    for name, told in golden_pairs.NAMES.items():
+        page, path = golden_pairs.page_of(cases.program, name), golden_pairs.PAIRS / f"{name}.html"
+        wrong = first_difference("line", page.split("\n"), path.read_text().split("\n"))
+        cases.report(f"golden/pairs/{path.name}: {told}", wrong + second_reading.told_otherwise(page, pair_facts.came_of(*golden_pairs.logs(name))))
+    names = {f"{name}.html" for name in golden_pairs.NAMES}
+    cases.report("golden/pairs has no other page", differences("its pages", {path.name for path in golden_pairs.PAIRS.glob("*.html")}, names))
 
 
 def pair_faults(cases, left, right, sides=oracle.SIDES, limit=None, is_strict=False):
@@ -596,7 +608,7 @@ def main():
     if len(sys.argv) < 2:
         sys.exit(__doc__)
     cases = Cases(os.path.abspath(sys.argv[1]), sys.argv[2:])
-    cases.each([pages, told_differences, known_texts, refused_logs, refused_by_compare, names, options, strict_runs, streams, devices, memory])
+    cases.each([golden, pages, told_differences, known_texts, refused_logs, refused_by_compare, names, options, strict_runs, streams, devices, memory])
     cases.end()
 
 
