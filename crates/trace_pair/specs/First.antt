@@ -9,7 +9,7 @@ use Rattle.uds_difference.specs.Likeness.{same_bytes}
 use Rattle.uds_difference.specs.declared.row.Row.{Row}
 use Rattle.uds_difference.specs.declared.row.Row.TheVariants.{Same, Changed, OnlyLeft, OnlyRight}
 use Rattle.trace_report.specs.Blocks.{begins_exchange, chart_head}
-use Rattle.trace_report.specs.Items.{PlacedItem, RowMessage, is_answer_role, items_in}
+use Rattle.trace_report.specs.Items.{PlacedItem, RowMessage, is_answer_role, items_in, rows_before}
 use Rattle.trace_report.specs.Rows.{RowValue, message, no_answer, dropped, ended, unfinished, begins_item, cell_end, cell_front, dropped_row, ended_row, message_front, no_answer_row, note_text, role_words, unfinished_row}
 use Rattle.trace_report.specs.Session.{SessionValue}
 use Rattle.trace_report.specs.Words.{data_text, has_word}
@@ -24,7 +24,6 @@ use Rattle.trace_pair.specs.ColumnLines.{lines_text}
 use Rattle.trace_pair.specs.ItemRows.{outcome_by}
 use Rattle.trace_pair.specs.ItemWords.{same_outcome}
 use Rattle.trace_pair.specs.Logs.{lettered_name}
-use Rattle.trace_pair.specs.Losses.{rows_before}
 use Rattle.trace_pair.specs.Sessions.{values_in}
 use Rattle.trace_pair.specs.Verdict.{left_lossy, right_lossy}
 

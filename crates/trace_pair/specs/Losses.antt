@@ -3,7 +3,8 @@ use Prim.Native.Nat.{zero, suc}
 use Rattle.std.specs.Prelude.{ℕ, ◌+◌, ◌-◌, ◌==◌, Bool, true, false, ◌&&◌, List, [], ◌∷◌, ◌++◌, codes, length, nat_le, take, if◌then◌else◌}
 use Rattle.std.specs.Fmt.{decimal}
 use Rattle.std.specs.List.{flat_map}
-use Rattle.trace_report.specs.Rows.{RowValue, message, no_answer, dropped, ended, unfinished, begins_item, dropped_words, ended_words, unfinished_words}
+use Rattle.trace_report.specs.Items.{begins, rows_before}
+use Rattle.trace_report.specs.Rows.{RowValue, message, no_answer, dropped, ended, unfinished, dropped_words, ended_words, unfinished_words}
 use Rattle.trace_pair.specs.declared.log.Log.{Log}
 use Rattle.trace_pair.specs.Logs.{letter, letter_mark}
 
@@ -16,24 +17,19 @@ is_loss (ended place end) = true
 is_loss (unfinished d line len) = true
 
 -- how many items begin with a row
-abbrev pub begins : RowValue → ℕ
-begins (message is d place bytes) = if begins_item is then 1 else 0
-begins (no_answer number silent) = 0
-begins (dropped place d named why) = 0
-begins (ended place end) = 0
-begins (unfinished d line len) = 0
+abbrev pub count_begun : RowValue → ℕ
+count_begun row = if begins row then 1 else 0
 
--- how many rows stand before the one with which the item of this place begins, counted from 0; all, where there is none
-abbrev pub rows_before : ℕ → List RowValue → ℕ
-rows_before item [] = 0
-rows_before item (row ∷ rows) = if begins row == 1 && item == 0 then 0 else 1 + rows_before (item - begins row) rows
+-- how many rows stand before those that belong to an item: what stands before the first one belongs to that
+abbrev pub first_row : ℕ → List RowValue → ℕ
+first_row item rows = if item == 0 then 0 else rows_before item rows
 
 -- What is missing of the item of this place, counted from 0, where so many items have begun before these rows. A loss
 -- belongs to the item that began last before it, and to the first one where none did.
 abbrev pub losses_behind : ℕ → ℕ → List RowValue → List RowValue
 losses_behind begun item [] = []
 losses_behind begun item (row ∷ rows) =
-    if is_loss row && begun - 1 == item then row ∷ losses_behind (begun + begins row) item rows else losses_behind (begun + begins row) item rows
+    if is_loss row && begun - 1 == item then row ∷ losses_behind (begun + count_begun row) item rows else losses_behind (begun + count_begun row) item rows
 
 abbrev pub losses_of : List RowValue → ℕ → List RowValue
 losses_of rows item = losses_behind 0 item rows

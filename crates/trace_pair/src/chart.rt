@@ -7,7 +7,6 @@ ghost use Rattle.trace_pair.specs.proving.Marks.{marked_of};
 
 use crate::column_lines::{Sides, say_columns};
 use crate::log::Log;
-use crate::sessions::rows_before;
 use byte_columns::Beside;
 use text_parts::{Part, When, say};
 use trace_io::TextSink;
@@ -40,8 +39,9 @@ pub(crate) fn say_chart<S: TextSink>(
 )
     ensures { S.says out.old (Spec.chart log (option_map marked_of marked.entry) item session.now) out.new }
 {
-    let from = rows_before(session, item.saturating_sub(1));
-    let to = rows_before(session, item.saturating_add(3));
+    let rows = session.rows();
+    let from = rows.rows_before(item.saturating_sub(1));
+    let to = rows.rows_before(item.saturating_add(3));
     let end = to.min(from.saturating_add(MOST_ROWS));
     say(out, ChartHead);
     say_rows(log, marked, session, from, end, out);
@@ -51,7 +51,7 @@ pub(crate) fn say_chart<S: TextSink>(
             ChartEnd {
                 more: to.saturating_sub(end),
                 empty: from == end,
-                ends: to == session.rows().len(),
+                ends: to == rows.len(),
             },
             "</table>\n",
         ),

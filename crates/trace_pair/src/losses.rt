@@ -1,16 +1,17 @@
 //! What is missing in a log, by the items that it belongs to.
-ghost use Rattle.std.specs.Prelude.{◌≡◌, ◌+◌, ◌<◌, ◌≤◌, ◌^◌, length, nat_lt, slice_get, option_map};
-ghost use Rattle.trace_pair.specs.Losses.{losses_from, losses_of, losses_text};
+ghost use Rattle.std.specs.Prelude.{◌≡◌, ◌+◌, nat_lt};
+ghost use Rattle.trace_pair.specs.Losses.{first_row, losses_from, losses_of, losses_text};
 ghost use Rattle.trace_pair.specs.Losses as Spec;
 ghost use Rattle.trace_pair.specs.Verdict as Verdict;
 ghost use Rattle.trace_report.specs.proving.Pages.{row_of};
 
 use crate::log::{LetterMark, Log};
-use crate::sessions::rows_before;
 use shown_rows::Change;
 use text_parts::{Part, say};
 use trace_io::TextSink;
-use trace_report::{DroppedWords, EndedWords, Row as SessionRow, Session, UnfinishedWords};
+use trace_report::{
+    DroppedWords, EndedWords, KeptRows, Row as SessionRow, Session, UnfinishedWords,
+};
 use trace_text::Number;
 use uds_difference::Row;
 
@@ -50,7 +51,7 @@ pub(crate) fn count_losses(session: &Session, item: usize, count: usize) -> usiz
     ensures { result ≡ losses_from session.now.rows item count }
 {
     let rows = session.rows();
-    let (from, to) = stretch(session, item, count);
+    let (from, to) = stretch(rows, item, count);
     let mut losses: usize = 0;
     'rows: for at in from..to {
         if let Some(row) = rows.row(at) {
@@ -62,21 +63,22 @@ pub(crate) fn count_losses(session: &Session, item: usize, count: usize) -> usiz
     losses
 }
 
-/// The rows that belong to so many items, from this one on: those from the first row on where it is the first item, and
-/// else from the row with which it begins.
-fn stretch(session: &Session, item: usize, count: usize) -> (usize, usize)
-    ensures forward { result.0 ≤ result.1 }
-    ensures inside { result.1 ≤ length session.now.rows }
+/// Where the rows begin that belong to so many items, from this one on, and where they end.
+fn stretch(rows: &KeptRows, item: usize, count: usize) -> (usize, usize)
+    ensures from { result.0 ≡ first_row item rows.now }
+    ensures to { result.1 ≡ first_row (item + count) rows.now }
 {
-    let from = if item == 0 {
-        0
-    } else {
-        rows_before(session, item)
-    };
     (
-        from,
-        rows_before(session, item.saturating_add(count)).max(from),
+        first_row(rows, item),
+        first_row(rows, item.saturating_add(count)),
     )
+}
+
+/// How many rows stand before those that belong to an item: what stands before the first one belongs to that.
+fn first_row(rows: &KeptRows, item: usize) -> usize
+    ensures { result ≡ first_row item rows.now }
+{
+    if item == 0 { 0 } else { rows.rows_before(item) }
 }
 
 /// Whether a row tells that something is missing.
@@ -96,7 +98,7 @@ pub(crate) fn say_losses<S: TextSink>(log: Log, session: &Session, item: usize, 
     ensures { S.says out.old (losses_text log (losses_of session.now.rows item)) out.new }
 {
     let rows = session.rows();
-    let (from, to) = stretch(session, item, 1);
+    let (from, to) = stretch(rows, item, 1);
     let mut told: usize = 0;
     'rows: for at in from..to {
         if let Some(row) = rows.row(at) {

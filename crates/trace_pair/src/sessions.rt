@@ -4,7 +4,6 @@ ghost use Rattle.uds_exchange.specs.ItemSeen.{item_value};
 ghost use Rattle.trace_report.specs.Items as placed;
 ghost use Rattle.trace_report.specs.proving.Lending.{item_of as placed_item, message_of};
 ghost use Rattle.trace_pair.specs.Sessions.{values_in};
-ghost use Rattle.trace_pair.specs.Losses.{rows_before};
 
 use trace_report::{LentItem, LentMessage, Session, is_request_role};
 use uds_difference::Items;
@@ -69,16 +68,5 @@ fn answer_bytes(answer: Option<LentMessage<'_>>) -> Option<&[u8]>
     match answer {
         Some(reply) => Some(reply.bytes),
         None => None,
-    }
-}
-
-/// How many rows of a session stand before the one with which the item of a place begins, counted from 0; all, where there
-/// is none.
-pub(crate) fn rows_before(session: &Session, item: usize) -> usize
-    ensures { result ≡ rows_before item session.now.rows }
-{
-    match session.rows().begin(item) {
-        Some(at) => at,
-        None => session.rows().len(),
     }
 }

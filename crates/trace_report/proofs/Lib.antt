@@ -15,6 +15,7 @@ mod ItemValues
 mod SessionItems
 mod Agreeing
 mod Placing
+mod Beginning
 mod Keeping
 mod Comparing
 mod PairTexts

@@ -2,7 +2,7 @@
 ghost use Rattle.std.specs.Prelude.{◌≡◌, ◌<◌, ◌^◌, ◌∷◌, ◌++◌, [], None, IfOk, IfSome, OnErr, OnOk, length, option_map, slice_get};
 ghost use Rattle.std.specs.Vec.{vec_capacity, vec_len};
 ghost use Rattle.uds_exchange.specs.Blocks.{GoesOn};
-ghost use Rattle.trace_report.specs.Items.{items_in, message_in};
+ghost use Rattle.trace_report.specs.Items.{items_in, message_in, rows_before};
 ghost use Rattle.trace_report.specs.Sorts.{counts_in};
 ghost use Rattle.trace_report.specs.proving.Keeping.{AreLaid, IsLaid, places_answered, places_by, places_next, rows_at, waiting_by, waiting_next};
 ghost use Rattle.trace_report.specs.proving.Keeping as Keeping;
@@ -123,11 +123,13 @@ impl KeptRows {
         self.rows.len()
     }
 
-    /// Where the row stands with which the item of a place begins, counted from 0, if there is one.
-    pub fn begin(&self, item: usize) -> Option<usize> {
+    /// How many rows stand before the one with which the item of a place begins, counted from 0; all, where there is none.
+    pub fn rows_before(&self, item: usize) -> usize
+        ensures { result ≡ rows_before item self.now }
+    {
         match self.items.get(item) {
-            Some(item) => Some(item.begin),
-            None => None,
+            Some(item) => item.begin,
+            None => self.rows.len(),
         }
     }
 
