@@ -24,6 +24,7 @@ shown_from context [] = []
 shown_from context (row ∷ rows) =
     if is_shown context (row ∷ rows) then row ∷ shown_from (context_behind context row) rows else shown_from (context_behind context row) rows
 
+-- the rows that are shown, of all
 abbrev pub shown : List Row → List Row
 shown rows = shown_from 0 rows
 

@@ -12,6 +12,7 @@ pub record TitleValue : Type 0 where
   pub tester : Id
   pub unit : Id
 
+-- as contracts see it
 abbrev pub title_of : Title → TitleValue
 title_of title = record { style = title.style.now; left = title.left.now; right = title.right.now; tester = title.tester; unit = title.unit }
 
