@@ -64,16 +64,18 @@ OF_LIBRARIES = {
     "uds_message: rt fmt": [],
     "uds_message: proofs": ["uds_message: rt fmt"],
     "uds_exchange: proofs": ["uds_message: proofs"],
+    "uds_difference: proofs": ["uds_exchange: proofs"],
     "uds_find: proofs": ["uds_message: proofs"],
     "trace_log: proofs": ["uds_exchange: proofs"],
     "trace_run: proofs": ["trace_log: proofs"],
     "trace_text: proofs": ["trace_log: proofs"],
     "trace_canon: proofs": ["trace_run: proofs", "trace_text: proofs", "uds_find: proofs"],
     "trace_report: proofs": ["trace_canon: proofs"],
+    "trace_difference: proofs": ["uds_difference: proofs", "trace_run: proofs", "trace_text: proofs"],
 }
 QUICK_TESTS = [*(f"program/{name}" for name in ["command_line", "program", "sessions"]), *(f"documents/{name}" for name in ["shipped", "recipes", "release"])]
 OTHER_TESTS = ["documents/documents", "scripts/make_check", "scripts/make_test"]
-OF_PROGRAM = {"udsnorm: make build": ["trace_report: proofs"], **{f"tests/{test}.py": [] for test in OTHER_TESTS}}
+OF_PROGRAM = {"udsnorm: make build": ["trace_report: proofs", "trace_difference: proofs"], **{f"tests/{test}.py": [] for test in OTHER_TESTS}}
 OF_PROGRAM |= {f"tests/{test}.py": ["udsnorm: make build"] for test in QUICK_TESTS}
 
 # The crates beside the program, each with those below it that are checked.
@@ -83,7 +85,7 @@ APART = {
     "udsnorm_c": [*UP_TO_CANON, "trace_report"],
     "layer_bench": ["uds_message", "uds_exchange"],
     "session_bench": [*UP_TO_CANON, "trace_report"],
-    "acceptance": [*UP_TO_CANON, "trace_report"],
+    "acceptance": [*UP_TO_CANON, "uds_difference", "trace_report"],
     "refused_memory": [*UP_TO_CANON, "trace_report"],
 }
 OF_APART = {f"{crate}: proofs": [f"{name}: proofs" for name in below] for crate, below in APART.items()}
