@@ -102,8 +102,9 @@ struct udsnorm_answer {
  * They return the status. With UDSNORM_DONE the text is the first answer->length bytes of `out`, with no 0 behind it,
  * and the bytes behind it are as they were. With every other status all of `out` is as it was. Where the room was too
  * small, the status is UDSNORM_ROOM, and answer->length says how much is wanted. A room of 4 * length + 512 bytes is
- * enough for each text, and one of 8 * length + 512 for objects of JSON, of logs with up to 10^11 lines. A page is
- * longer: ask with a room of 0 for its length, or again with that where there was too little room.
+ * enough for each text, and one of 8 * length + 512 for objects of JSON, of logs with up to 10^11 lines. For
+ * udsnorm_diff `length` is here that of both logs and both names together, and 16 * length + 512 is enough for objects.
+ * A page is longer: ask with a room of 0 for its length, or again with that where there was too little room.
  *
  * A length is at most PTRDIFF_MAX. No call is made from a signal handler, or from the forked child of a process with
  * threads. 64 KiB of stack are enough for a call. Memory comes from malloc and realloc and goes back to free, which
@@ -140,6 +141,18 @@ uint32_t udsnorm_find(uint64_t limit, uint32_t style, const uint8_t *log, size_t
  * the same bytes. Every status but UDSNORM_ROOM and UDSNORM_STYLE. */
 uint32_t udsnorm_compare(uint32_t tester, uint32_t unit, uint64_t limit, const uint8_t *left, size_t left_length,
                          const uint8_t *right, size_t right_length, struct udsnorm_answer *answer);
+
+/* Where two logs differ: the items that one has alone, that differ or that stand beside them, as `diff -u` of their lists
+ * without numbers writes them. Nothing where none does; as objects of JSON then the counts alone. `style` is UDSNORM_TEXT
+ * or UDSNORM_JSON. `left_name` and `right_name` are what the text calls the logs; one that is not of letters, digits and
+ * ./_-+:@%,= stands between quotes, as C has it, with each byte that is no printable ASCII by its number. The answer is
+ * that of udsnorm_compare, with the length of the text: answer->item is the number of the first item that differs. All of
+ * them may lie in the same bytes. UDSNORM_MEMORY with a side of 2 also where memory for the text was refused. Every
+ * status. */
+uint32_t udsnorm_diff(uint32_t tester, uint32_t unit, uint64_t limit, uint32_t style, const char *left_name,
+                      size_t left_name_length, const uint8_t *left, size_t left_length, const char *right_name,
+                      size_t right_name_length, const uint8_t *right, size_t right_length, uint8_t *out, size_t room,
+                      struct udsnorm_answer *answer);
 
 /* The page of a log: a file of HTML that shows the session and says whether the recording is clean. `name` is what the
  * page calls the log, of `name_length` bytes; a byte that is no printable ASCII is shown by its number. The style is the

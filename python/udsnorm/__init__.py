@@ -25,8 +25,8 @@ from typing import TYPE_CHECKING, Any, Callable, Iterable, Iterator, List, Named
 
 from . import _formats, _library
 from ._library import Answer, Settings
-from ._lines import Counts, Direction, Exchange, Item, Message, Outcome, Pair, Place, Role, Stray
-from ._lines import items_of, messages_of, pairs_of
+from ._lines import Change, Counts, Direction, Exchange, Item, Message, Outcome, Pair, Place, Role, Row, RowCounts, Stray
+from ._lines import items_of, messages_of, pairs_of, row_counts_of, rows_of
 
 # What a type checker sees of bytes and of every other object with the buffer protocol.
 if TYPE_CHECKING:
@@ -35,9 +35,10 @@ else:
     ReadableBuffer = Any
 
 __all__ = [
-    "Counts", "Difference", "Direction", "EXTENDED", "Exchange", "Explanation", "Identifier", "Item", "LIMIT", "LeftOut",
-    "Log", "Message", "Outcome", "Pair", "Place", "Refused", "Role", "Stray", "TESTER", "UNIT", "compare", "explain",
-    "find", "from_messages", "items", "iter_items", "iter_messages", "messages", "normalise", "report", "report_pair",
+    "Change", "Counts", "Diff", "Difference", "Direction", "EXTENDED", "Exchange", "Explanation", "Identifier", "Item",
+    "LIMIT", "LeftOut", "Log", "Message", "Outcome", "Pair", "Place", "Refused", "Role", "Row", "RowCounts", "Stray",
+    "TESTER", "UNIT", "compare", "diff", "explain", "find", "from_messages", "items", "iter_items", "iter_messages",
+    "messages", "normalise", "report", "report_pair",
 ]
 __version__ = _library.VERSION
 
@@ -98,6 +99,21 @@ class Difference(NamedTuple):
     item: int
     left: Optional[Item]
     right: Optional[Item]
+
+
+class Diff(NamedTuple):
+    """Where two logs differ. As a text it is what `udsnorm diff` writes: nothing where they have the same meaning.
+
+    `rows` are all, those that are the same, too: each item of both logs stands in one, in its order. `shortest` is False
+    where equal items may stand in rows of their own, since more items would be removed and added than are looked for."""
+
+    rows: List[Row]
+    counts: RowCounts
+    shortest: bool
+    text: str
+
+    def __str__(self) -> str:
+        return self.text
 
 
 def normalise(log: Log, *, tester: Identifier = TESTER, unit: Identifier = UNIT, limit: int = LIMIT) -> bytes:
@@ -176,6 +192,27 @@ def compare(
     if answer.item == 0:
         return None
     return Difference(answer.item, _item_at(one, settings, answer.item), _item_at(other, settings, answer.item))
+
+
+def diff(
+    left: Log,
+    right: Log,
+    *,
+    names: "Optional[tuple[str, str]]" = None,
+    tester: Identifier = TESTER,
+    unit: Identifier = UNIT,
+    limit: int = LIMIT,
+) -> Diff:
+    """What stands beside what in two logs: which items are the same, which have changed, and which only one of them has.
+
+    `names` are what its text calls them; without these, they are their paths, or "left" and "right".
+    Settings and errors are those of `compare`."""
+    settings = _settings(tester, unit, limit)
+    one, other = _both(left, right, settings, lambda *logs: _library.compare(settings, *logs))
+    objects = _diff_text(left, right, one, other, names, settings, _library.JSON)
+    rows = rows_of(objects, list(_items_in(one, left, settings)), list(_items_in(other, right, settings)))
+    text = _diff_text(left, right, one, other, names, settings, _library.TEXT)
+    return Diff([*rows], *row_counts_of(objects), text.decode("ascii"))
 
 
 def report(
@@ -289,6 +326,17 @@ def _compared(left: Log, right: Log, settings: Settings) -> "tuple[Answer, bytes
     if answer.status != _library.DONE:
         raise _fault(answer, right if answer.side == 2 else left)
     return answer, one, other
+
+
+def _diff_text(
+    left: Log, right: Log, one: bytes, other: bytes, names: "Optional[tuple[str, str]]", settings: Settings, style: int
+) -> bytes:
+    """What is written in this style of where two logs differ that have these bytes."""
+    shown = names or (_path(left, "left"), _path(right, "right"))
+    answer, text = _library.diff(settings, style, (os.fsencode(shown[0]), os.fsencode(shown[1])), one, other)
+    if answer.status != _library.DONE:
+        raise _fault(answer, right if answer.side == 2 else left)
+    return text
 
 
 def _pair_page(

@@ -15,7 +15,7 @@ VERSION = "1.0.0"
 DONE, ID_RANGE, SAME_ID, LIMIT_RANGE, BAD_LINE, OVERSIZE, LOG_LIMIT, OUTPUT_LIMIT, MEMORY, ROOM = range(10)
 
 # The styles of a text.
-TEXT, NO_NUMBERS = 0, 1
+TEXT, NO_NUMBERS, JSON = 0, 1, 2
 
 
 class Answer(ctypes.Structure):
@@ -110,6 +110,7 @@ def _declare(library: ctypes.CDLL) -> None:
     library.udsnorm_explain.argtypes = [*_SETTINGS, *_STYLE, *_LOG, *_OUT, *_ANSWER]
     library.udsnorm_find.argtypes = [ctypes.c_uint64, *_STYLE, *_LOG, *_OUT, *_ANSWER]
     library.udsnorm_compare.argtypes = [*_SETTINGS, *_LOG, *_LOG, *_ANSWER]
+    library.udsnorm_diff.argtypes = [*_SETTINGS, *_STYLE, *_LOG, *_LOG, *_LOG, *_LOG, *_OUT, *_ANSWER]
     library.udsnorm_report.argtypes = [*_SETTINGS, *_LOG, *_LOG, *_OUT, *_ANSWER]
     library.udsnorm_report_pair.argtypes = [*_SETTINGS, *_LOG, *_LOG, *_LOG, *_LOG, *_OUT, *_ANSWER]
     library.udsnorm_status_text.argtypes = [ctypes.c_uint32]
@@ -126,6 +127,13 @@ def text(name: str, settings: Settings, log: bytes, *style: int) -> Tuple[Answer
     The interpreter's lock is given up during the call, as during the others."""
     given = (*(settings[2:] if name == "find" else settings), *style, log, len(log))
     return _put(getattr(loaded(), f"udsnorm_{name}"), given, 4 * len(log) + 512)
+
+
+def diff(settings: Settings, style: int, names: Tuple[bytes, bytes], left: bytes, right: bytes) -> Tuple[Answer, bytes]:
+    """The same of where two logs with these names differ."""
+    logs = [part for data in (names[0], left, names[1], right) for part in (data, len(data))]
+    growth = 16 if style == JSON else 4
+    return _put(loaded().udsnorm_diff, (*settings, style, *logs), growth * sum(logs[1::2]) + 512)
 
 
 def page(settings: Settings, name: bytes, log: bytes) -> Tuple[Answer, bytes]:

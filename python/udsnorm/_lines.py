@@ -3,8 +3,11 @@
 from __future__ import annotations
 
 import io
-from typing import Dict, Iterator, List, Literal, NamedTuple, Optional, Union, cast
+import json
+import re
+from typing import Dict, Iterator, List, Literal, NamedTuple, Optional, Sequence, Tuple, Union, cast
 
+Change = Literal["same", "changed", "removed", "added"]
 Direction = Literal["tester", "unit"]
 Outcome = Literal["positive", "negative", "silent", "unanswered"]
 Role = Literal["request", "answer", "stray", "pending"]
@@ -122,6 +125,31 @@ class Message(NamedTuple):
         return _shown(self)
 
 
+class Row(NamedTuple):
+    """What stands beside what in two logs: an item of each, or one that stands alone.
+
+    `kind` is "same" of two items that are equal, and "changed" of two that ask for one service; an item that the left log
+    has alone is "removed", and one that the right log has alone "added". `left_item` and `right_item` are the numbers of
+    both in `items`, from 1; `left` and `right` are the items. Where a log has none, that is None, and the number is that
+    of its item in front, or 0."""
+
+    kind: Change
+    left_item: int
+    right_item: int
+    left: Optional[Item]
+    right: Optional[Item]
+
+
+class RowCounts(NamedTuple):
+    """How many rows are of each kind. `same`, `changed` and `removed` are together the left log, and `same`, `changed` and
+    `added` the right one."""
+
+    same: int
+    removed: int
+    added: int
+    changed: int
+
+
 class Pair(NamedTuple):
     """An identifier that asks, one that answers it, and how often it did. The identifiers are those that the calls
     take as `tester` and `unit`, as Linux's canid_t has them."""
@@ -228,6 +256,39 @@ def _message(fields: List[str]) -> Message:
         int(item), cast(Role, role), cast(Direction, direction), int(first), int(last),
         _microseconds(begin), _microseconds(end), bytes.fromhex(message),
     )
+
+
+# The front of the object of a row that is not the same.
+_CHANGED = re.compile(rb'\{"place":[0-9]+,"change":"([a-z]+)","left_item":([0-9]+),"right_item":([0-9]+),')
+
+
+def rows_of(objects: bytes, left: Sequence[Item], right: Sequence[Item]) -> Iterator[Row]:
+    """All rows of two logs with these items. Objects tell those that are not the same."""
+    one = other = 0
+    for kind, left_item, right_item in _changes(objects):
+        has_left, has_right = kind != "added", kind != "removed"
+        while one < left_item - has_left:
+            one, other = one + 1, other + 1
+            yield Row("same", one, other, left[one - 1], right[other - 1])
+        one, other = left_item, right_item
+        yield Row(kind, one, other, left[one - 1] if has_left else None, right[other - 1] if has_right else None)
+    for one, other in zip(range(one, len(left)), range(other, len(right))):
+        yield Row("same", one + 1, other + 1, left[one], right[other])
+
+
+def _changes(objects: bytes) -> Iterator[Tuple[Change, int, int]]:
+    """What becomes of each item that is not the same, and the numbers in both logs. Behind these objects one has the counts."""
+    begin = 0
+    while found := _CHANGED.match(objects, begin):
+        kind, left_item, right_item = found.groups()
+        yield cast(Change, kind.decode("ascii")), int(left_item), int(right_item)
+        begin = objects.index(b"\n", begin) + 1
+
+
+def row_counts_of(objects: bytes) -> Tuple[RowCounts, bool]:
+    """The counts of the rows, and whether no script that keeps equal items is shorter: the last object has both."""
+    told = json.loads(objects[objects.rfind(b"\n", 0, -1) + 1:])
+    return RowCounts(told["same"], told["removed"], told["added"], told["changed"]), told["shortest"]
 
 
 def pairs_of(text: bytes) -> List[Pair]:

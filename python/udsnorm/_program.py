@@ -20,6 +20,8 @@ from ._formats import HEAD, Fault, Log, decides, is_for_the_program, shown
 
 #: The options of the program that take a value.
 VALUED = ("--tester", "--unit", "--limit")
+# The commands over two logs alone, which never read standard input, and those whose text shows the names of logs.
+_OF_TWO, _SHOWING = ("compare", "diff"), ("diff", "report")
 # The options that make it tell of itself, and read nothing.
 _TOLD = ("-h", "--help", "-V", "--version")
 
@@ -75,7 +77,7 @@ def logs_in(words: Sequence[str]) -> List[int]:
 
 def reads_standard_input(words: Sequence[str]) -> bool:
     """The program reads it with these words, if they are right."""
-    return not (logs_in(words) or set(words) & set(_TOLD) or words[:1] == ["compare"])
+    return not (logs_in(words) or set(words) & set(_TOLD) or set(words[:1]) & set(_OF_TWO))
 
 
 def source_of(word: str) -> Optional[Source]:
@@ -239,8 +241,7 @@ class Folder:
         that a word names stays open."""
         is_marked = any(self._mark in word for word in words)
         given = subprocess.PIPE if is_given else None
-        # Of what is written there, pages alone show names.
-        out = subprocess.PIPE if is_marked and words[0] == "report" and sys.stdout else None
+        out = subprocess.PIPE if is_marked and words[0] in _SHOWING and sys.stdout else None
         error = subprocess.PIPE if is_marked and sys.stderr else None
         words = _with_hints(words) if error else words
         with subprocess.Popen(

@@ -2,17 +2,15 @@
 
 from __future__ import annotations
 
-import difflib
 import os
-import re
-from typing import Callable, Iterator, List, Tuple, Union
+from typing import Callable, Iterator, Union
 
-from . import LIMIT, TESTER, UNIT, Identifier, Log, _compared, _formats, _library, _pair_page, _path, _settings
+from . import LIMIT, TESTER, UNIT, Identifier, Log, _compared, _diff_text, _formats, _library, _pair_page, _settings
 
 __all__ = ["assert_same_session"]
 
-# How many items before the first difference are shown, and of how many items from there on it is looked how they differ.
-_BEFORE, _LOOKED_AT = 3, 1000
+# So many lines of a difference are told.
+_TOLD = 1000
 
 
 def assert_same_session(
@@ -26,8 +24,8 @@ def assert_same_session(
     clean: bool = False,
 ) -> None:
     """Two logs have the same meaning, and where `clean` is asked for, both are clean, as the program asks with `--strict`:
-    nothing of them is known to be lost. Else an AssertionError tells the unified difference of their items, and which log
-    is not clean. Where `page` is a path, the page of both is written there; if it can't be, the error tells that, too.
+    nothing of them is known to be lost. Else an AssertionError tells what `udsnorm diff` writes, its first 1,000 lines, and
+    which log is not clean. Where `page` is a path, the page of both is written there; if it can't be, the error tells that, too.
 
     Settings and other errors are those of `udsnorm.normalise`."""
     __tracebackhide__ = True
@@ -36,9 +34,9 @@ def assert_same_session(
     is_unclean = clean and not answer.clean
     if answer.item == 0 and not is_unclean:
         return
-    logs = ((_path(left, "left"), one), (_path(right, "right"), other))
     if answer.item:
-        told = [f"the sessions differ at item {answer.item}", *_difference(answer.item, logs, settings)]
+        text = _diff_text(left, right, one, other, None, settings, _library.TEXT)
+        told = [f"the sessions differ at item {answer.item}", *_first_lines(text.decode("ascii"))]
     else:
         told = ["the sessions are the same, but not clean"]
     if is_unclean:
@@ -46,9 +44,6 @@ def assert_same_session(
     if page is not None:
         told.append(_write_page(os.fsdecode(page), lambda: _pair_page(left, right, one, other, None, settings)))
     raise AssertionError("\n".join(told))
-
-
-_Logs = Tuple[Tuple[str, bytes], Tuple[str, bytes]]
 
 
 def _unclean(log: bytes, settings: _library.Settings) -> Iterator[str]:
@@ -65,21 +60,12 @@ def _unclean(log: bytes, settings: _library.Settings) -> Iterator[str]:
     yield line if has_end else f"{line}, no line feed at the end"
 
 
-def _difference(number: int, logs: _Logs, settings: _library.Settings) -> Iterator[str]:
-    """The unified difference of the items, from shortly before the first that differs."""
-    begin = max(0, number - 1 - _BEFORE)
-    lists: List[List[str]] = []
-    for _, log in logs:
-        _, text = _library.text("list", settings, log, _library.NO_NUMBERS)
-        lists.append(text.decode("ascii").splitlines()[begin:])
-    one, other = (items[:_LOOKED_AT] for items in lists)
-    left, right = (_formats.shown(name) for name, _ in logs)
-    for line in difflib.unified_diff(one, other, left, right, lineterm=""):
-        # The numbers of the items are those of the whole list.
-        place = re.fullmatch(r"@@ -(\d+)(,\d+)? \+(\d+)(,\d+)? @@", line)
-        yield f"@@ -{begin + int(place[1])}{place[2] or ''} +{begin + int(place[3])}{place[4] or ''} @@" if place else line
-    if max(map(len, lists)) > _LOOKED_AT:
-        yield f"behind item {begin + _LOOKED_AT} nothing is compared"
+def _first_lines(text: str) -> Iterator[str]:
+    """The lines of a text, and of a long one how many more there are."""
+    lines = text.splitlines()
+    yield from lines[:_TOLD]
+    if len(lines) > _TOLD:
+        yield f"and {len(lines) - _TOLD} more lines"
 
 
 def _write_page(page: str, made: Callable[[], bytes]) -> str:

@@ -20,7 +20,7 @@ JOBS = {
     "find objects": ["find", "--json"],
     "report": ["report"],
 }
-STYLES = {"unnumbered": 1, "objects": 2, "unnumbered objects": 3, "message objects": 2, "explain objects": 2, "find objects": 2}
+STYLES = {"unnumbered": 1, "objects": 2, "unnumbered objects": 3, "message objects": 2, "explain objects": 2, "find objects": 2, "diff objects": 2}
 STATUSES = header.statuses()
 # The calls whose text has no style to choose.
 OF_ONE_STYLE = ("normalise", "report")
@@ -72,6 +72,13 @@ class Loaded:
         sides = [ctypes.c_uint32(session.tester), ctypes.c_uint32(session.unit), ctypes.c_uint64(session.limit)]
         given = [*sides, *bytes_of(names[0]), *bytes_of(session.log), *bytes_of(names[1]), *bytes_of(other)]
         return self.put("report_pair", given, self.put("report_pair", given, 0)[0].length if room is None else room)
+
+    def diff(self, style, session, other, names, room=None):
+        """The same of where two logs with these names differ, in this style."""
+        sides = [ctypes.c_uint32(session.tester), ctypes.c_uint32(session.unit), ctypes.c_uint64(session.limit)]
+        given = [*sides, ctypes.c_uint32(style), *bytes_of(names[0]), *bytes_of(session.log), *bytes_of(names[1]), *bytes_of(other)]
+        size = len(session.log) + len(other) + sum(map(len, names))
+        return self.put("diff", given, (16 if style else 4) * size + 512 if room is None else room)
 
     def compare(self, session, other):
         answer = Answer()

@@ -573,7 +573,7 @@ class Tool(unittest.TestCase):
         self.same(["list", "--json", "--tester", "7E0", "run.blf"], ["list", "--json", "--tester", "7E0", "run.log"])
 
     def test_what_the_program_does_itself(self):
-        for words in ([], ["--version"], ["list", "--help"], ["list", VIN], ["list", "none.log"], ["list", self.folder], ["compare", "x"]):
+        for words in ([], ["--version"], ["list", "--help"], ["list", VIN], ["list", "none.log"], ["list", self.folder], ["compare", "x"], ["diff", "x"], ["diff"]):
             self.same(words, words)
         self.assertEqual(package(["list"], log=VIN.read_bytes()).output, run(given.program, ["list", VIN]).output)
 
@@ -694,6 +694,21 @@ class Tool(unittest.TestCase):
             self.assertIn(b"right/run.blf", found.output)
             self.assertNotIn(b"udsnorm-", found.output)
         self.assertIn(b"run.blf", package(["report", "left/run.blf"], cwd=self.folder).output)
+
+    def test_names_before_a_difference(self):
+        """They are those that were given, between quotes where the program sets them so."""
+        logs = {"run": VIN.read_bytes(), "below/run": (EXAMPLES / "lost-frame.log").read_bytes(), "a b": b""}
+        for place, one, other in (
+            ("", f"{self.folder}/run", "below/run"), ("below", "../run", "run"), ("", "./run", "a b"), ("below", "run", "../a b"),
+            ("below", f"{self.folder}/below/run", f"{self.folder}/run"),
+        ):
+            for name, log in logs.items():
+                self.put(name, log)
+            want = run(given.program, ["diff", one, other], cwd=self.folder / place)
+            for name, log in logs.items():
+                self.put(name, blf_of(log))
+            self.assertEqual(package(["diff", one, other], cwd=self.folder / place), want)
+            self.assertEqual(want.status, DIFFERENT)
 
     def test_names_as_they_are_given(self):
         """Pages, hints and faults name a log as it was named, wherever it is read: what the program tells of the log there."""
@@ -1099,12 +1114,20 @@ class Assertions(unittest.TestCase):
     def test_long_sessions(self):
         """The numbers are those of the whole lists, and however long both are, the message soon comes."""
         log = b"".join(b"(%d.000000) can0 7E0#0322%04X\n" % (at, at % 65536) for at in range(20000))
-        other = log.replace(b"#03223A98", b"#03223A99")
+        other = log.replace(b"#03223A98", b"#0322FFFF")
         with self.assertRaises(AssertionError) as caught:
             testing.assert_same_session(log, other)
         lines = str(caught.exception).splitlines()
         self.assertEqual(lines[:4], ["the sessions differ at item 15001", "--- left", "+++ right", "@@ -14998,7 +14998,7 @@"])
-        self.assertEqual(lines[-1], "behind item 15997 nothing is compared")
+        self.assertEqual(len(lines), 12)
+
+    def test_long_differences(self):
+        """The first 1,000 lines are told, and how many more there are."""
+        logs = [b"".join(b"(%d.000000) can0 7E0#0322%04X\n" % (at, at + first) for at in range(900)) for first in (0, 900)]
+        with self.assertRaises(AssertionError) as caught:
+            testing.assert_same_session(*logs)
+        lines = str(caught.exception).splitlines()
+        self.assertEqual((len(lines), lines[-1]), (1002, "and 803 more lines"))
 
     def test_refused(self):
         with self.assertRaisesRegex(udsnorm.Refused, "^right: line 1 column 1: not a log line$"):

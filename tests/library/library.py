@@ -8,7 +8,7 @@
 - the examples are compiled, and do what they say;
 - over the sample logs and those of tests/rows, each call answers what the program writes and tells, whether a log is
   clean as the program does with --strict, and whether its sides look exchanged as oracle.py does;
-- a page shows the names that it is given, and each status has a text;
+- a page, and a text of where two logs differ, shows the names that it is given, and each status has a text;
 - rooms of every size, logs and texts at the edges of pages, 16 threads, growths of memory refused in turn, the
   sanitizers: by library_calls.c, compiled by each of gcc, g++, clang and clang++ as strictly as they can;
 - random logs, 2,000 where no number is given: each goes through one of the calls, and through the program.
@@ -37,7 +37,7 @@ import tables
 import told
 from cases import DIFFERENT, DONE, REFUSAL, UNCLEAN, Cases
 from counts import counts_in
-from loaded import JOBS, STATUSES, Answer, Loaded, Session, Words
+from loaded import JOBS, STATUSES, STYLES, Answer, Loaded, Session, Words
 from random_logs import limit_for, mutated, random_logs
 from runs import differences, files, run
 
@@ -286,8 +286,25 @@ def beside(answer, found, strict, job, session, other):
     return wrong + differences(f"clean of {job}", answer.clean, 0 if strict.status == UNCLEAN else 1)
 
 
+def differed(loaded, program, session, other, style=0):
+    """The same of the text of where both differ."""
+    words = ["diff", *(["--json"] if style else []), *words_of(session)]
+    with files(session.log, other) as names:
+        found = run(program, [*words, *names])
+        strict = run(program, [*words, "--strict", *names])
+        answer, text = loaded.diff(style, session, other, [str(name).encode() for name in names])
+    wrong = beside(answer, found, strict, "diff", session, other)
+    wrong += differences("the first item of diff", answer.item, loaded.compare(session, other).item)
+    return wrong + differences("the text of diff", text, b"" if answer.status else found.output)
+
+
+def differed_in_objects(loaded, program, session, other):
+    """The same of its objects."""
+    return differed(loaded, program, session, other, STYLES["diff objects"])
+
+
 # What the library calls an answer about two logs.
-OF_TWO = {"compare": compared, "report of two": paged}
+OF_TWO = {"compare": compared, "diff": differed, "diff objects": differed_in_objects, "report of two": paged}
 
 
 def rows(cases, loaded, program, chosen):
@@ -308,10 +325,14 @@ def rows(cases, loaded, program, chosen):
 
 
 def names(cases, loaded):
-    """A page shows the names that it is given, none too, and no byte of them that means something in HTML."""
+    """A page shows the names that it is given, none too, and no byte of them that means something in HTML; and a text of where
+    two logs differ no byte that means something to `patch`."""
     session = Session("", (EXAMPLES / "vin.log").read_bytes(), 0x7E0, 0x7E8, LIMIT)
     for name, shown in ((b"", b""), (b"a b.log", b"a b.log"), (b"<b>\xff\0", b"&lt;b&gt;%FF%00")):
         _, page = loaded.page(session, session.log, [name, b"other"])
+        quoted = b'"%b"' % name.replace(b"\xff\0", b"\\377\\000")
+        _, text = loaded.diff(0, session, b"", [name, b"other"])
+        cases.report(f"the name {name!r} before a difference", differences("the header", text.split(b"\n@@")[0], b"--- %b\n+++ other" % quoted))
         cases.report(f"the name {name!r} on a page of two", [] if b"<title>" + shown + b" and other - " in page else [page[:600].decode()])
 
 
@@ -340,7 +361,8 @@ def settings(cases, loaded):
         jobs = [job for job in JOBS if JOBS[job][0] != "find" or not name.endswith(("ID_RANGE", "SAME_ID"))]
         found = [loaded.text(job, session)[0].status for job in jobs]
         found += [loaded.compare(session, b"").status, loaded.page(session, b"", [b"", b""])[0].status]
-        cases.report(f"{name} of {session[2:]}", differences("statuses", found, [STATUSES[name]] * (len(jobs) + 2)))
+        found += [loaded.diff(style, session, b"", [b"", b""])[0].status for style in (0, STYLES["diff objects"])]
+        cases.report(f"{name} of {session[2:]}", differences("statuses", found, [STATUSES[name]] * (len(jobs) + 4)))
     for call, styles in (("list", (4, 0x10, 0xFFFFFFFF)), ("messages", (1, 3, 0xFFFFFFFF)), ("explain", (1, 3, 0xFFFFFFFF)), ("find", (1, 3, 0xFFFFFFFF))):
         for style in styles:
             answer = Answer()
@@ -348,6 +370,9 @@ def settings(cases, loaded):
             given = (*sides, ctypes.c_uint64(LIMIT), ctypes.c_uint32(style))
             loaded.library[f"udsnorm_{call}"](*given, None, ctypes.c_size_t(0), None, ctypes.c_size_t(0), ctypes.byref(answer))
             cases.report(f"the style {style} of {call}", differences("status", answer.status, STATUSES["STYLE"]))
+    for style in (1, 3, 0xFFFFFFFF):
+        answer, _ = loaded.diff(style, Session("", b"", 0x7E0, 0x7E8, LIMIT), b"", [b"", b""], 0)
+        cases.report(f"the style {style} of diff", differences("status", answer.status, STATUSES["STYLE"]))
     cases.report("the version", differences("version", loaded.library.udsnorm_version(), header.version()))
 
 

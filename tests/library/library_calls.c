@@ -33,7 +33,7 @@ struct session {
 
 /* Each text with its call, its style, and the bytes that the header says are enough for a byte of the log; 0 of a page,
  * whose length is asked for. */
-enum kind { NORMALISE, LIST, MESSAGES, EXPLAIN, FIND, COMPARE, REPORT, REPORT_PAIR };
+enum kind { NORMALISE, LIST, MESSAGES, EXPLAIN, FIND, COMPARE, DIFF, REPORT, REPORT_PAIR };
 static const struct {
     const char *name;
     enum kind kind;
@@ -52,6 +52,8 @@ static const struct {
     {"find", FIND, UDSNORM_TEXT, 4},
     {"find objects", FIND, UDSNORM_JSON, 8},
     {"compare", COMPARE, UDSNORM_TEXT, 4},
+    {"diff", DIFF, UDSNORM_TEXT, 4},
+    {"diff objects", DIFF, UDSNORM_JSON, 16},
     {"report", REPORT, UDSNORM_TEXT, 0},
     {"report pair", REPORT_PAIR, UDSNORM_TEXT, 0},
 };
@@ -77,7 +79,8 @@ static uint8_t *memory(size_t size)
     return at;
 }
 
-/* One of the texts of a log; a comparison has none, and compares the log with itself, as a page of two shows it twice. */
+/* One of the texts of a log; a comparison has none, and compares the log with itself, as a page of two shows it twice. Where
+ * it differs is told from no log at all. */
 static uint32_t text(int call, const struct session *s, const uint8_t *log, uint8_t *out, size_t room,
                      struct udsnorm_answer *answer)
 {
@@ -90,6 +93,8 @@ static uint32_t text(int call, const struct session *s, const uint8_t *log, uint
     case EXPLAIN: return udsnorm_explain(s->tester, s->unit, s->limit, style, log, s->length, out, room, answer);
     case FIND: return udsnorm_find(s->limit, style, log, s->length, out, room, answer);
     case COMPARE: return udsnorm_compare(s->tester, s->unit, s->limit, log, s->length, log, s->length, answer);
+    case DIFF:
+        return udsnorm_diff(s->tester, s->unit, s->limit, style, "none", 4, NULL, 0, "a log", 5, log, s->length, out, room, answer);
     case REPORT: return udsnorm_report(s->tester, s->unit, s->limit, "log", 3, log, s->length, out, room, answer);
     default:
         return udsnorm_report_pair(s->tester, s->unit, s->limit, "left", 4, log, s->length, NULL, 0, log, s->length, out, room, answer);

@@ -13,6 +13,7 @@ import ast
 import copy
 import ctypes
 import importlib
+import json
 import os
 import pickle
 import random
@@ -25,6 +26,7 @@ import threading
 import time
 import unittest
 import unittest.mock
+from collections import Counter
 from pathlib import Path
 
 sys.path.insert(0, str(Path(__file__).resolve().parents[1] / "helpers"))
@@ -121,6 +123,7 @@ class BesideTheProgram(unittest.TestCase):
         with files(left, right) as names:
             found = run(given.program, ["compare", *words, *names])
             self.same_page(names, (left, right), settings, words)
+            self.same_rows(names, (left, right), settings, words)
         try:
             difference = udsnorm.compare(left, right, **settings)
         except udsnorm.Refused as refused:
@@ -130,6 +133,28 @@ class BesideTheProgram(unittest.TestCase):
         self.assertEqual((DIFFERENT if difference else DONE, want), (found.status, found.output.decode()))
         if difference:
             self.assertNotEqual(difference.left, difference.right)
+
+    def same_rows(self, names, logs, settings, words):
+        """What stands beside what, as `diff` writes it, and the items of both logs in its rows."""
+        found, objects = (run(given.program, ["diff", *words, *more, *names]) for more in ([], ["--json"]))
+        try:
+            told = udsnorm.diff(*logs, names=tuple(map(str, names)), **settings)
+        except udsnorm.Refused as refused:
+            self.assertEqual((REFUSAL, f"{refused}\n"), (found.status, found.error.decode()))
+            return
+        self.assertEqual((DIFFERENT if str(told) else DONE, str(told)), (found.status, found.output.decode()))
+        *changes, counts = map(json.loads, objects.output.splitlines())
+        self.assertEqual({**told.counts._asdict(), "shortest": told.shortest}, counts)
+        self.assertEqual(Counter(told.counts._asdict()), Counter(row.kind for row in told.rows))
+        shown = [(row.kind, row.left_item, row.right_item) for row in told.rows if row.kind != "same"]
+        self.assertEqual(shown, [(change["change"], change["left_item"], change["right_item"]) for change in changes])
+        lists = [udsnorm.items(log, **settings) for log in logs]
+        self.assertEqual([[item for item in side if item] for side in ([row.left for row in told.rows], [row.right for row in told.rows])], lists)
+        one = other = 0
+        for row in told.rows:
+            one, other = one + bool(row.left), other + bool(row.right)
+            self.assertEqual((row.left_item, row.right_item, row.kind == "same"), (one, other, row.left == row.right))
+            self.assertEqual((row.left is None, row.right is None), (row.kind == "added", row.kind == "removed"))
 
     def same_page(self, names, logs, settings, words):
         """The page of both, of files and of bytes."""
@@ -182,6 +207,54 @@ class BesideTheProgram(unittest.TestCase):
             limit = limit_for(rng, log)
             self.same(log, {"limit": limit}, ["--limit", str(limit)])
             self.same_difference(log, mutated(rng, log), {"limit": limit}, ["--limit", str(limit)])
+
+
+class Rows(unittest.TestCase):
+    """`diff`, and what its text calls the logs."""
+
+    def test_sample(self):
+        lost = EXAMPLES / "lost-frame.log"
+        told = udsnorm.diff(VIN, lost)
+        self.assertEqual((told.counts, told.shortest), (udsnorm.RowCounts(same=1, removed=0, added=1, changed=0), True))
+        added, same = told.rows
+        self.assertEqual((added.kind, added.left_item, added.right_item, added.left), ("added", 0, 1, None))
+        self.assertEqual((same.kind, same.left_item, same.right_item, same.left), ("same", 1, 2, same.right))
+        self.assertEqual((same.left.first_line, same.right.first_line), tuple(udsnorm.items(log)[-1].first_line for log in (VIN, lost)))
+        self.assertEqual(f"{told}", run(given.program, ["diff", VIN, lost]).output.decode())
+
+    def test_equal_logs(self):
+        told = udsnorm.diff(VIN, CANONICAL)
+        self.assertEqual((str(told), told.counts, [row.kind for row in told.rows]), ("", (1, 0, 0, 0), ["same"]))
+        self.assertEqual(udsnorm.diff(b"", b""), ([], (0, 0, 0, 0), True, ""))
+
+    def test_names(self):
+        """Those of the files, as the program shows them, or as they are told."""
+        log = VIN.read_bytes()
+        for logs, options, header in (
+            ((log, b""), {}, "--- left\n+++ right\n"), ((VIN, b""), {}, f"--- {VIN}\n+++ right\n"),
+            ((log, b""), {"names": ("a b", "\udce9")}, '--- "a b"\n+++ "\\351"\n'),
+        ):
+            self.assertTrue(str(udsnorm.diff(*logs, **options)).startswith(header))
+        with tempfile.TemporaryDirectory() as folder:
+            named = Path(folder, "b <é>.log")
+            named.write_bytes(log)
+            self.assertEqual(str(udsnorm.diff(named, b"")).splitlines()[0], run(given.program, ["diff", named, "/dev/null"]).output.decode().splitlines()[0])
+
+    def test_a_script_that_is_perhaps_not_the_shortest(self):
+        """Of sessions that differ in more than is looked for, rows have all items of both."""
+        left, right = (b"".join(b"(%d.000000) a 7E0#0322%04X\n" % (at, number) for at, number in enumerate(numbers)) for numbers in (
+            [at * 7 % 4001 for at in range(3000)], [at * 11 % 4001 for at in range(3000)],
+        ))
+        told = udsnorm.diff(left, right)
+        self.assertFalse(told.shortest)
+        self.assertTrue(str(told).startswith("# perhaps not the shortest: "))
+        self.assertEqual([[row.left for row in told.rows if row.left], [row.right for row in told.rows if row.right]], [udsnorm.items(log) for log in (left, right)])
+
+    def test_refused(self):
+        for logs, side in (([b"x", b"y"], "left"), ([VIN, b"y"], "right")):
+            with self.assertRaises(udsnorm.Refused) as caught:
+                udsnorm.diff(*logs)
+            self.assertEqual((caught.exception.reason, caught.exception.side), ("bad line", side))
 
 
 class Places(unittest.TestCase):
@@ -398,11 +471,11 @@ class Arguments(unittest.TestCase):
         """Also where the right one is no candump log and can't be read to its end."""
         dated = b"(2023-11-14 22:13:20.000000) can0 7E0#013E\nwhat is this\n"
         long, announced = VIN.read_bytes() * 2, b"(0.000000) a 7E0#1000FFFFFFFF0000\n"
-        calls = (udsnorm.compare, udsnorm.report_pair, testing.assert_same_session)
+        calls = (udsnorm.compare, udsnorm.report_pair, udsnorm.diff, testing.assert_same_session)
         for left, settings, reasons in (
-            (b"garbage\n", {}, ["bad line"] * 3), (dated, {}, ["bad file"] * 3), (long, {"limit": len(long) - 1}, ["log limit"] * 3),
-            (announced, {}, ["oversize", None, "oversize"]), (CANONICAL.read_bytes()[:50], {}, ["bad line"] * 3),
-            (b"(0.000000) a 7E0#0110\n", {"limit": 45}, ["output limit", None, "output limit"]), (b"", {}, [None] * 3),
+            (b"garbage\n", {}, ["bad line"] * 4), (dated, {}, ["bad file"] * 4), (long, {"limit": len(long) - 1}, ["log limit"] * 4),
+            (announced, {}, ["oversize", None, "oversize", "oversize"]), (CANONICAL.read_bytes()[:50], {}, ["bad line"] * 4),
+            (b"(0.000000) a 7E0#0110\n", {"limit": 45}, ["output limit", None, "output limit", "output limit"]), (b"", {}, [None] * 4),
         ):
             with files(left, dated) as names:
                 for call, reason in zip(calls, reasons):
@@ -436,6 +509,8 @@ class Arguments(unittest.TestCase):
                     call(b"", **settings)
             with self.assertRaisesRegex(ValueError, f"^{text}$"):
                 udsnorm.compare(b"", b"", **settings)
+            with self.assertRaisesRegex(ValueError, f"^{text}$"):
+                udsnorm.diff(b"", b"", **settings)
 
     def test_refused_memory(self):
         """Once by the library, and once where a process has no room for a text."""
@@ -578,6 +653,9 @@ from udsnorm.testing import assert_same_session
 text: bytes = udsnorm.normalise("a.log", tester=udsnorm.EXTENDED | 0x18DA10F1)
 requests: List[bytes] = [item.request for item in udsnorm.items(b"") if isinstance(item, udsnorm.Exchange)]
 first: Optional[udsnorm.Difference] = udsnorm.compare(bytearray(), memoryview(b""))
+rows: List[udsnorm.Row] = udsnorm.diff("a.log", b"", tester="7E0", limit=1000).rows
+kinds: List[udsnorm.Change] = [row.kind for row in rows]
+changed: int = udsnorm.diff(b"", b"", names=("a", "b")).counts.changed
 dropped: int = udsnorm.explain("a.log").counts.dropped
 seconds: List[float] = [(message.end - message.begin) / 1e6 for message in udsnorm.messages("a.log")]
 answering: List[int] = [pair.unit for pair in udsnorm.find(memoryview(b""))]

@@ -226,6 +226,8 @@ def taken_by_each_call(cases, loaded, log):
     call("report", (room, True), 0, lambda answer, text: (answer.status, answer.length > 0))
     answer = loaded.compare(session, bytes_of)
     report(cases, f"udsnorm_compare: {log.name}", (answer.status, answer.item), (done, 0))
+    answer, _ = loaded.diff(0, session, bytes_of, [b"left", b"right"], 0)
+    report(cases, f"udsnorm_diff: {log.name}", (answer.status, answer.item, answer.length), (done, 0, 0))
     answer, _ = loaded.page(session, bytes_of, [b"left", b"right"], 0)
     report(cases, f"udsnorm_report_pair: {log.name}", (answer.status, answer.item), (room, 0))
 

@@ -53,6 +53,7 @@ list             4      2     4      -
 explain          2      0     2      -
 find             2      2     0      -
 compare          8      4    11      -
+pair_difference 17     13    20      -
 report           2      0     2      -
 keep_two        10      6    13      -
 """

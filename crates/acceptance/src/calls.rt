@@ -8,7 +8,7 @@ use std::alloc::Global;
 use std::io::{ErrorKind, Read, Write};
 use std::process::Abort;
 use std::test::Fail;
-use trace_canon::{Comparison, compare, counted, explain, in_memory, list, meaning_of, normalise};
+use trace_canon::{Comparison, compare, explain, in_memory, list, meaning_of, normalise};
 use trace_io::{FailsAfter, FailsAt, Reading, Short, Source, Target, Writing};
 use trace_log::{CompareFault, Config, ConfigFault, Fault, Summary};
 use trace_text::{ItemStyle, Notation, Numbering};
@@ -168,7 +168,7 @@ pub(crate) fn full(alloc: Global) -> FailsAfter<Short<Vec<u8>>> {
 fn each_call_writes_its_text_of_a_session(rt: HostRuntime) -> Result<(), Fail> {
     assert_call(&rt, rt.alloc(), Call::Normalise, CANONICAL, 46)?;
     assert_call(&rt, rt.alloc(), Call::List, LISTED, 0)?;
-    let explained = counted::explanation(rt.alloc(), &sides()?, Notation::Text, LOG.as_bytes())?;
+    let explained = in_memory::explanation(rt.alloc(), &sides()?, Notation::Text, LOG.as_bytes())?;
     assert_call(
         &rt,
         rt.alloc(),
@@ -227,9 +227,9 @@ fn a_session_in_memory_has_its_meaning(rt: HostRuntime) -> Result<(), Fail> {
     let log = LOG.as_bytes();
     let items = items_text(alloc, &in_memory::meaning(alloc, &config, log)?)?;
     assert_text(&rt, "session", &items, ITEM);
-    let listed = counted::item_list(alloc, &config, NUMBERED, log)?;
+    let listed = in_memory::item_list(alloc, &config, NUMBERED, log)?;
     assert!(rt; listed.text.as_slice() == LISTED.as_bytes());
-    let cut = counted::canonical_log(alloc, &config, &log[..9]).err();
+    let cut = in_memory::canonical_log(alloc, &config, &log[..9]).err();
     assert!(rt;
         cut == Some(Fault::BadLine {
             line: 1,
@@ -243,17 +243,17 @@ fn a_session_in_memory_has_its_meaning(rt: HostRuntime) -> Result<(), Fail> {
 fn a_session_in_memory_has_its_counts(rt: HostRuntime) -> Result<(), Fail> {
     let (alloc, config) = (rt.alloc(), sides()?);
     let log = LOG.as_bytes();
-    let found = counted::canonical_log(alloc, &config, log)?;
+    let found = in_memory::canonical_log(alloc, &config, log)?;
     assert!(rt; found.text.as_slice() == CANONICAL.as_bytes() && found.summary.messages == 2);
-    let found = counted::item_list(alloc, &config, UNNUMBERED, log)?;
+    let found = in_memory::item_list(alloc, &config, UNNUMBERED, log)?;
     assert!(rt; found.summary.frames == 5);
-    let found = counted::message_lines(alloc, &config, Notation::Text, log)?;
+    let found = in_memory::message_lines(alloc, &config, Notation::Text, log)?;
     assert!(rt; found.text.as_slice() == PLACED.as_bytes() && found.summary.messages == 2);
-    let found = counted::explanation(alloc, &config, Notation::Text, log)?;
+    let found = in_memory::explanation(alloc, &config, Notation::Text, log)?;
     assert!(rt;
         found.text.as_slice().starts_with(EXPLAINED.as_bytes()) && found.summary.lines == 5
     );
-    let found = counted::comparison(alloc, &config, log, CANONICAL.as_bytes());
+    let found = in_memory::comparison(alloc, &config, log, CANONICAL.as_bytes());
     let found = found.or(Err("not compared"))?;
     assert!(rt; found.comparison == Comparison::Same);
     assert!(rt; found.left.frames == 5 && found.right.messages == 2);

@@ -13,12 +13,11 @@ use std::test::Fail;
 use text_parts::{Part, say};
 use trace_io::TextSink;
 use trace_log::Count;
-use trace_text::say::{
-    say_byte, say_bytes, say_cause, say_code, say_counts, say_digit, say_direction,
-    say_layout_fault, say_length, say_number, say_place, say_service, say_six_decimals, say_text,
-    say_three_decimals,
+use trace_text::values::{say_byte, say_direction, say_number, say_place, say_text};
+use trace_text::{
+    Bytes, EndCause, HexadecimalDigit, LayoutFault, Length, Number, Place, ResponseCode, Service,
+    SixDecimals, Stamp, ThreeDecimals, Verbatim, say_counts, say_items,
 };
-use trace_text::{Bytes, Code, Digit, Number, Place, Service, SixDecimals, Spelled, say_items};
 
 /// Keeps what is said, up to where memory is refused.
 #[derive(Drop)]
@@ -100,9 +99,15 @@ fn each_part_is_said(rt: HostRuntime) -> Result<(), Fail> {
     assert_part(&rt, alloc, "line ", "line ")?;
     assert_part(&rt, alloc, Place(0), "1")?;
     assert_part(&rt, alloc, Place(usize::MAX), "18446744073709551616")?;
-    assert_part(&rt, alloc, Digit(11), "B")?;
+    assert_part(&rt, alloc, HexadecimalDigit(11), "B")?;
     assert_part(&rt, alloc, SixDecimals(1_700_000_000_012_300), "012300")?;
-    assert_part(&rt, alloc, Spelled(b"7E0"), "7E0")?;
+    assert_part(
+        &rt,
+        alloc,
+        Stamp(1_700_000_000_012_300),
+        "1700000000.012300",
+    )?;
+    assert_part(&rt, alloc, Verbatim(b"7E0"), "7E0")?;
     assert_part(&rt, alloc, Bytes(&[]), "")?;
     assert_part(&rt, alloc, Bytes(&[0x22, 0xF1, 0x90]), "22F190")?;
     assert_part(
@@ -113,8 +118,8 @@ fn each_part_is_said(rt: HostRuntime) -> Result<(), Fail> {
     )?;
     assert_part(&rt, alloc, Service(0x22), "ReadDataByIdentifier")?;
     assert_part(&rt, alloc, Service(0x02), "service_02")?;
-    assert_part(&rt, alloc, Code(0x31), "requestOutOfRange")?;
-    assert_part(&rt, alloc, Code(0x02), "code_02")
+    assert_part(&rt, alloc, ResponseCode(0x31), "requestOutOfRange")?;
+    assert_part(&rt, alloc, ResponseCode(0x02), "code_02")
 }
 
 #[test]
@@ -135,19 +140,29 @@ fn each_name_and_number_is_said(rt: HostRuntime) -> Result<(), Fail> {
     say_text(&mut said, ", ");
     say_place(&mut said, 9);
     say_text(&mut said, ", ");
-    say_length(&mut said, 4_095);
-    say_text(&mut said, ", ");
-    say_six_decimals(&mut said, 7);
-    say_text(&mut said, ", ");
-    say_three_decimals(&mut said, 12_045);
-    say_text(&mut said, ", ");
-    say_digit(&mut said, 15);
+    say(
+        &mut said,
+        (
+            Length(4_095),
+            ", ",
+            SixDecimals(7),
+            ", ",
+            ThreeDecimals(12_045),
+            ", ",
+            HexadecimalDigit(15),
+        ),
+    );
     say_byte(&mut said, 0x7F);
-    say_bytes(&mut said, &[0x50, 0x03]);
-    say_text(&mut said, ", ");
-    say_service(&mut said, 0x10);
-    say_text(&mut said, ", ");
-    say_code(&mut said, 0x10);
+    say(
+        &mut said,
+        (
+            Bytes(&[0x50, 0x03]),
+            ", ",
+            Service(0x10),
+            ", ",
+            ResponseCode(0x10),
+        ),
+    );
     assert_kept(
         &rt,
         &said,
@@ -158,15 +173,14 @@ fn each_name_and_number_is_said(rt: HostRuntime) -> Result<(), Fail> {
 #[test]
 fn what_was_lost_is_said(rt: HostRuntime) -> Result<(), Fail> {
     let mut said = empty_sink(rt.alloc());
-    say_cause(&mut said, Cause::Overflow);
+    say(&mut said, EndCause(Cause::Overflow));
     say_counts(
         &mut said,
         ", ",
         " ",
         &[Count("frames", 12), Count("messages", 0)],
     );
-    say_text(&mut said, ", ");
-    say_layout_fault(&mut said, PduFault::Empty);
+    say(&mut said, (", ", LayoutFault(PduFault::Empty)));
     assert_kept(&rt, &said, "overflow, frames 12, messages 0, empty frame")
 }
 

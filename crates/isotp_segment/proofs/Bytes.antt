@@ -6,7 +6,7 @@ use Rattle.std.proofs.Math.Seq.{get_or-append_right}
 use Rattle.std.proofs.lemmas.Bool.{ltb-true, ltb-false, cases_Bool}
 use Rattle.std.proofs.lemmas.List.{get_or_append_left, get_or_default, get_or_past, get_or-replicate, get_or-append-add, length-replicate}
 use Rattle.std.proofs.lemmas.List.FromFn.{length-map-range_with_len, get_or-map-range_with_len}
-use Rattle.isotp_segment.specs.CanonicalFrames.{filled, padding}
+use Rattle.isotp_segment.specs.CanonicalFrames.{padded, padding}
 
 -- byte i of a text, or padding after its end
 abbrev pub byte_at : List ℕ → ℕ → ℕ
@@ -30,29 +30,29 @@ get_or-padded bytes n i below = elim (cases_Bool (nat_lt i (length bytes))) [
 
 take-padded : (n : ℕ) (bytes : List ℕ) → take n (bytes ++ replicate n padding) ≡ placed_bytes n (byte_at bytes)
 take-padded n bytes =
-    let padded = bytes ++ replicate n padding in
-    let size : length (take n padded) ≡ n =
-    omega (arith, length-take n padded, length-append bytes (replicate n padding), length-replicate n padding) in
+    let longer = bytes ++ replicate n padding in
+    let size : length (take n longer) ≡ n =
+    omega (arith, length-take n longer, length-append bytes (replicate n padding), length-replicate n padding) in
     ext_get_or 0 _ _ (omega (arith, size, length-map-range_with_len (byte_at bytes) 0 n)) (λ i below.
     let inside : i < n = omega (arith, size) in
-    get_or-take n padded i 0 inside
+    get_or-take n longer i 0 inside
     ∙ get_or-padded bytes n i inside
     ∙ sym (get_or-map-range_with_len (byte_at bytes) 0 n i i 0 inside (omega arith)))
 
-pub filled_by_place : (control bytes : List ℕ) → filled control bytes ≡ placed_bytes 8 (byte_at (control ++ bytes))
-unfolding filled
-filled_by_place control bytes = ap (take 8) (sym (append_assoc control bytes (replicate 8 padding))) ∙ take-padded 8 (control ++ bytes)
+pub padded-by-place : (control bytes : List ℕ) → padded control bytes ≡ placed_bytes 8 (byte_at (control ++ bytes))
+unfolding padded
+padded-by-place control bytes = ap (take 8) (sym (append_assoc control bytes (replicate 8 padding))) ∙ take-padded 8 (control ++ bytes)
 
 -- a byte of the message that has room in the frame comes after the control information
-pub filled-holds : (control bytes : List ℕ) (place i : ℕ) → place < length bytes → i ≡ length control + place → i < 8
-    → slice_index bytes place ≡ slice_index (filled control bytes) i
-filled-holds control bytes place i inside is room =
+pub padded-holds : (control bytes : List ℕ) (place i : ℕ) → place < length bytes → i ≡ length control + place → i < 8
+    → slice_index bytes place ≡ slice_index (padded control bytes) i
+padded-holds control bytes place i inside is room =
     get_or_default bytes place 0 padding inside
     ∙ sym (get_or-append-add control bytes place padding)
     ∙ ap (byte_at (control ++ bytes)) (sym is)
     ∙ sym (get_or-map-range_with_len (byte_at (control ++ bytes)) 0 8 i i 0 room (omega arith))
-    ∙ ap (λ l. get_or l i 0) (sym (filled_by_place control bytes))
+    ∙ ap (λ l. get_or l i 0) (sym (padded-by-place control bytes))
 
-pub length-filled : (control bytes : List ℕ) → length (filled control bytes) ≡ 8
-length-filled control bytes =
-    ap (length {A = ℕ}) (filled_by_place control bytes) ∙ length-map-range_with_len (byte_at (control ++ bytes)) 0 8
+pub length-padded : (control bytes : List ℕ) → length (padded control bytes) ≡ 8
+length-padded control bytes =
+    ap (length {A = ℕ}) (padded-by-place control bytes) ∙ length-map-range_with_len (byte_at (control ++ bytes)) 0 8

@@ -14,9 +14,9 @@ use Rattle.isotp_receive.specs.OnTime.{RestartsTimer}
 use Rattle.isotp_receive.specs.Recording.{IsConsecutiveFrame, EachNumbered, IsSegmented, unsegmented, segmented, IsTransfer, IsIn, IsIdle}
 use Rattle.isotp_receive.specs.Places as places
 use Rattle.isotp_receive.proofs.Promises.{places_agree_on_bytes}
-use Rattle.isotp_segment.specs.CanonicalFrames.{consecutive_count, filled, first_control, consecutive_control, continue_control, room_in_first, place_of, frame_count}
+use Rattle.isotp_segment.specs.CanonicalFrames.{consecutive_count, padded, first_control, consecutive_control, continue_control, room_in_first, place_of, frame_count}
 use Rattle.isotp_segment.proofs.Ranges.{rising-range, in-range}
-use Rattle.isotp_segment.proofs.Bytes.{filled-holds}
+use Rattle.isotp_segment.proofs.Bytes.{padded-holds}
 use Rattle.isotp_segment.proofs.Layouts.{layout-continue}
 use Rattle.isotp_segment.proofs.Counts.{total-short, total-long, room_in_first-few, count-least}
 use Rattle.isotp_segment.proofs.Positions.{positions_of}
@@ -26,14 +26,14 @@ use Rattle.isotp_segment.proofs.OpenReceptions.{same-entry}
 
 -- each byte of the message that a first frame holds comes after the length in it
 first-holds : (message : List ℕ) (place i : ℕ) → 8 ≤ length message → place < room_in_first (length message) → i ≡ 8 - room_in_first (length message) + place
-    → slice_index message place ≡ slice_index (filled (first_control (length message)) message) i
+    → slice_index message place ≡ slice_index (padded (first_control (length message)) message) i
 first-holds message place i low inside is = elim (cases_Bool (nat_le (length message) 4095)) [
   | inl t ↦
       (let six : room_in_first (length message) ≡ 6 = ap (λ b. cond b 6 2) t in
-      filled-holds (first_control (length message)) message place i (omega arith) (rw t (omega arith)) (omega arith))
+      padded-holds (first_control (length message)) message place i (omega arith) (rw t (omega arith)) (omega arith))
   | inr t ↦
       (let two : room_in_first (length message) ≡ 2 = ap (λ b. cond b 6 2) t in
-      filled-holds (first_control (length message)) message place i (omega arith) (rw t (omega arith)) (omega arith))
+      padded-holds (first_control (length message)) message place i (omega arith) (rw t (omega arith)) (omega arith))
 ]
 
 -- a message of several frames
@@ -51,11 +51,11 @@ module _ (identifier : Dir → Id) (line micros : ℕ) (T : List Entry) (d : Dir
   start : FirstFrame
   start = record { line = line + begun; micros = micros + begun * 1000; len = len; rx_dl = 8; bytes = take in_first message }
 
-  starts : role d (entry identifier line micros begun (d, filled (first_control len) message)) ≡ first start
+  starts : role d (entry identifier line micros begun (d, padded (first_control len) message)) ≡ first start
   unfolding start
   starts = first-role identifier line micros d begun message low bits
 
-  held : places.bytes_in_first (filled (first_control len) message) ≡ in_first
+  held : places.bytes_in_first (padded (first_control len) message) ≡ in_first
   unfolding start
   held =
       let at_none = places_agree_on_bytes d _ start 0 starts in
@@ -71,7 +71,7 @@ module _ (identifier : Dir → Id) (line micros : ℕ) (T : List Entry) (d : Dir
   reference-of (suc (suc number)) one below =
       let next : 1 + suc number ≡ suc (suc number) = omega arith in
       let bytes = drop (place_of len (suc number)) message in
-      let at = subst (λ j. At T (begun + j) (entry identifier line micros (begun + j) (d, filled (consecutive_control (suc number)) bytes))) next
+      let at = subst (λ j. At T (begun + j) (entry identifier line micros (begun + j) (d, padded (consecutive_control (suc number)) bytes))) next
       (at-consecutive identifier line micros T d message begun stand (suc number) (omega arith) (omega arith) (omega arith)) in
       (_, at, rw (consecutive-role identifier line micros d (begun + suc (suc number)) (suc number) bytes) tt, refl)
 
@@ -85,11 +85,11 @@ module _ (identifier : Dir → Id) (line micros : ℕ) (T : List Entry) (d : Dir
       let bytes = drop (place_of len number) message in
       record {
         next = record {
-          entry = entry identifier line micros (begun + (1 + number)) (d, filled (consecutive_control number) bytes);
+          entry = entry identifier line micros (begun + (1 + number)) (d, padded (consecutive_control number) bytes);
           stands = at-consecutive identifier line micros T d message begun stand number (omega arith) one below;
           sequence_number = number % 16;
           can_dl = 8;
-          bytes = drop 1 (filled (consecutive_control number) bytes);
+          bytes = drop 1 (padded (consecutive_control number) bytes);
           kind = consecutive-role identifier line micros d (begun + (1 + number)) number bytes;
         };
         fits = record { from_one = one; to_last = most; in_sequence = refl; full = λ _. refl; last_low = λ last. omega arith; last_high = λ _. omega arith };
@@ -107,7 +107,7 @@ module _ (identifier : Dir → Id) (line micros : ℕ) (T : List Entry) (d : Dir
         );
         holds = λ offset within inside.
             sym (get_or-drop (place_of len number) message offset 0)
-            ∙ filled-holds (consecutive_control number) bytes offset (1 + offset) (omega (arith, length-drop (place_of len number) message)) refl (omega arith);
+            ∙ padded-holds (consecutive_control number) bytes offset (1 + offset) (omega (arith, length-drop (place_of len number) message)) refl (omega arith);
       }
 
   parts-from : (many number position : ℕ) → 1 ≤ number → number + many ≡ count + 1 → position ≡ begun + (1 + number)
@@ -126,7 +126,7 @@ module _ (identifier : Dir → Id) (line micros : ℕ) (T : List Entry) (d : Dir
       let size : length (range_with_len (begun + 2) count) ≡ count = length-range_with_len (begun + 2) count in
       record {
         begins = record {
-          entry = entry identifier line micros begun (d, filled (first_control len) message);
+          entry = entry identifier line micros begun (d, padded (first_control len) message);
           stands = at-first identifier line micros T d message begun stand (omega arith) (omega arith);
           start = start;
           kind = starts;
@@ -165,7 +165,7 @@ module _ (identifier : Dir → Id) (line micros limit : ℕ) (bits : limit < 2 ^
         })
   ]
 
-  idle-continue : (p : ℕ) → IsIdle (layout_of (entry identifier line micros p (other_direction d, filled continue_control [])).frame)
+  idle-continue : (p : ℕ) → IsIdle (layout_of (entry identifier line micros p (other_direction d, padded continue_control [])).frame)
   idle-continue p = rw (layout-continue (identifier (other_direction d))) tt
 
   -- each frame of a message is at one of its positions, or is the continue frame

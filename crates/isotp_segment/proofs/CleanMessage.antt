@@ -11,7 +11,7 @@ use Rattle.isotp_receive.specs.OpenReception.{IsOpenAt}
 use Rattle.isotp_receive.specs.Delivers.{Completes}
 use Rattle.isotp_receive.specs.Verdict.{verdict}
 use Rattle.isotp_receive.specs.CleanTrace.{IsCleanEvent}
-use Rattle.isotp_segment.specs.CanonicalFrames.{filled, consecutive_control, place_of, frame_count}
+use Rattle.isotp_segment.specs.CanonicalFrames.{padded, consecutive_control, place_of, frame_count}
 use Rattle.isotp_segment.proofs.Counts.{total-short, total-long}
 use Rattle.isotp_segment.proofs.Layouts.{layout-single, layout-first, layout-consecutive, layout-continue}
 use Rattle.isotp_segment.proofs.TimedFrames.{entry}
@@ -77,7 +77,7 @@ module _ (identifier : Dir → Id) (line micros limit : ℕ) (bits : limit < 2 ^
     next-clean : (k : ℕ) → 1 ≤ k → begun + (1 + k) ≡ here → IsCleanEvent (verdict limit past e)
     unfolding reception open-since
     next-clean k one is =
-        let frame : Dir × List ℕ = (d, filled (consecutive_control k) (drop (place_of (length message) k) message)) in
+        let frame : Dir × List ℕ = (d, padded (consecutive_control k) (drop (place_of (length message) k) message)) in
         let at = at-consecutive identifier line micros T d message begun sent.stand k long one (omega arith) in
         let at_here = subst (λ q. At T q (entry identifier line micros q frame)) is at in
         let next = next-since limit T d its.last message completed here (entry identifier line micros here frame) (k % 16) 8 _

@@ -6,7 +6,7 @@ use Rattle.std.proofs.lemmas.Bool.{le-leb, lt-leb, ne_eqb, and_from}
 use Rattle.std.proofs.lemmas.List.FromFn.{length-map-range_with_len}
 use Rattle.direction.specs.Dir.{other_direction}
 use Rattle.direction.specs.declared.Dir.{Dir}
-use Rattle.isotp_segment.specs.CanonicalFrames.{filled, single_control, first_control, consecutive_control, continue_control, place_of, frame_count, canonical_frame, canonical_frames}
+use Rattle.isotp_segment.specs.CanonicalFrames.{padded, single_control, first_control, consecutive_control, continue_control, place_of, frame_count, canonical_frame, canonical_frames}
 use Rattle.isotp_segment.proofs.Lists.{drop-map-range, drop-map-range-end}
 
 -- a message that has frames
@@ -54,13 +54,13 @@ count_of_frames limit len n some high is direction message same =
 -- each frame by its number
 
 pub frame-single : (direction : Dir) (message : List ℕ) (number : ℕ) → length message ≤ 7
-    → canonical_frame direction message number ≡ (direction, filled (single_control (length message)) message)
+    → canonical_frame direction message number ≡ (direction, padded (single_control (length message)) message)
 unfolding canonical_frame
 frame-single direction message number short = (let one = le-leb (length message) 7 short in rw one refl)
 
 -- and it is the only one of its message
 pub canonical_frames-short : (limit : ℕ) (direction : Dir) (message : List ℕ) → 1 ≤ length message → length message ≤ 7 → length message ≤ limit
-    → canonical_frames limit direction message ≡ (direction, filled (single_control (length message)) message) ∷ []
+    → canonical_frames limit direction message ≡ (direction, padded (single_control (length message)) message) ∷ []
 canonical_frames-short limit direction message some short fits =
     let one : nat_le (length message) 7 ≡ true = le-leb (length message) 7 short in
     let count : frame_count (length message) ≡ 1 = rw one refl in
@@ -69,18 +69,18 @@ canonical_frames-short limit direction message some short fits =
     ∙ ap (λ f. f ∷ []) (frame-single direction message 0 short)
 
 pub frame-first : (direction : Dir) (message : List ℕ) → 7 < length message
-    → canonical_frame direction message 0 ≡ (direction, filled (first_control (length message)) message)
+    → canonical_frame direction message 0 ≡ (direction, padded (first_control (length message)) message)
 unfolding canonical_frame
 frame-first direction message long = (let more = lt-leb (length message) 7 long in rw more refl)
 
 pub frame-continue : (direction : Dir) (message : List ℕ) → 7 < length message
-    → canonical_frame direction message 1 ≡ (other_direction direction, filled continue_control [])
+    → canonical_frame direction message 1 ≡ (other_direction direction, padded continue_control [])
 unfolding canonical_frame
 frame-continue direction message long = (let more = lt-leb (length message) 7 long in rw more refl)
 
 pub frame-consecutive : (direction : Dir) (message : List ℕ) (number : ℕ) → 7 < length message → 1 ≤ number
     → canonical_frame direction message (1 + number)
-    ≡ (direction, filled (consecutive_control number) (drop (place_of (length message) number) message))
+    ≡ (direction, padded (consecutive_control number) (drop (place_of (length message) number) message))
 unfolding canonical_frame
 frame-consecutive direction message number long one =
     let more = lt-leb (length message) 7 long in

@@ -6,8 +6,8 @@ use Rattle.std.proofs.lemmas.List.{get_or_past, length-drop}
 use Rattle.direction.specs.Dir.{other_direction}
 use Rattle.direction.specs.declared.Dir.{Dir}
 use Rattle.isotp_pdu.specs.Layout.{first_byte}
-use Rattle.isotp_segment.specs.CanonicalFrames.{IsFullNext, filled, padding, first_control, consecutive_control, place_of, frame_count, canonical_frame, canonical_frames}
-use Rattle.isotp_segment.proofs.Bytes.{filled_by_place}
+use Rattle.isotp_segment.specs.CanonicalFrames.{IsFullNext, padded, padding, first_control, consecutive_control, place_of, frame_count, canonical_frame, canonical_frames}
+use Rattle.isotp_segment.proofs.Bytes.{padded-by-place}
 use Rattle.isotp_segment.proofs.Counts.{total-short, total-long, room_in_first-few}
 use Rattle.isotp_segment.proofs.Frames.{drop_canonical_frames, drop_at_end, frame-single, frame-first, frame-continue, frame-consecutive}
 
@@ -21,23 +21,23 @@ sender_of otherwise [] = otherwise
 sender_of otherwise (frame ∷ frames) = frame.0
 
 -- a frame begins with its control information
-begins : (b : ℕ) (control bytes : List ℕ) → slice_index (filled (b ∷ control) bytes) 0 ≡ b
-begins b control bytes = ap (λ l. get_or l 0 0) (filled_by_place (b ∷ control) bytes)
+begins : (b : ℕ) (control bytes : List ℕ) → slice_index (padded (b ∷ control) bytes) 0 ≡ b
+begins b control bytes = ap (λ l. get_or l 0 0) (padded-by-place (b ∷ control) bytes)
 
 -- and it ends in padding, where the bytes after one control byte are too few
-ends : (b : ℕ) (bytes : List ℕ) → length bytes < 7 → slice_get (filled (b ∷ []) bytes) 7 ≡ Some padding
+ends : (b : ℕ) (bytes : List ℕ) → length bytes < 7 → slice_get (padded (b ∷ []) bytes) 7 ≡ Some padding
 ends b bytes few =
-    ap (λ l. slice_get l 7) (filled_by_place (b ∷ []) bytes) ∙ ap (λ n. Some n) (get_or_past (b ∷ bytes) 7 padding (omega arith))
+    ap (λ l. slice_get l 7) (padded-by-place (b ∷ []) bytes) ∙ ap (λ n. Some n) (get_or_past (b ∷ bytes) 7 padding (omega arith))
 
 -- a frame of another kind is none
 other_kind : (sender direction : Dir) (b : ℕ) (control bytes : List ℕ) (later : List (Dir × List ℕ)) → (b < 32) ⊎ (48 ≤ b)
-    → IsFullNext sender ((direction, filled (b ∷ control) bytes) ∷ later) → ⊥
+    → IsFullNext sender ((direction, padded (b ∷ control) bytes) ∷ later) → ⊥
 other_kind sender direction b control bytes later other full =
     let first : b ≡ first_byte 2 (full.number % 16) = sym (begins b control bytes) ∙ ap (λ l. slice_index (bytes_of l) 0) full.next in
     elim other [ inl low ↦ omega arith | inr high ↦ omega arith ]
 
 not_first : (sender direction : Dir) (message : List ℕ) (later : List (Dir × List ℕ))
-    → IsFullNext sender ((direction, filled (first_control (length message)) message) ∷ later) → ⊥
+    → IsFullNext sender ((direction, padded (first_control (length message)) message) ∷ later) → ⊥
 not_first sender direction message later = elim (cases_Bool (nat_le (length message) 4095)) [
   | inl t ↦
       (let short = leb-true (length message) 4095 t in
@@ -61,12 +61,12 @@ not_at_1 sender direction message later long full =
 
 -- one behind which no other comes has seven bytes of its message
 fills : (sender direction : Dir) (number : ℕ) (bytes : List ℕ) (later : List (Dir × List ℕ)) → length later ≡ 0
-    → IsFullNext sender ((direction, filled (consecutive_control number) bytes) ∷ later) → 7 ≤ length bytes
+    → IsFullNext sender ((direction, padded (consecutive_control number) bytes) ∷ later) → 7 ≤ length bytes
 fills sender direction number bytes later last full = elim (cases_lt (length bytes) 7) [
   | inl few ↦
       (let none = ap (λ l. length (drop 1 l)) full.next in
-      let padded = sym (ap (λ l. slice_get (bytes_of l) 7) full.next) ∙ ends (first_byte 2 (number % 16)) bytes few in
-      elim full.full [ inl more ↦ absurd (omega arith) | inr other ↦ absurd (other padded) ])
+      let in_padding = sym (ap (λ l. slice_get (bytes_of l) 7) full.next) ∙ ends (first_byte 2 (number % 16)) bytes few in
+      elim full.full [ inl more ↦ absurd (omega arith) | inr other ↦ absurd (other in_padding) ])
   | inr enough ↦ enough
 ]
 
@@ -125,7 +125,7 @@ is_full_at limit sender direction message number some high full = record {
   bytes : List ℕ
   bytes = drop (place_of (length message) (number - 1)) message
 
-  spelled : IsFullNext sender ((direction, filled (consecutive_control (number - 1)) bytes) ∷ later)
+  spelled : IsFullNext sender ((direction, padded (consecutive_control (number - 1)) bytes) ∷ later)
   spelled = subst (λ f. IsFullNext sender (f ∷ later)) (frame-consecutive direction message (number - 1) long (omega (arith, consecutive)))
       (at (1 + (number - 1)) (omega (arith, consecutive)))
 

@@ -6,7 +6,7 @@ use Rattle.std.specs.List.{range_with_len}
 use Rattle.std.proofs.lemmas.Simd.{swz_l, SwzOk}
 use Rattle.direction.specs.declared.Dir.{Dir}
 use Rattle.isotp_segment.specs.declared.single.TheConstants.{BLANKS, PLACES}
-use Rattle.isotp_segment.specs.CanonicalFrames.{filled, single_control, canonical_frames}
+use Rattle.isotp_segment.specs.CanonicalFrames.{padded, single_control, canonical_frames}
 use Rattle.isotp_segment.specs.proving.Ends.{ends_of}
 use Rattle.isotp_segment.proofs.Frames.{canonical_frames-short}
 
@@ -32,20 +32,20 @@ picked message =
     let bytes = swz_l w8 16 (widened (ends_of message)) 0 (widened (get_or PLACES (length message) [])) in
     zip2 bit_or (get_or BLANKS (length message) []) (pick_l 0 (bytes ++ bytes) (range_with_len 0 8))
 
-pub picked_is_filled : (message : List ℕ) → 1 ≤ length message → length message ≤ 7 → picked message ≡ filled (single_control (length message)) message
-unfolding filled
-picked_is_filled [] some short = absurd (omega arith)
-picked_is_filled (a ∷ []) some short = refl
-picked_is_filled (a ∷ b ∷ []) some short = refl
-picked_is_filled (a ∷ b ∷ c ∷ []) some short = refl
-picked_is_filled (a ∷ b ∷ c ∷ d ∷ []) some short = refl
-picked_is_filled (a ∷ b ∷ c ∷ d ∷ e ∷ []) some short = refl
-picked_is_filled (a ∷ b ∷ c ∷ d ∷ e ∷ f ∷ []) some short = refl
-picked_is_filled (a ∷ b ∷ c ∷ d ∷ e ∷ f ∷ g ∷ []) some short = refl
-picked_is_filled (a ∷ b ∷ c ∷ d ∷ e ∷ f ∷ g ∷ h ∷ more) some short = absurd (omega arith)
+pub picked_is_padded : (message : List ℕ) → 1 ≤ length message → length message ≤ 7 → picked message ≡ padded (single_control (length message)) message
+unfolding padded
+picked_is_padded [] some short = absurd (omega arith)
+picked_is_padded (a ∷ []) some short = refl
+picked_is_padded (a ∷ b ∷ []) some short = refl
+picked_is_padded (a ∷ b ∷ c ∷ []) some short = refl
+picked_is_padded (a ∷ b ∷ c ∷ d ∷ []) some short = refl
+picked_is_padded (a ∷ b ∷ c ∷ d ∷ e ∷ []) some short = refl
+picked_is_padded (a ∷ b ∷ c ∷ d ∷ e ∷ f ∷ []) some short = refl
+picked_is_padded (a ∷ b ∷ c ∷ d ∷ e ∷ f ∷ g ∷ []) some short = refl
+picked_is_padded (a ∷ b ∷ c ∷ d ∷ e ∷ f ∷ g ∷ h ∷ more) some short = absurd (omega arith)
 
 -- it is the only one of its message
 pub picked_is_alone : (limit : ℕ) (direction : Dir) (message : List ℕ) → 1 ≤ length message → length message ≤ 7 → length message ≤ limit
     → canonical_frames limit direction message ≡ (direction, picked message) ∷ []
 picked_is_alone limit direction message some short fits =
-    canonical_frames-short limit direction message some short fits ∙ ap (λ (frame : List ℕ). (direction, frame) ∷ []) (sym (picked_is_filled message some short))
+    canonical_frames-short limit direction message some short fits ∙ ap (λ (frame : List ℕ). (direction, frame) ∷ []) (sym (picked_is_padded message some short))

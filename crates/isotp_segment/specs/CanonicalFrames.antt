@@ -13,8 +13,8 @@ abbrev pub padding : ℕ
 padding = 0xCC
 
 -- The 8 bytes of a frame: its protocol control information, bytes of the message as far as there is room, and padding.
-unfoldable pub filled : List ℕ → List ℕ → List ℕ
-filled control bytes = take 8 (control ++ (bytes ++ replicate 8 padding))
+unfoldable pub padded : List ℕ → List ℕ → List ℕ
+padded control bytes = take 8 (control ++ (bytes ++ replicate 8 padding))
 
 -- a single frame tells the length in four bits (section 9.6.2)
 abbrev pub single_control : ℕ → List ℕ
@@ -38,9 +38,13 @@ continue_control = first_byte 3 (status_number Continue) ∷ 0 ∷ 0 ∷ []
 abbrev pub room_in_first : ℕ → ℕ
 room_in_first len = if nat_le len 4095 then 6 else 2
 
--- the place in the message where the bytes of consecutive frame `number` begin, counted from 1 (section 9.6.4)
+-- the place in the message where the bytes of consecutive frame `number` begin (section 9.6.4); these frames are counted from 1
 abbrev pub place_of : ℕ → ℕ → ℕ
 place_of len number = bytes_before (room_in_first len) 8 (number - 1)
+
+-- consecutive frame `number` of a message: what it holds begins at its place
+abbrev pub consecutive_frame : List ℕ → ℕ → List ℕ
+consecutive_frame message number = padded (consecutive_control number) (drop (place_of (length message) number) message)
 
 -- how many consecutive frames hold what the first frame leaves
 abbrev pub consecutive_count : ℕ → ℕ
@@ -54,10 +58,10 @@ frame_count len = if nat_le len 7 then 1 else 2 + consecutive_count len
 -- side, and the consecutive frames.
 unfoldable pub canonical_frame : Dir → List ℕ → ℕ → Dir × List ℕ
 canonical_frame direction message number =
-    if nat_le (length message) 7 then (direction, filled (single_control (length message)) message)
-    else if number == 0 then (direction, filled (first_control (length message)) message)
-    else if number == 1 then (other_direction direction, filled continue_control [])
-    else (direction, filled (consecutive_control (number - 1)) (drop (place_of (length message) (number - 1)) message))
+    if nat_le (length message) 7 then (direction, padded (single_control (length message)) message)
+    else if number == 0 then (direction, padded (first_control (length message)) message)
+    else if number == 1 then (other_direction direction, padded continue_control [])
+    else (direction, consecutive_frame message (number - 1))
 
 -- The frames of a message of 1 to `limit` bytes. Any other has none.
 unfoldable pub canonical_frames : ℕ → Dir → List ℕ → List (Dir × List ℕ)

@@ -23,15 +23,15 @@ FrameCountByLength = (len : ℕ) → (len ≤ 7 → frame_count len ≡ 1) × (7
 abbrev pub ConsecutiveCountIsLeast : Type 0
 ConsecutiveCountIsLeast = (len : ℕ) → 7 < len → IsConsecutiveCount (room_in_first len) 8 len (consecutive_count len)
 
--- a frame of 8 bytes
-pub record IsFullFrame (frame : Dir × List ℕ) : Type 0 where
-  pub full : length frame.1 ≡ 8
+-- a frame of 8 bytes, each of which is a byte
+pub record HasEightBytes (frame : Dir × List ℕ) : Type 0 where
+  pub eight : length frame.1 ≡ 8
   pub bytes : AreBytes frame.1
 
 -- each canonical frame of a message of bytes has 8 bytes
-abbrev pub CanonicalFramesAreFull : Type 0
-CanonicalFramesAreFull = (limit : ℕ) (d : Dir) (message : List ℕ)
-    → limit < 2 ^ 32 → AreBytes message → AllByRecursion IsFullFrame (canonical_frames limit d message)
+abbrev pub CanonicalFramesHaveEightBytes : Type 0
+CanonicalFramesHaveEightBytes = (limit : ℕ) (d : Dir) (message : List ℕ)
+    → limit < 2 ^ 32 → AreBytes message → AllByRecursion HasEightBytes (canonical_frames limit d message)
 
 -- the frames of the message are one, of the same side: a single frame that holds it, under any identifier
 pub record AreOneSingleFrame (d : Dir) (message : List ℕ) (frames : List (Dir × List ℕ)) : Type 0 where
@@ -55,13 +55,13 @@ CanonicalFramesAreClean = (limit : ℕ) (identifier : Dir → Id) (line micros :
     → limit < 2 ^ 32 → AllByRecursion (HasFrames limit) M → IsClean limit (timed identifier line micros (all_frames limit M))
 
 -- received after any trace they deliver the message, and nothing else
-abbrev pub SegmentsDeliver : Type 0
-SegmentsDeliver = (limit : ℕ) (identifier : Dir → Id) (line micros : ℕ) (T : List Entry) (d : Dir) (m : List ℕ)
-    → limit < 2 ^ 32 → 1 ≤ length m → length m ≤ limit
-    → messages limit (T ++ timed identifier line micros (canonical_frames limit d m)) ≡ messages limit T ++ (d, m) ∷ []
+abbrev pub CanonicalFramesDeliver : Type 0
+CanonicalFramesDeliver = (limit : ℕ) (identifier : Dir → Id) (line micros : ℕ) (T : List Entry) (d : Dir) (message : List ℕ)
+    → limit < 2 ^ 32 → 1 ≤ length message → length message ≤ limit
+    → messages limit (T ++ timed identifier line micros (canonical_frames limit d message)) ≡ messages limit T ++ (d, message) ∷ []
 
 -- it is the last of them that does: the frames before it deliver nothing
-abbrev pub SegmentsDeliverNothingBefore : Type 0
-SegmentsDeliverNothingBefore = (limit : ℕ) (identifier : Dir → Id) (line micros : ℕ) (T : List Entry) (d : Dir) (m : List ℕ) (n : ℕ)
-    → limit < 2 ^ 32 → 1 ≤ length m → length m ≤ limit → n < length (canonical_frames limit d m)
-    → messages limit (T ++ timed identifier line micros (take n (canonical_frames limit d m))) ≡ messages limit T
+abbrev pub CanonicalFramesDeliverNothingBefore : Type 0
+CanonicalFramesDeliverNothingBefore = (limit : ℕ) (identifier : Dir → Id) (line micros : ℕ) (T : List Entry) (d : Dir) (message : List ℕ) (n : ℕ)
+    → limit < 2 ^ 32 → 1 ≤ length message → length message ≤ limit → n < length (canonical_frames limit d message)
+    → messages limit (T ++ timed identifier line micros (take n (canonical_frames limit d message))) ≡ messages limit T

@@ -1,44 +1,43 @@
 //! Laws of canonical frames, for the proofs of callers: functions that do nothing.
 
-ghost use Rattle.isotp_segment.specs.Laws.{FrameCountByLength, ConsecutiveCountIsLeast, CanonicalFramesAreFull, ShortMessageIsOneFrame};
-ghost use Rattle.isotp_segment.specs.Laws.{CanonicalFramesAreARecording, CanonicalFramesAreClean, SegmentsDeliver, SegmentsDeliverNothingBefore};
+ghost use Rattle.isotp_segment.specs.Laws.{FrameCountByLength, ConsecutiveCountIsLeast, CanonicalFramesHaveEightBytes, ShortMessageIsOneFrame};
+ghost use Rattle.isotp_segment.specs.Laws.{CanonicalFramesAreARecording, CanonicalFramesAreClean, CanonicalFramesDeliver, CanonicalFramesDeliverNothingBefore};
 
 /// A message of at most 7 bytes has one canonical frame, and a longer one two more than its consecutive frames.
 pub fn frame_count_by_length()
-    ensures count { FrameCountByLength }
+    ensures { FrameCountByLength }
 {}
 
 /// The consecutive frames of a message are as many as its bytes ask for, and no more.
 pub fn consecutive_count_is_least()
-    ensures least { ConsecutiveCountIsLeast }
+    ensures { ConsecutiveCountIsLeast }
 {}
 
 /// Each canonical frame has 8 bytes.
-pub fn canonical_frames_are_full()
-    ensures full { CanonicalFramesAreFull }
+pub fn canonical_frames_have_eight_bytes()
+    ensures { CanonicalFramesHaveEightBytes }
 {}
 
 /// A message of at most 7 bytes has one canonical frame: a single frame that holds it.
 pub fn short_message_is_one_frame()
-    ensures frame { ShortMessageIsOneFrame }
+    ensures { ShortMessageIsOneFrame }
 {}
 
-/// The canonical frames of any messages, each a millisecond after the one before, are a recording of
-/// these messages: from any line and time on, and under any two identifiers.
+/// The canonical frames of any messages, each a millisecond after the one before, are a recording of these messages: from any
+/// line and time on, and under any two identifiers.
 pub fn canonical_frames_are_a_recording()
-    ensures recording { CanonicalFramesAreARecording }
+    ensures { CanonicalFramesAreARecording }
 {}
 
-/// Such frames are a clean trace: no frame is dropped, none ends a reception, and nothing is left over.
-/// So each stands on the side, in the place and at the time where a receiver waits for it: a continue
-/// frame from the side of the message would be dropped.
+/// Such frames are a clean trace: no frame is dropped, none ends a reception, and nothing is left over. So each stands on the
+/// side, in the place and at the time where a receiver waits for it: a continue frame from the side of the message would be
+/// dropped.
 pub fn canonical_frames_are_clean()
-    ensures clean { CanonicalFramesAreClean }
+    ensures { CanonicalFramesAreClean }
 {}
 
-/// Received after any trace, the canonical frames of a message deliver it at the last of them, and
-/// nothing before.
-pub fn segments_deliver()
-    ensures message { SegmentsDeliver }
-    ensures nothing_before { SegmentsDeliverNothingBefore }
+/// Received after any trace, the canonical frames of a message deliver it at the last of them, and nothing before.
+pub fn canonical_frames_deliver()
+    ensures message { CanonicalFramesDeliver }
+    ensures nothing_before { CanonicalFramesDeliverNothingBefore }
 {}

@@ -1,10 +1,19 @@
 //! The frame of a message that one frame holds. Most messages are such, and a copy of so few bytes, whose number is known
 //! only when it runs, would be a call: so they are put in their places all at once, by lanes.
+//!
+//! ```text
+//! message                62 F1 90 41 42
+//! its ends               62 F1 90 41 F1 90 41 42     the first four bytes, and the last four
+//! lanes of the ends      -- 0  1  2  3  7  -- --     PLACES: which of them each byte of the frame is, GAP for none
+//! picked                 00 62 F1 90 41 42 00 00
+//! blank frame            05 00 00 00 00 00 CC CC     BLANKS
+//! frame, both of them    05 62 F1 90 41 42 CC CC
+//! ```
 
 ghost use Rattle.std.specs.Prelude.{◌≡◌, ◌≤◌, [], ◌∷◌, length};
 ghost use Rattle.direction.specs.declared.Dir.{Dir};
 ghost use Rattle.isotp_receive.specs.declared.TheConstants.{MESSAGE_LIMIT};
-ghost use Rattle.isotp_segment.specs.CanonicalFrames.{filled, single_control, canonical_frames};
+ghost use Rattle.isotp_segment.specs.CanonicalFrames.{padded, single_control, canonical_frames};
 ghost use Rattle.isotp_segment.specs.declared.single.TheConstants.{SINGLE_LIMIT};
 ghost use Rattle.isotp_segment.specs.proving.Ends.{ends_of};
 
@@ -16,11 +25,9 @@ pub const SINGLE_LIMIT: usize = 7;
 /// What a frame has after the bytes of the message.
 pub(crate) const PADDING: u8 = 0xCC;
 
-/// The frame by the length of its message, with zeros where the bytes of the message go.
+/// The frame by the length of its message, with zeros where the bytes of the message go. No message has a length of 0.
 static BLANKS: [[u8; 8]; 8] = [
-    [
-        0, PADDING, PADDING, PADDING, PADDING, PADDING, PADDING, PADDING,
-    ],
+    [0, 0, 0, 0, 0, 0, 0, 0],
     [1, 0, PADDING, PADDING, PADDING, PADDING, PADDING, PADDING],
     [2, 0, 0, PADDING, PADDING, PADDING, PADDING, PADDING],
     [3, 0, 0, 0, PADDING, PADDING, PADDING, PADDING],
@@ -30,26 +37,23 @@ static BLANKS: [[u8; 8]; 8] = [
     [7, 0, 0, 0, 0, 0, 0, 0],
 ];
 
-/// The lanes of the ends of the message where these bytes are found, by the length of the message.
+/// For each byte of the frame the lane of [`ends`] that has it, by the length of the message.
 static PLACES: [[u8; 8]; 8] = [
-    [
-        NO_LANE, NO_LANE, NO_LANE, NO_LANE, NO_LANE, NO_LANE, NO_LANE, NO_LANE,
-    ],
-    [
-        NO_LANE, 0, NO_LANE, NO_LANE, NO_LANE, NO_LANE, NO_LANE, NO_LANE,
-    ],
-    [NO_LANE, 0, 2, NO_LANE, NO_LANE, NO_LANE, NO_LANE, NO_LANE],
-    [NO_LANE, 0, 1, 2, NO_LANE, NO_LANE, NO_LANE, NO_LANE],
-    [NO_LANE, 0, 1, 2, 3, NO_LANE, NO_LANE, NO_LANE],
-    [NO_LANE, 0, 1, 2, 3, 7, NO_LANE, NO_LANE],
-    [NO_LANE, 0, 1, 2, 3, 6, 7, NO_LANE],
-    [NO_LANE, 0, 1, 2, 3, 5, 6, 7],
+    [GAP, GAP, GAP, GAP, GAP, GAP, GAP, GAP],
+    [GAP, 0, GAP, GAP, GAP, GAP, GAP, GAP],
+    [GAP, 0, 2, GAP, GAP, GAP, GAP, GAP],
+    [GAP, 0, 1, 2, GAP, GAP, GAP, GAP],
+    [GAP, 0, 1, 2, 3, GAP, GAP, GAP],
+    [GAP, 0, 1, 2, 3, 7, GAP, GAP],
+    [GAP, 0, 1, 2, 3, 6, 7, GAP],
+    [GAP, 0, 1, 2, 3, 5, 6, 7],
 ];
 
-/// No lane: what is picked there is 0.
-const NO_LANE: u8 = 0x80;
+/// The place of no lane: what is picked there is 0.
+const GAP: u8 = 0x80;
 
-/// Eight lanes, and eight of another vector behind them: where lanes are picked of sixteen, a place may be none.
+/// Eight lanes, and eight zeros behind them. One instruction picks among sixteen lanes, and gives 0 for a place of 0x80: so both
+/// the ends and their places are widened.
 const WIDENED: [usize; 16] = [0, 1, 2, 3, 4, 5, 6, 7, 8, 9, 10, 11, 12, 13, 14, 15];
 
 /// The one canonical frame of a message of 1 to [`SINGLE_LIMIT`] bytes, whoever sends it: a single frame of 8 bytes, padded
@@ -58,7 +62,7 @@ const WIDENED: [usize; 16] = [0, 1, 2, 3, 4, 5, 6, 7, 8, 9, 10, 11, 12, 13, 14, 
 pub fn single_frame(message: &[u8]) -> [u8; 8]
     requires some { 1 ≤ length message.now }
     requires single { length message.now ≤ SINGLE_LIMIT }
-    ensures value { result ≡ filled (single_control (length message.now)) message.now }
+    ensures value { result ≡ padded (single_control (length message.now)) message.now }
     ensures frames { (direction : Dir) → canonical_frames MESSAGE_LIMIT direction message.now ≡ (direction, result) ∷ [] }
 {
     let len = message.len();

@@ -13,7 +13,7 @@ use Rattle.can_log.proofs.Promises.{AllByRecursion-append, AllByRecursion-tested
 use Rattle.json.specs.Print.{escape, escape_byte, quoted}
 use Rattle.json.proofs.Printed.Strings.{escape_byte_plain}
 use Rattle.trace_text.specs.Json.{in_quotes}
-use Rattle.trace_canon.specs.MessageLines.{stamp_text}
+use Rattle.trace_text.specs.Words.{stamp_text}
 use Rattle.trace_text.proofs.Promises.{is_in_word, IsWord}
 
 -- neither a quote, nor a backslash, nor a control character

@@ -5,13 +5,13 @@ use Rattle.trace_canon.specs.declared.comparing.Comparison.{Comparison}
 use Rattle.trace_text.specs.declared.item_style.Numbering.{Numbering}
 use Rattle.trace_text.specs.declared.remark.Remark.{Remark}
 use Rattle.trace_canon.specs.ComparisonText.{comparison_members}
-use Rattle.trace_text.specs.ExplainText.{remark_members}
-use Rattle.trace_canon.specs.Found.{pair_object}
-use Rattle.trace_text.specs.ListText.{item_object}
+use Rattle.trace_text.specs.RemarkLines.{remark_members}
+use Rattle.trace_canon.specs.Finding.{pair_object}
+use Rattle.trace_text.specs.ItemLines.{item_object}
 use Rattle.trace_canon.specs.MessageLines.{PlacedMessage, placed_members}
 use Rattle.uds_exchange.specs.Meaning.{ItemValue}
 use Rattle.uds_find.specs.Finding.{credit_line}
-use Rattle.uds_find.specs.declared.pair.Pair.{Pair}
+use Rattle.uds_find.specs.declared.pair.IdPair.{IdPair}
 
 -- an item of a list, with its number or without
 abbrev pub ItemsAreReadAsMeant : Type 0
@@ -32,4 +32,4 @@ ComparisonsAreReadAsMeant =
 
 -- a pair of identifiers, with the number of its credits
 abbrev pub PairsAreReadAsMeant : Type 0
-PairsAreReadAsMeant = (counted : Pair × ℕ) → IsReadAsMeant (pair_object (credit_line counted))
+PairsAreReadAsMeant = (counted : IdPair × ℕ) → IsReadAsMeant (pair_object (credit_line counted))

@@ -31,6 +31,9 @@ const NUMBERED: ItemStyle = ItemStyle {
 
 const TRIES: [Made; 2] = [Made::Once, Made::Again];
 
+/// The end of the counts of two sessions that are the same.
+const NO_CHANGE: &[u8] = b"\"removed\":0,\"added\":0,\"changed\":0,\"shortest\":true}\n";
+
 const REFUSED_AGAIN: &str = "refused again";
 
 /// Ends a test with the session over which its call was refused memory.
@@ -319,6 +322,36 @@ fn compared(alloc: Global, session: Session) -> Result<Made, Fail> {
         match trace_canon::compare(alloc, &config()?, &mut log, &mut canonical) {
             Err(CompareFault::Left(Fault::Memory) | CompareFault::Right(Fault::Memory)) => {}
             Ok(compared) if compared.comparison == Comparison::Same => return Ok(made),
+            _ => Err("not the same")?,
+        }
+    }
+    Err(REFUSED_AGAIN)?
+}
+
+#[test]
+fn pair_difference(rt: HostRuntime) -> Result<(), Fail> {
+    for session in SESSIONS {
+        tell(differed(rt.alloc(), session)?, session)?;
+    }
+    Ok(())
+}
+
+/// Sets a session beside its canonical log. As objects even of that there is a text.
+fn differed(alloc: Global, session: Session) -> Result<Made, Fail> {
+    let (config, notation) = (config()?, Notation::Json);
+    let (log, canonical) = (session.log, session.canonical);
+    for made in TRIES {
+        match trace_difference::in_memory::pair_difference(
+            alloc,
+            &config,
+            notation,
+            b"log",
+            b"canonical",
+            log,
+            canonical,
+        ) {
+            Err(CompareFault::Left(Fault::Memory) | CompareFault::Right(Fault::Memory)) => {}
+            Ok(told) if told.text.as_slice().ends_with(NO_CHANGE) => return Ok(made),
             _ => Err("not the same")?,
         }
     }

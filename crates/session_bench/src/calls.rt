@@ -3,7 +3,7 @@
 use crate::digest::Digest;
 use std::alloc::Global;
 use trace_canon::{
-    ComparisonStyle, compare, counted, explain, find, list, messages, normalise, watch,
+    ComparisonStyle, compare, explain, find, in_memory, list, messages, normalise, watch,
     write_comparison,
 };
 use trace_io::{Bytes, Writing};
@@ -125,7 +125,7 @@ pub(crate) fn run_in_memory(
     recording: &[u8],
     digest: &mut Digest,
 ) {
-    match counted::comparison(alloc, config, kept, recording) {
+    match in_memory::comparison(alloc, config, kept, recording) {
         Ok(counted) => digest.note(if counted.comparison == trace_canon::Comparison::Same {
             1
         } else {
@@ -133,11 +133,11 @@ pub(crate) fn run_in_memory(
         }),
         Err(_fault) => digest.note(3),
     }
-    match counted::canonical_log(alloc, config, recording) {
+    match in_memory::canonical_log(alloc, config, recording) {
         Ok(counted) => digest.take(&counted.text),
         Err(_fault) => digest.note(4),
     }
-    match counted::item_list(alloc, config, NUMBERED, recording) {
+    match in_memory::item_list(alloc, config, NUMBERED, recording) {
         Ok(counted) => {
             digest.count(Some(&counted.summary));
             digest.take(&counted.text);

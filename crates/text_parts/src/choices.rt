@@ -2,7 +2,7 @@
 use crate::part::Part;
 use trace_io::TextSink;
 
-/// A part that stands where something is so.
+/// A part that stands where something is so: `("item ", Number(12), When(is_open, ", open"))`.
 #[derive(Clone, Copy)]
 pub struct When<P>(pub bool, pub P);
 
@@ -19,7 +19,7 @@ impl<P: Part> Part for When<P> {
     }
 }
 
-/// The first part where something is so, and the second where it is not.
+/// The first part where something is so, and the second where it is not: `Either(count == 1, " byte", " bytes")`.
 #[derive(Clone, Copy)]
 pub struct Either<P, Q>(pub bool, pub P, pub Q);
 

@@ -8,7 +8,8 @@ pub trait Part: Copy {
     /// Its text.
     ghost text: { Self → List ℕ };
 
-    /// Says the text. Callers have [`say`], which takes tuples as well.
+    /// Says the text. Callers have [`say`], which takes tuples as well. A part within which no write may end, as a number, goes
+    /// to `put_whole`, and any other one to `put`.
     fn say<S: TextSink>(self, out: &mut S)
         ensures { S.says out.old (text self) out.new };
 }
@@ -21,7 +22,7 @@ pub fn say<S: TextSink, P: Part>(out: &mut S, part: P)
     part.say(out);
 }
 
-/// A text is `put`, so a write may end within it. A part of which none may, as a number, goes to `put_whole`.
+/// A `str` goes to `put`: a write may end within it.
 impl<'a> Part for &'a str {
     ghost text = { λ text. text.now };
 

@@ -84,7 +84,8 @@ impl<A: Part, B: Part, C: Part, D: Part, E: Part, F: Part> Part for (A, B, C, D,
 impl<A: Part, B: Part, C: Part, D: Part, E: Part, F: Part, G: Part> Part for (A, B, C, D, E, F, G) {
     ghost use Rattle.std.specs.Prelude.{◌++◌};
 
-    ghost text = { λ parts. A.text parts.0 ++ B.text parts.1 ++ C.text parts.2 ++ D.text parts.3 ++ E.text parts.4 ++ F.text parts.5 ++ G.text parts.6 };
+    ghost text = { λ parts. A.text parts.0 ++ B.text parts.1 ++ C.text parts.2 ++ D.text parts.3 ++ E.text parts.4 ++ F.text parts.5
+        ++ G.text parts.6 };
 
     #[inline(always)]
     fn say<S: TextSink>(self, out: &mut S) {
@@ -102,7 +103,8 @@ impl<A: Part, B: Part, C: Part, D: Part, E: Part, F: Part, G: Part, H: Part> Par
     for (A, B, C, D, E, F, G, H) {
     ghost use Rattle.std.specs.Prelude.{◌++◌};
 
-    ghost text = { λ parts. A.text parts.0 ++ B.text parts.1 ++ C.text parts.2 ++ D.text parts.3 ++ E.text parts.4 ++ F.text parts.5 ++ G.text parts.6 ++ H.text parts.7 };
+    ghost text = { λ parts. A.text parts.0 ++ B.text parts.1 ++ C.text parts.2 ++ D.text parts.3 ++ E.text parts.4 ++ F.text parts.5
+        ++ G.text parts.6 ++ H.text parts.7 };
 
     #[inline(always)]
     fn say<S: TextSink>(self, out: &mut S) {
@@ -121,7 +123,8 @@ impl<A: Part, B: Part, C: Part, D: Part, E: Part, F: Part, G: Part, H: Part, I: 
     for (A, B, C, D, E, F, G, H, I) {
     ghost use Rattle.std.specs.Prelude.{◌++◌};
 
-    ghost text = { λ parts. A.text parts.0 ++ B.text parts.1 ++ C.text parts.2 ++ D.text parts.3 ++ E.text parts.4 ++ F.text parts.5 ++ G.text parts.6 ++ H.text parts.7 ++ I.text parts.8 };
+    ghost text = { λ parts. A.text parts.0 ++ B.text parts.1 ++ C.text parts.2 ++ D.text parts.3 ++ E.text parts.4 ++ F.text parts.5
+        ++ G.text parts.6 ++ H.text parts.7 ++ I.text parts.8 };
 
     #[inline(always)]
     fn say<S: TextSink>(self, out: &mut S) {
@@ -141,7 +144,8 @@ impl<A: Part, B: Part, C: Part, D: Part, E: Part, F: Part, G: Part, H: Part, I: 
     for (A, B, C, D, E, F, G, H, I, J) {
     ghost use Rattle.std.specs.Prelude.{◌++◌};
 
-    ghost text = { λ parts. A.text parts.0 ++ B.text parts.1 ++ C.text parts.2 ++ D.text parts.3 ++ E.text parts.4 ++ F.text parts.5 ++ G.text parts.6 ++ H.text parts.7 ++ I.text parts.8 ++ J.text parts.9 };
+    ghost text = { λ parts. A.text parts.0 ++ B.text parts.1 ++ C.text parts.2 ++ D.text parts.3 ++ E.text parts.4 ++ F.text parts.5
+        ++ G.text parts.6 ++ H.text parts.7 ++ I.text parts.8 ++ J.text parts.9 };
 
     #[inline(always)]
     fn say<S: TextSink>(self, out: &mut S) {
@@ -173,7 +177,8 @@ impl<
 > Part for (A, B, C, D, E, F, G, H, I, J, K) {
     ghost use Rattle.std.specs.Prelude.{◌++◌};
 
-    ghost text = { λ parts. A.text parts.0 ++ B.text parts.1 ++ C.text parts.2 ++ D.text parts.3 ++ E.text parts.4 ++ F.text parts.5 ++ G.text parts.6 ++ H.text parts.7 ++ I.text parts.8 ++ J.text parts.9 ++ K.text parts.10 };
+    ghost text = { λ parts. A.text parts.0 ++ B.text parts.1 ++ C.text parts.2 ++ D.text parts.3 ++ E.text parts.4 ++ F.text parts.5
+        ++ G.text parts.6 ++ H.text parts.7 ++ I.text parts.8 ++ J.text parts.9 ++ K.text parts.10 };
 
     #[inline(always)]
     fn say<S: TextSink>(self, out: &mut S) {
@@ -207,7 +212,8 @@ impl<
 > Part for (A, B, C, D, E, F, G, H, I, J, K, L) {
     ghost use Rattle.std.specs.Prelude.{◌++◌};
 
-    ghost text = { λ parts. A.text parts.0 ++ B.text parts.1 ++ C.text parts.2 ++ D.text parts.3 ++ E.text parts.4 ++ F.text parts.5 ++ G.text parts.6 ++ H.text parts.7 ++ I.text parts.8 ++ J.text parts.9 ++ K.text parts.10 ++ L.text parts.11 };
+    ghost text = { λ parts. A.text parts.0 ++ B.text parts.1 ++ C.text parts.2 ++ D.text parts.3 ++ E.text parts.4 ++ F.text parts.5
+        ++ G.text parts.6 ++ H.text parts.7 ++ I.text parts.8 ++ J.text parts.9 ++ K.text parts.10 ++ L.text parts.11 };
 
     #[inline(always)]
     fn say<S: TextSink>(self, out: &mut S) {

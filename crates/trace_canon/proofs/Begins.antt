@@ -6,9 +6,9 @@ use Rattle.direction.specs.declared.Dir.TheVariants.{Tester, Unit}
 use Rattle.isotp_receive.specs.Trace.{same_direction}
 use Rattle.isotp_receive.specs.Verdict.{message, began, stored, flowed, dropped}
 use Rattle.isotp_receive.specs.declared.event.Reason.{Reason}
-use Rattle.trace_canon.specs.Begun.{begun_of, moved_by}
-use Rattle.trace_canon.specs.declared.begun.Begun.{Begun}
-use Rattle.trace_canon.specs.declared.begun.FramePlace.{FramePlace}
+use Rattle.trace_canon.specs.ReceptionStarts.{begun_of, moved_by}
+use Rattle.trace_canon.specs.declared.reception_starts.ReceptionStarts.{ReceptionStarts}
+use Rattle.trace_canon.specs.declared.reception_starts.FramePlace.{FramePlace}
 
 -- none stands
 pub none_begun : (d : Dir) → begun_of (record { tester = None; unit = None }) d ≡ None
@@ -16,11 +16,11 @@ none_begun Tester = refl
 none_begun Unit = refl
 
 -- that of one direction is another now
-pub of_tester : (begun : Option FramePlace) (old : Begun) (d : Dir) → begun_of (record { tester = begun; unit = old.unit }) d ≡ (if same_direction d Tester then begun else begun_of old d)
+pub of_tester : (begun : Option FramePlace) (old : ReceptionStarts) (d : Dir) → begun_of (record { tester = begun; unit = old.unit }) d ≡ (if same_direction d Tester then begun else begun_of old d)
 of_tester begun old Tester = refl
 of_tester begun old Unit = refl
 
-pub of_unit : (begun : Option FramePlace) (old : Begun) (d : Dir) → begun_of (record { tester = old.tester; unit = begun }) d ≡ (if same_direction d Unit then begun else begun_of old d)
+pub of_unit : (begun : Option FramePlace) (old : ReceptionStarts) (d : Dir) → begun_of (record { tester = old.tester; unit = begun }) d ≡ (if same_direction d Unit then begun else begun_of old d)
 of_unit begun old Tester = refl
 of_unit begun old Unit = refl
 

@@ -11,8 +11,8 @@ use Rattle.uds_exchange.specs.Order.{early}
 use Rattle.uds_exchange.specs.Judging.{sent}
 use Rattle.uds_exchange.specs.declared.judge.Judged.{Judged}
 use Rattle.trace_run.proofs.Promises.{CompletesJudged}
-use Rattle.uds_exchange.specs.Orderer.{IsHeld, JudgedOrdererValue, orders_after}
-use Rattle.trace_canon.specs.Keeping.{CompletesMessage, CompletesHeld}
+use Rattle.uds_exchange.specs.Orderer.{IsHeld, JudgedOrdererValue, judged_orderer_after}
+use Rattle.trace_canon.specs.MemoryNeeded.{CompletesMessage, CompletesHeld}
 use Rattle.trace_canon.specs.CanonicalScript.{place_behind, lines_due, StandsCanonical}
 use Rattle.trace_canon.specs.proving.Saying.{SaysDue}
 use Rattle.trace_log.specs.Settings.{Settings}
@@ -38,7 +38,7 @@ completes_held T e judged completes held =
 -- a message: what is due with it was said
 pub says_next : {S : Type 0} (says : S → List ℕ → S → Type 0) (settings config : Settings) (T : List Entry) (e : Entry) (message : Message)
     (orderer orderer_now : JudgedOrdererValue) (progress progress_now : Progress) (out out_now : S) → messages MESSAGE_LIMIT (T ++ e ∷ []) ≡ messages MESSAGE_LIMIT T ++ message ∷ []
-    → StandsCanonical settings T orderer config progress → orderer_now ≡ orders_after (messages MESSAGE_LIMIT T ++ message ∷ [])
+    → StandsCanonical settings T orderer config progress → orderer_now ≡ judged_orderer_after (messages MESSAGE_LIMIT T ++ message ∷ [])
     → SaysDue says config (messages MESSAGE_LIMIT T) message progress out progress_now out_now
     → StandsCanonical settings (T ++ e ∷ []) orderer_now config progress_now
     × says out (lines_due settings (messages MESSAGE_LIMIT T) (messages MESSAGE_LIMIT (T ++ e ∷ []))) out_now
@@ -49,7 +49,7 @@ says_next says settings config T e message orderer orderer_now progress progress
     let same = stood.same in
     let stood_at = stood.at in (
       record {
-        ordered = ordered ∙ ap orders_after (sym next);
+        ordered = ordered ∙ ap judged_orderer_after (sym next);
         same = same;
         at = at ∙ ap (λ c. progress_after c progress (all_frames MESSAGE_LIMIT due)) same ∙ ap (λ p. progress_after settings p (all_frames MESSAGE_LIMIT due)) stood_at
             ∙ sym (place_append settings (start_of settings.max_bytes) (all_frames MESSAGE_LIMIT (early M)) (all_frames MESSAGE_LIMIT due))
@@ -71,7 +71,7 @@ says_nothing_more says nothing settings config T e orderer progress out next sto
     let same : messages MESSAGE_LIMIT (T ++ e ∷ []) ≡ M = next in
     let none : drop (length (early M)) (early (messages MESSAGE_LIMIT (T ++ e ∷ []))) ≡ [] =
     ap (λ x. drop (length (early M)) (early x)) same ∙ ap (drop (length (early M))) (sym (append-nil (early M))) ∙ drop-append_seam (early M) [] in (
-      record { ordered = stood.ordered ∙ ap orders_after (sym same); same = stood.same; at = stood.at ∙ ap (λ x. place_behind settings (early x)) (sym same) },
+      record { ordered = stood.ordered ∙ ap judged_orderer_after (sym same); same = stood.same; at = stood.at ∙ ap (λ x. place_behind settings (early x)) (sym same) },
       subst (λ text. says out text out)
           (sym (ap (λ x. text_from settings (place_behind settings (early M)) (all_frames MESSAGE_LIMIT x)) none ∙ text_none settings (place_behind settings (early M)))) (nothing out),
     )

@@ -1,12 +1,14 @@
 -- Messages put one after another into a sink that says their canonical lines.
-use Rattle.std.proofs.Common.{◌≡◌, ℕ, List, [], ◌∷◌, ◌++◌, refl, ap, sym, subst, ◌∙◌}
+use Rattle.std.proofs.Common.{◌≡◌, ℕ, List, [], ◌∷◌, ◌++◌, refl, ap, sym, subst, ◌∙◌, Result, Ok, Err}
+use Rattle.std.specs.Prelude.{OnOk, IfErr}
 use Rattle.direction.specs.Dir.{Message}
 use Rattle.direction.specs.declared.Dir.{Dir}
 use Rattle.isotp_receive.specs.declared.TheConstants.{MESSAGE_LIMIT}
 use Rattle.isotp_segment.specs.CanonicalFrames.{canonical_frames}
 use Rattle.isotp_segment.specs.Timed.{all_frames}
+use Rattle.uds_exchange.specs.Order.{held}
 use Rattle.uds_exchange.specs.Orderer.{StopsHeld, StopsDue}
-use Rattle.uds_exchange.specs.Sink.{AfterOk, Fails, Puts}
+use Rattle.uds_exchange.specs.MessageSink.{AfterOk, Fails, Puts}
 use Rattle.uds_exchange.specs.declared.order_fault.OrderFault.{OrderFault}
 use Rattle.uds_exchange.specs.declared.order_fault.OrderFault.TheVariants as order_fault
 use Rattle.trace_canon.specs.proving.Writing.{text_from, progress_after}
@@ -63,7 +65,15 @@ never_stops after_ok put s t order_fault.Memory stops = absurd stops
 never_stops after_ok put s t order_fault.Failed stops = absurd stops
 never_stops after_ok put s t (order_fault.Sink why) (front, next, rest, between, parts, puts, err) = absurd err
 
--- so where an orderer stops, memory was refused
+-- so all that is held is put, whatever is answered
+pub held_is_put : {A K E : Type 0} (after_ok : AfterOk K) (Stands : List Message → Type 0) (s t : K) (result : Result A (OrderFault E))
+    → OnOk result ((M : List Message) → Stands M → Puts after_ok s (held M) t)
+    → IfErr result (λ why. (M : List Message) → Stands M → StopsHeld after_ok (λ s d m e t. ⊥) (held M) s t why)
+    → (M : List Message) → Stands M → Puts after_ok s (held M) t
+held_is_put after_ok Stands s t (Ok value) puts stops M stands = puts M stands
+held_is_put after_ok Stands s t (Err why) puts stops M stands = never_stops after_ok (held M) s t why (stops M stands)
+
+-- and where an orderer stops, memory was refused
 pub stops_for_memory : {K E Goal : Type 0} (after_ok : AfterOk K) (M : List Message) (message : Message) (s t : K) (why : OrderFault E)
     → StopsDue after_ok (λ s d m e t. ⊥) M message s t why → (why ≡ order_fault.Memory → Goal) → Goal
 stops_for_memory after_ok M message s t order_fault.Memory stops by = by refl

@@ -17,8 +17,8 @@ use Rattle.uds_exchange.specs.Orderer.{JudgedOrdererValue}
 use Rattle.uds_exchange.specs.Meaning.{meaning, flattened}
 use Rattle.uds_exchange.proofs.Promises.{early_grows, early_then_held}
 use Rattle.trace_canon.specs.CanonicalScript.{StandsCanonical, is_too_long, answers_canonical, CanonicalTellsTheSame, canonical_script, place_behind, lines_due, text_of_early, CanonicalTellsEarly}
-use Rattle.trace_canon.specs.Keeping.{HasTextOf}
-use Rattle.trace_run.specs.Told.{told_after, told, told_of_lines, whole_of_lines, AnswersTold, EndsWith, FailsToTell, WritesTold, WritesRefused, WritesFrontOfTold, TellsEagerly}
+use Rattle.trace_canon.specs.InMemory.{HasTextOf}
+use Rattle.trace_run.specs.Told.{tells_no_refusal, told_after, told, told_of_lines, whole_of_lines, AnswersTold, EndsWith, FailsToTell, WritesTold, WritesToldAndRefusal, WritesFrontOfWhole, TellsEagerly}
 use Rattle.trace_canon.specs.proving.Writing.{Progress, start_of, text_from, progress_after}
 use Rattle.trace_canon.proofs.CanonicalWriting.{text_none, text_append, place_append}
 use Rattle.trace_canon.proofs.Answered.{answers_accepted, answers_output_limit}
@@ -129,7 +129,7 @@ module _ (settings : Settings) where
         → WritesTextOfRead (announces_within MESSAGE_LIMIT settings) (early_text MESSAGE_LIMIT settings) settings log given why old new
     writes_early why wrote = subst (λ text. WritesTextOfRead (announces_within MESSAGE_LIMIT settings) text settings log given why old new) texts wrote
 
-    writes_refused : (why : Fault) → WritesRefused (canonical_script settings) MESSAGE_LIMIT settings log given why old new
+    writes_refused : (why : Fault) → WritesToldAndRefusal (canonical_script settings) tells_no_refusal MESSAGE_LIMIT settings log given why old new
         → WritesTextOfRead (announces_within MESSAGE_LIMIT settings) (early_text MESSAGE_LIMIT settings) settings log given why old new
     writes_refused why wrote = record {
       meanings = wrote.meanings;
@@ -137,7 +137,7 @@ module _ (settings : Settings) where
       wrote = wrote.wrote ∙ ap (λ text. old ++ text) (append-nil (told_of_lines (canonical_script settings) settings wrote.meanings) ∙ early_is wrote.meanings);
     }
 
-    writes_front : (why : Fault) → WritesFrontOfTold (canonical_script settings) MESSAGE_LIMIT settings log given why old new → WritesFront MESSAGE_LIMIT settings log given why old new
+    writes_front : (why : Fault) → WritesFrontOfWhole (canonical_script settings) MESSAGE_LIMIT settings log given why old new → WritesFront MESSAGE_LIMIT settings log given why old new
     writes_front why wrote =
         let begins = fitting_log_begins MESSAGE_LIMIT settings (flattened (meaning (messages MESSAGE_LIMIT (trace settings wrote.meanings)))) in
         record {
@@ -164,7 +164,7 @@ module _ (settings : Settings) where
         let begins = fitting_log_begins MESSAGE_LIMIT settings (flattened (meaning (messages MESSAGE_LIMIT (trace settings meanings)))) in
         no_longer whole whole [] (canonical_log_of_lines MESSAGE_LIMIT settings meanings) _ begins.0 (sym (append-nil whole)) (whole_is log meanings) begins.1
 
-    canonical_some : FailsToTell (canonical_script settings) MESSAGE_LIMIT settings log given old new → HasTextOf (canonical_log_of_lines MESSAGE_LIMIT settings) log
+    canonical_some : FailsToTell (canonical_script settings) tells_no_refusal MESSAGE_LIMIT settings log given old new → HasTextOf (canonical_log_of_lines MESSAGE_LIMIT settings) log
     canonical_some (inl (wrote, inl told)) = record {
       meanings = told.meanings;
       begins = record { lines = told.read.lines; later = told.read.later; parts = told.read.parts; means = told.read.means };
@@ -213,10 +213,10 @@ module _ (settings : Settings) where
 
 -- writing fails only where the lines read have a canonical line
 pub unwritten_some : (settings : Settings) (log : List ℕ) (given : ℕ) (result : Result Summary Fault) (old new : List ℕ) → result ≡ Err Write
-    → AnswersTold (canonical_script settings) (answers_canonical settings) MESSAGE_LIMIT settings log given result old new → HasTextOf (canonical_log_of_lines MESSAGE_LIMIT settings) log
+    → AnswersTold (canonical_script settings) tells_no_refusal (answers_canonical settings) MESSAGE_LIMIT settings log given result old new → HasTextOf (canonical_log_of_lines MESSAGE_LIMIT settings) log
 unwritten_some settings log given result old new wrong told =
     canonical_some settings log given old new
-    (subst (λ (r : Result Summary Fault). AnswersTold (canonical_script settings) (answers_canonical settings) MESSAGE_LIMIT settings log given r old new) wrong told)
+    (subst (λ (r : Result Summary Fault). AnswersTold (canonical_script settings) tells_no_refusal (answers_canonical settings) MESSAGE_LIMIT settings log given r old new) wrong told)
 
 pub canonical_tells_the_same : CanonicalTellsTheSame
 canonical_tells_the_same settings log given (Ok summary) old new ends eager = ends_well settings log given old new summary ends

@@ -9,7 +9,7 @@ use Rattle.trace_log.specs.declared.fault.Fault.{Fault}
 use Rattle.trace_log.specs.declared.fault.Fault.TheVariants as fault
 use Rattle.trace_canon.specs.declared.hearing.Found.{Found}
 use Rattle.trace_canon.specs.declared.hearing.Hearing.{Hearing}
-use Rattle.trace_canon.specs.Found.{frames_in, GivesFound, IsFoundOf, IsUnheardFor, NeedsMemoryToFind}
+use Rattle.trace_canon.specs.Finding.{frames_in, GivesFound, IsFoundOf, IsUnheardFor, NeedsMemoryToFind}
 use Rattle.trace_log.specs.Needing.{BeginsWithLines}
 use Rattle.trace_log.specs.Settings.{Settings}
 use Rattle.trace_log.specs.Feeding.{FeedsLog, FeedsSome, Took, Stopped, StopsWithin}

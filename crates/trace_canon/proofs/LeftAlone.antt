@@ -3,7 +3,7 @@ use Rattle.std.proofs.Common.{◌≡◌, ◌≢◌, ℕ, List, refl}
 use Rattle.trace_log.specs.declared.fault.Fault.{Fault}
 use Rattle.trace_log.specs.declared.fault.Fault.TheVariants.{BadLine, Oversize, LogLimit, OutputLimit, Read, Write, Memory}
 use Rattle.trace_log.specs.declared.summary.Summary.{Summary}
-use Rattle.trace_canon.specs.Once.{LeavesOnce}
+use Rattle.trace_canon.specs.WrittenAtEnd.{LeavesOnce}
 
 pub left_alone : {V : Type 0} (text : V → List ℕ) (Is : V → Summary → Type 0) (fault : Fault) (old : List ℕ) → fault ≢ Write → LeavesOnce text Is fault old old
 left_alone text Is (BadLine line column) old other = refl

@@ -17,10 +17,10 @@ use Rattle.isotp_receive.specs.StandingReception.{StandingReception, fit_of, sta
 use Rattle.isotp_receive.specs.Trace.{Entry, role, own_role, other_role, same_direction}
 use Rattle.isotp_receive.specs.Verdict.{message, on_layout, on_fit, verdict}
 use Rattle.isotp_receive.proofs.Promises.{one_more, same-self, other-apart, apart-flipped}
-use Rattle.trace_canon.specs.proving.Begun.{IsBegunAt}
-use Rattle.trace_canon.specs.Begun.{begun_after, began_at}
+use Rattle.trace_canon.specs.proving.ReceptionStarts.{IsBegunAt}
+use Rattle.trace_canon.specs.ReceptionStarts.{begun_after, began_at}
 use Rattle.trace_canon.specs.MessageLines.{place_of, starts, last_start, first_frame}
-use Rattle.trace_canon.specs.declared.begun.FramePlace.{FramePlace}
+use Rattle.trace_canon.specs.declared.reception_starts.FramePlace.{FramePlace}
 
 other : (d : Dir) → same_direction d (other_direction d) ≡ false
 other d = apart-flipped (other_direction d) d (other-apart d)

@@ -15,14 +15,14 @@ use Rattle.trace_run.specs.declared.machine.Seen.{Seen}
 use Rattle.trace_run.proofs.Promises.{CompletesJudged, tells_no_message}
 use Rattle.uds_exchange.specs.Judging.{step_after, number_after}
 use Rattle.uds_exchange.specs.declared.step.Step.{Step}
-use Rattle.trace_canon.specs.proving.Begun.{IsBegunAt}
-use Rattle.trace_canon.specs.Begun.{begun_after, begun_of, began_at}
-use Rattle.trace_canon.specs.MessageLines.{PlacedMessage, judged_at, place_of, stamp_text, first_frame, placed_members, placed_text, placed_behind, delivered_line}
+use Rattle.trace_canon.specs.proving.ReceptionStarts.{IsBegunAt}
+use Rattle.trace_canon.specs.ReceptionStarts.{begun_after, begun_of, began_at}
+use Rattle.trace_canon.specs.MessageLines.{PlacedMessage, judged_at, place_of, first_frame, placed_members, placed_text, placed_behind, delivered_line}
 use Rattle.trace_text.specs.Words.{role_text}
 use Rattle.trace_text.specs.Json.{object_line}
-use Rattle.trace_text.specs.Words.{bytes_text, direction_text}
-use Rattle.trace_canon.specs.declared.begun.Begun.{Begun}
-use Rattle.trace_canon.specs.declared.begun.FramePlace.{FramePlace}
+use Rattle.trace_text.specs.Words.{bytes_text, direction_text, stamp_text}
+use Rattle.trace_canon.specs.declared.reception_starts.ReceptionStarts.{ReceptionStarts}
+use Rattle.trace_canon.specs.declared.reception_starts.FramePlace.{FramePlace}
 use Rattle.trace_text.specs.declared.notation.Notation.{Notation}
 use Rattle.trace_text.proofs.Promises.{line_is}
 use Rattle.trace_canon.proofs.MessagePlaces.{own_begun, other_begun, first_of}
@@ -37,7 +37,7 @@ here_at line micros = record { line = line; micros = micros }
 abbrev entry_at : ℕ → ℕ → Dir → FrameValue → Entry
 entry_at line micros d frame = record { line = line; micros = micros; dir = d; frame = frame }
 
-begun_by : (d : Dir) (T : List Entry) (line micros : ℕ) (frame : FrameValue) (begun : Begun) → IsBegunAt Tester T begun.tester → IsBegunAt Unit T begun.unit
+begun_by : (d : Dir) (T : List Entry) (line micros : ℕ) (frame : FrameValue) (begun : ReceptionStarts) → IsBegunAt Tester T begun.tester → IsBegunAt Unit T begun.unit
     → IsBegunAt Tester (T ++ entry_at line micros d frame ∷ []) (begun_after Tester d (verdict MESSAGE_LIMIT T (entry_at line micros d frame)) (here_at line micros) begun.tester)
     × IsBegunAt Unit (T ++ entry_at line micros d frame ∷ []) (begun_after Unit d (verdict MESSAGE_LIMIT T (entry_at line micros d frame)) (here_at line micros) begun.unit)
 begun_by Tester T line micros frame begun tester unit =
@@ -45,7 +45,7 @@ begun_by Tester T line micros frame begun tester unit =
 begun_by Unit T line micros frame begun tester unit =
     (other_begun Unit T line micros frame begun.tester tester, own_begun Unit T line micros frame begun.unit unit)
 
-first_by : (d : Dir) (T : List Entry) (line micros : ℕ) (frame : FrameValue) (begun : Begun) (first : FramePlace) (whole : List ℕ)
+first_by : (d : Dir) (T : List Entry) (line micros : ℕ) (frame : FrameValue) (begun : ReceptionStarts) (first : FramePlace) (whole : List ℕ)
     → IsBegunAt Tester T begun.tester → IsBegunAt Unit T begun.unit → (verdict MESSAGE_LIMIT T (entry_at line micros d frame)).verdict ≡ message whole
     → first ≡ began_at d (verdict MESSAGE_LIMIT T (entry_at line micros d frame)) (here_at line micros) (begun_of begun d)
     → first ≡ place_of (first_frame T (entry_at line micros d frame))
@@ -55,9 +55,9 @@ first_by Unit T line micros frame begun first whole tester unit completes first_
     first_is ∙ first_of Unit T line micros frame begun.unit whole unit completes
 
 module _ (T : List Entry) (e : Entry) (line micros : ℕ) (d : Dir) (event : EventValue) (line_is : e.line ≡ line) (micros_is : e.micros ≡ micros) (dir_is : e.dir ≡ d)
-    (is : event ≡ verdict MESSAGE_LIMIT T e) (begun : Begun) (tester : IsBegunAt Tester T begun.tester) (unit : IsBegunAt Unit T begun.unit) where
+    (is : event ≡ verdict MESSAGE_LIMIT T e) (begun : ReceptionStarts) (tester : IsBegunAt Tester T begun.tester) (unit : IsBegunAt Unit T begun.unit) where
   -- what is kept is right with one more frame
-  pub begun_next : (now : Begun) → ((x : Dir) → begun_of now x ≡ begun_after x d event (here_at line micros) (begun_of begun x))
+  pub begun_next : (now : ReceptionStarts) → ((x : Dir) → begun_of now x ≡ begun_after x d event (here_at line micros) (begun_of begun x))
       → IsBegunAt Tester (T ++ e ∷ []) now.tester × IsBegunAt Unit (T ++ e ∷ []) now.unit
   begun_next now stands =
       let both = begun_by e.dir T e.line e.micros e.frame begun tester unit in (
@@ -90,7 +90,7 @@ module _ (T : List Entry) (e : Entry) (line micros : ℕ) (d : Dir) (event : Eve
 
 -- so it is of what a machine was handed
 pub judged_said : (T : List Entry) (e : Entry) (seen : Seen) (judged : Judged) → IsSeen T e seen → CompletesJudged T e judged
-    → (begun : Begun) → IsBegunAt Tester T begun.tester → IsBegunAt Unit T begun.unit → (notation kept : Notation) (first : FramePlace) → kept ≡ notation
+    → (begun : ReceptionStarts) → IsBegunAt Tester T begun.tester → IsBegunAt Unit T begun.unit → (notation kept : Notation) (first : FramePlace) → kept ≡ notation
     → first ≡ began_at seen.dir (seen_event seen.event) (here_at seen.line seen.micros) (begun_of begun seen.dir)
     → placed_text kept (judged_at judged first (here_at seen.line seen.micros)) ≡ delivered_line notation MESSAGE_LIMIT T e (verdict MESSAGE_LIMIT T e).verdict
 judged_said T e seen judged is completes begun tester unit notation kept first same first_at =
@@ -98,7 +98,7 @@ judged_said T e seen judged is completes begun tester unit notation kept first s
     let event = seen_event seen.event in
     let here = here_at seen.line seen.micros in
     let side : seen.dir ≡ judged.dir = sym at.dir ∙ completes.dir in
-    line_said T e seen.line seen.micros judged.dir event at.line at.micros completes.dir at.did begun tester unit notation kept judged.bytes.now judged.item judged.step first same
+    line_said T e seen.line seen.micros judged.dir event at.line at.micros completes.dir at.did begun tester unit notation kept judged.bytes.now judged.item_number judged.step first same
     (ap (λ (x : EventValue). x.verdict) at.did ∙ completes.did) completes.item completes.step
     (first_at ∙ ap (λ d. began_at d event here (begun_of begun d)) side)
 

@@ -8,19 +8,19 @@ use Rattle.isotp_receive.specs.Trace.{Entry}
 use Rattle.isotp_receive.specs.Verdict.{messages, told_message, verdict}
 use Rattle.isotp_receive.proofs.Promises.{messages_are_few}
 use Rattle.uds_exchange.specs.Decided.{decided, undecided}
-use Rattle.uds_exchange.specs.Decider.{DeciderValue, decides_after, IsKept}
+use Rattle.uds_exchange.specs.Decider.{DeciderValue, decider_after, IsKept}
 use Rattle.uds_exchange.specs.ItemSink.{PutsItems}
 use Rattle.uds_exchange.specs.Meaning.{ItemValue, meaning}
 use Rattle.uds_exchange.specs.Judging.{one_more, sent}
 use Rattle.uds_exchange.specs.declared.judge.Judged.{Judged}
 use Rattle.trace_run.proofs.Promises.{CompletesJudged}
 use Rattle.uds_exchange.proofs.Promises.{decided_grows, decided_then_undecided, items_are_few, none_is_lost}
-use Rattle.trace_text.specs.ListText.{item_line, list_text, list_text_from}
+use Rattle.trace_text.specs.ItemLines.{item_line, list_text, list_text_from}
 use Rattle.trace_log.specs.Messages.{meaning_of_lines}
-use Rattle.trace_canon.specs.Keeping.{CompletesKept}
+use Rattle.trace_canon.specs.MemoryNeeded.{CompletesKept}
 use Rattle.trace_log.specs.Settings.{Settings}
 use Rattle.trace_log.specs.Summing.{summary_of}
-use Rattle.trace_run.specs.Told.{AnswersTold, answers_counts, told_after}
+use Rattle.trace_run.specs.Told.{AnswersTold, answers_counts, tells_no_refusal, told_after}
 use Rattle.trace_log.specs.Trace.{trace}
 use Rattle.trace_canon.specs.WatchScript.{decided_of, decided_by, text_behind, watching_script, WatchTellsDecided, WatchTellsTheList, WritesTheList}
 use Rattle.trace_canon.specs.proving.Watching.{SaysLines, SaysDecided, WatchesItems}
@@ -91,7 +91,7 @@ module _ {S : Type 0} (says : S → List ℕ → S → Type 0) (style kept : Ite
   -- a message: the lines of what it decides were said
   pub watches_next : (e : Entry) (message : Message) (decider decider_now : DeciderValue) (number number_now : ℕ) (out out_now : S) → length T < 2 ^ 62
       → messages MESSAGE_LIMIT (T ++ e ∷ []) ≡ messages MESSAGE_LIMIT T ++ message ∷ [] → WatchesItems style T decider kept number
-      → decider_now ≡ decides_after (messages MESSAGE_LIMIT T ++ message ∷ []) → SaysDecided says kept (messages MESSAGE_LIMIT T) message number out number_now out_now
+      → decider_now ≡ decider_after (messages MESSAGE_LIMIT T ++ message ∷ []) → SaysDecided says kept (messages MESSAGE_LIMIT T) message number out number_now out_now
       → WatchesItems style (T ++ e ∷ []) decider_now kept number_now × says out (text_behind style T (decided_by T e)) out_now
   watches_next e message decider decider_now number number_now out out_now few next stood decides (items, are, lines) =
       let before = decided_of T in
@@ -103,7 +103,7 @@ module _ {S : Type 0} (says : S → List ℕ → S → Type 0) (style kept : Ite
       let numbered = stood.numbered in
       let same = stood.same in
       let said = lines (omega arith) in (
-        record { decides = decides ∙ ap decides_after (sym next); same = same; numbered = said.0 ∙ omega arith; few = omega arith },
+        record { decides = decides ∙ ap decider_after (sym next); same = same; numbered = said.0 ∙ omega arith; few = omega arith },
         subst (λ text. says out text out_now) (λ i. list_text_from (same i) (numbered i) (sym left i)) said.1,
       )
 
@@ -117,7 +117,7 @@ module _ {S : Type 0} (says : S → List ℕ → S → Type 0) (style kept : Ite
       let none : decided_by T e ≡ [] = ap (λ M. drop (length before) (decided M)) same ∙ ap (drop (length before)) (sym (append-nil before)) ∙ drop-append_seam before [] in
       let frames = length-append T (e ∷ []) in (
         record {
-          decides = stood.decides ∙ ap decides_after (sym same);
+          decides = stood.decides ∙ ap decider_after (sym same);
           same = stood.same;
           numbered = stood.numbered ∙ ap (λ M. 1 + length (decided M)) (sym same);
           few = omega arith;
@@ -169,7 +169,7 @@ watch_tells_the_list style T summary =
 
 -- so where a run comes to the end of the log, that was written
 pub writes_the_list : (style : ItemStyle) (settings : Settings) (log : List ℕ) (given : ℕ) (result : Result Summary Fault) (old new : List ℕ)
-    → AnswersTold (watching_script style) answers_counts MESSAGE_LIMIT settings log given result old new → OnOk result (WritesTheList style MESSAGE_LIMIT settings log old new)
+    → AnswersTold (watching_script style) tells_no_refusal answers_counts MESSAGE_LIMIT settings log given result old new → OnOk result (WritesTheList style MESSAGE_LIMIT settings log old new)
 writes_the_list style settings log given (Ok summary) old new (all, meanings, is, counted, wrote) = (
   meaning_of_lines MESSAGE_LIMIT settings meanings,
   record { meanings = meanings; means = is.1; found = refl },

@@ -6,9 +6,9 @@ use Rattle.isotp_receive.specs.Trace.{Entry}
 use Rattle.isotp_receive.specs.Verdict.{messages}
 use Rattle.isotp_segment.specs.Timed.{all_frames}
 use Rattle.uds_exchange.specs.Order.{early, held}
-use Rattle.uds_exchange.specs.Orderer.{JudgedOrdererValue, orders_after}
+use Rattle.uds_exchange.specs.Orderer.{JudgedOrdererValue, judged_orderer_after}
 use Rattle.trace_log.specs.Settings.{Settings}
-use Rattle.trace_run.specs.Told.{Script, Answering, AnswersTold, told, TellsEagerly}
+use Rattle.trace_run.specs.Told.{Script, Answering, AnswersTold, tells_no_refusal, told, TellsEagerly}
 use Rattle.trace_log.specs.Answers.{Answers}
 use Rattle.trace_log.specs.declared.fault.Fault.{Fault}
 use Rattle.trace_run.specs.declared.machine.Stop.TheVariants as stop
@@ -31,12 +31,11 @@ canonical_script settings = record {
   strict = true;
   word = λ T e. lines_due settings (messages MESSAGE_LIMIT T) (messages MESSAGE_LIMIT (T ++ e ∷ []));
   last = λ T summary. text_from settings (place_behind settings (early (messages MESSAGE_LIMIT T))) (all_frames MESSAGE_LIMIT (held (messages MESSAGE_LIMIT T)));
-  refused = λ T summary why. [];
 }
 
 -- The orderer stands after the messages of the trace, and the text after those that are early.
 pub record StandsCanonical (settings : Settings) (T : List Entry) (orderer : JudgedOrdererValue) (config : Settings) (progress : Progress) : Type 0 where
-  pub ordered : orderer ≡ orders_after (messages MESSAGE_LIMIT T)
+  pub ordered : orderer ≡ judged_orderer_after (messages MESSAGE_LIMIT T)
   pub same : config ≡ settings
   pub at : progress ≡ place_behind settings (early (messages MESSAGE_LIMIT T))
 
@@ -59,5 +58,5 @@ answers_canonical settings T summary result = result ≡ (if is_too_long setting
 -- so what is answered and written is that
 abbrev pub CanonicalTellsTheSame : Type 0
 CanonicalTellsTheSame = (settings : Settings) (log : List ℕ) (given : ℕ) (result : Result Summary Fault) (old new : List ℕ)
-    → AnswersTold (canonical_script settings) (answers_canonical settings) MESSAGE_LIMIT settings log given result old new
+    → AnswersTold (canonical_script settings) tells_no_refusal (answers_canonical settings) MESSAGE_LIMIT settings log given result old new
     → TellsEagerly (canonical_script settings) MESSAGE_LIMIT settings log given old new → Answers MESSAGE_LIMIT settings log given result old new

@@ -5,11 +5,11 @@ use Rattle.std.specs.Fmt.{decimal}
 use Rattle.uds_exchange.specs.Meaning.{ItemValue}
 use Rattle.trace_text.specs.Json.{Value, Members, nothing, member, object_line, value_text}
 use Rattle.trace_text.specs.Json as json
-use Rattle.trace_text.specs.ListText.{item_object, worded_line}
+use Rattle.trace_text.specs.ItemLines.{item_object, worded_line}
 use Rattle.trace_canon.specs.declared.comparing.Compared.{Compared}
 use Rattle.trace_canon.specs.declared.comparing.Comparison.{Comparison}
 use Rattle.trace_canon.specs.declared.comparing.Comparison.TheVariants.{Same, Different}
-use Rattle.trace_canon.specs.declared.comparison_lines.ComparisonStyle.{ComparisonStyle}
+use Rattle.trace_canon.specs.declared.comparison_text.ComparisonStyle.{ComparisonStyle}
 use Rattle.trace_text.specs.declared.item_style.Numbering.TheVariants.{Shown}
 use Rattle.trace_text.specs.declared.notation.Notation.{Notation}
 use Rattle.trace_text.specs.declared.notation.Notation.TheVariants.{Text, Json}

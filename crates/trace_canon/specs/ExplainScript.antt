@@ -8,7 +8,7 @@ use Rattle.isotp_receive.specs.Verdict.{VerdictValue, EventValue, message, began
 use Rattle.trace_text.specs.declared.notation.Notation.{Notation}
 use Rattle.trace_text.specs.declared.remark.Remark.TheVariants as remark
 use Rattle.trace_log.specs.declared.summary.Summary.{Summary}
-use Rattle.trace_text.specs.ExplainText.{remark_text}
+use Rattle.trace_text.specs.RemarkLines.{remark_text}
 use Rattle.trace_run.specs.Told.{Script}
 
 -- of a reception that the frame of this line ended, if it ended one
@@ -53,5 +53,4 @@ explain_script notation limit = record {
   strict = false;
   word = λ T e. event_text notation e.line e.dir (verdict limit T e);
   last = λ T summary. end_text notation (receptions_after limit T) summary;
-  refused = λ T summary why. [];
 }

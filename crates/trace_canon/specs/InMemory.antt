@@ -3,7 +3,7 @@ use Rattle.std.specs.Prelude.{◌≡◌, ◌≢◌, ◌⊎◌, ◌<◌, ⊤, ℕ
 use Rattle.can_log.specs.declared.frame.Stamped.{Stamped}
 use Rattle.uds_exchange.specs.Meaning.{ItemValue}
 use Rattle.trace_canon.specs.declared.comparing.Compared.{Compared}
-use Rattle.trace_canon.specs.declared.counted.CountedComparison.{CountedComparison}
+use Rattle.trace_canon.specs.declared.in_memory.CountedComparison.{CountedComparison}
 use Rattle.trace_log.specs.declared.fault.CompareFault.{CompareFault}
 use Rattle.trace_log.specs.declared.fault.CompareFault.TheVariants.{Left, Right}
 use Rattle.trace_log.specs.declared.fault.Fault.{Fault}
@@ -17,11 +17,11 @@ use Rattle.trace_canon.specs.Sessions.{GivesMeaning}
 use Rattle.trace_canon.specs.Compared.{Compares, fault_in}
 use Rattle.trace_log.specs.ReadAs.{IsReadAs}
 use Rattle.trace_canon.specs.ExplainScript.{explain_script}
-use Rattle.trace_canon.specs.Found.{IsFoundIn, NeedsMemoryToFind, pairs_text}
-use Rattle.trace_canon.specs.Keeping.{HasTextOf, NeedsMemoryToCollect, NeedsMemoryToOrder}
-use Rattle.trace_text.specs.ListText.{list_text}
+use Rattle.trace_canon.specs.Finding.{IsFoundIn, NeedsMemoryToFind, pairs_text}
+use Rattle.trace_canon.specs.MemoryNeeded.{NeedsMemoryToCollect, NeedsMemoryToOrder}
+use Rattle.trace_text.specs.ItemLines.{list_text}
 use Rattle.trace_log.specs.CanonicalLog.{canonical_log_of_lines}
-use Rattle.trace_log.specs.Needing.{NeedsMemoryToReceive}
+use Rattle.trace_log.specs.Needing.{BeginsWithLines, NeedsMemoryToReceive}
 use Rattle.trace_log.specs.Outcome.{IsOutcome}
 use Rattle.trace_canon.specs.MessageLines.{placing_script}
 use Rattle.trace_log.specs.Settings.{Settings}
@@ -70,6 +70,12 @@ IsExplanationWith notation limit = IsToldWith (explain_script notation limit) li
 -- the log can be read and has these counts, and this has a line for each of its pairs
 abbrev pub IsFindingWith : Notation → Settings → List ℕ → List ℕ → Summary → Type 0
 IsFindingWith notation settings log text summary = (pairs : List CreditLine) × IsFoundIn settings log pairs summary × (text ≡ pairs_text notation pairs)
+
+-- The first lines of the log have some text of this kind, of one byte at least.
+pub record HasTextOf (text : List (Option Stamped) → List ℕ) (log : List ℕ) : Type 0 where
+  pub meanings : List (Option Stamped)
+  pub begins : BeginsWithLines log meanings
+  pub some : 0 < length (text meanings)
 
 -- there is such a text, of one byte at least
 abbrev pub HasBytes : (List ℕ → Summary → Type 0) → Type 0

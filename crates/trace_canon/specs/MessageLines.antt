@@ -1,8 +1,7 @@
 -- The text that places the messages of a log: a line for each message that is delivered, in the order of delivery, in
 -- words or as an object of JSON.
-use Rattle.std.specs.Prelude.{ℕ, ◌/◌, Bool, true, false, List, [], ◌∷◌, ◌++◌, codes, if◌then◌else◌}
+use Rattle.std.specs.Prelude.{ℕ, Bool, true, false, List, [], ◌∷◌, ◌++◌, codes, if◌then◌else◌}
 use Rattle.std.specs.Fmt.{decimal}
-use Rattle.can_log.specs.Digits as digits
 use Rattle.direction.specs.Dir.{Message}
 use Rattle.direction.specs.declared.Dir.{Dir}
 use Rattle.isotp_receive.specs.Trace.{Entry, FrameRole, single, first, consecutive, continue_or_wait, overflow, no_part, role}
@@ -12,15 +11,11 @@ use Rattle.uds_exchange.specs.declared.judge.Judged.{Judged}
 use Rattle.uds_exchange.specs.declared.step.Step.{Step}
 use Rattle.trace_text.specs.Json.{Members, nothing, member, object_line}
 use Rattle.trace_text.specs.Json as json
-use Rattle.trace_canon.specs.declared.begun.FramePlace.{FramePlace}
+use Rattle.trace_canon.specs.declared.reception_starts.FramePlace.{FramePlace}
 use Rattle.trace_text.specs.declared.notation.Notation.{Notation}
 use Rattle.trace_text.specs.declared.notation.Notation.TheVariants.{Text, Json}
 use Rattle.trace_run.specs.Told.{Script}
-use Rattle.trace_text.specs.Words.{bytes_text, direction_text, role_text}
-
--- the time of a frame: its seconds without leading zeros, a dot, and six digits
-abbrev pub stamp_text : ℕ → List ℕ
-stamp_text micros = decimal (micros / 1000000) ++ codes "." ++ digits.decimal 6 micros
+use Rattle.trace_text.specs.Words.{bytes_text, direction_text, role_text, stamp_text}
 
 -- where a frame stands: its line and its time
 abbrev pub place_of : Entry → FramePlace
@@ -44,7 +39,7 @@ pub record PlacedMessage : Type 0 where
 
 -- a message that was judged, from its first frame to its last one
 abbrev pub judged_at : Judged → FramePlace → FramePlace → PlacedMessage
-judged_at judged start end = record { number = judged.item; step = judged.step; sent = sent judged; start = start; end = end }
+judged_at judged start end = record { number = judged.item_number; step = judged.step; sent = sent judged; start = start; end = end }
 
 -- its line in words
 abbrev pub placed_line : PlacedMessage → List ℕ
@@ -100,4 +95,4 @@ delivered_line notation limit T e (dropped reason) = []
 -- of each frame the line of the message that it completes, and nothing at the end
 abbrev pub placing_script : Notation → ℕ → Script
 placing_script notation limit =
-    record { strict = false; word = λ T e. delivered_line notation limit T e (verdict limit T e).verdict; last = λ T summary. []; refused = λ T summary why. [] }
+    record { strict = false; word = λ T e. delivered_line notation limit T e (verdict limit T e).verdict; last = λ T summary. [] }

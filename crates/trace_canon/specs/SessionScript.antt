@@ -10,7 +10,7 @@ use Rattle.uds_exchange.specs.declared.step.Step.TheVariants as step
 use Rattle.trace_canon.specs.Sessions.{GivesSession}
 use Rattle.trace_log.specs.CanonicalLog.{canonical_log}
 use Rattle.trace_log.specs.Settings.{Settings}
-use Rattle.trace_run.specs.Told.{Script, Answering, AnswersTold}
+use Rattle.trace_run.specs.Told.{Script, Answering, AnswersTold, tells_no_refusal}
 use Rattle.trace_canon.specs.declared.collector.Session.{Session}
 use Rattle.trace_log.specs.declared.fault.Fault.{Fault}
 use Rattle.trace_run.specs.declared.machine.Stop.TheVariants.{OutputLimit}
@@ -44,7 +44,7 @@ pub record Collects (settings : Settings) (M : List Message) (items : List ItemV
 
 -- nothing
 abbrev pub silent_script : Script
-silent_script = record { strict = true; word = λ T e. []; last = λ T summary. []; refused = λ T summary why. [] }
+silent_script = record { strict = true; word = λ T e. []; last = λ T summary. [] }
 
 -- it answers the meaning and the counts, where its canonical log is within the limit
 abbrev pub answers_session : Settings → Answering Session
@@ -54,5 +54,5 @@ answers_session settings T summary (Err OutputLimit) = fits_within settings (ite
 -- so what is answered gives the session, and nothing is written
 abbrev pub SessionIsTheSame : Type 0
 SessionIsTheSame = (settings : Settings) (log : List ℕ) (given : ℕ) (result : Result Session Fault) (old new : List ℕ)
-    → AnswersTold silent_script (answers_session settings) MESSAGE_LIMIT settings log given result old new
+    → AnswersTold silent_script tells_no_refusal (answers_session settings) MESSAGE_LIMIT settings log given result old new
     → GivesSession MESSAGE_LIMIT settings log result

@@ -1,8 +1,8 @@
 -- What is answered of a log by a call that writes nothing.
 use Rattle.std.specs.Prelude.{◌≡◌, ℕ, List, Result, Ok, Err}
 use Rattle.trace_io.specs.declared.device.Source.{Ghosts as SourceGhosts}
-use Rattle.trace_canon.specs.Keeping.{NeedsMemoryToCollect}
-use Rattle.trace_canon.specs.Read.{RanToRead}
+use Rattle.trace_canon.specs.MemoryNeeded.{NeedsMemoryToCollect}
+use Rattle.trace_canon.specs.ReadOnly.{RanToRead, Reading}
 use Rattle.trace_canon.specs.declared.collector.Session.{Session}
 use Rattle.trace_log.specs.declared.fault.Fault.{Fault}
 use Rattle.uds_exchange.specs.Meaning.{ItemValue}
@@ -30,7 +30,15 @@ abbrev pub GivesMeaning : ℕ → Settings → List ℕ → Result (List ItemVal
 GivesMeaning limit settings log (Ok items) = ((accepted : Accepted) × IsOutcome limit settings log (Ok accepted)) × HasMeaning limit settings log items
 GivesMeaning limit settings log (Err fault) = TellsOutcome limit settings log fault
 
--- the run that answers so, which needs memory for a message of several frames, or for one that is complete
-abbrev pub RanToCollect : {R A : Type 0} → SourceGhosts R → (ℕ → Settings → List ℕ → Result A Fault → Type 0) → ℕ → Settings → R → Result A Fault → R → Type 0
-RanToCollect source Gives limit settings =
-    RanToRead source (Gives limit settings) (IsNotRefusedWithin limit settings) (NeedsMemoryToCollect limit settings) settings.max_bytes
+-- how it reads a log: it needs memory for a message of several frames, or for one that is complete
+abbrev pub reading_to_collect : ℕ → Settings → Reading
+reading_to_collect limit settings = record {
+  unrefused = IsNotRefusedWithin limit settings;
+  needs = NeedsMemoryToCollect limit settings;
+  max_bytes = settings.max_bytes;
+}
+
+-- the run that answers so
+abbrev pub RanToCollect : {R A : Type 0} → SourceGhosts R → (ℕ → Settings → List ℕ → Result A Fault → Type 0) → ℕ → Settings
+    → R → Result A Fault → R → Type 0
+RanToCollect source Gives limit settings = RanToRead source (Gives limit settings) (reading_to_collect limit settings)

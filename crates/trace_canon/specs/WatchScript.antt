@@ -6,7 +6,7 @@ use Rattle.isotp_receive.specs.Verdict.{messages}
 use Rattle.uds_exchange.specs.Decided.{decided, undecided}
 use Rattle.uds_exchange.specs.Meaning.{ItemValue}
 use Rattle.trace_canon.specs.SessionScript.{items_of}
-use Rattle.trace_text.specs.ListText.{list_text, list_text_from}
+use Rattle.trace_text.specs.ItemLines.{list_text, list_text_from}
 use Rattle.trace_log.specs.Messages.{HasMeaning}
 use Rattle.trace_log.specs.Settings.{Settings}
 use Rattle.trace_run.specs.Told.{Script, told}
@@ -31,7 +31,6 @@ watching_script style = record {
   strict = false;
   word = λ T e. text_behind style T (decided_by T e);
   last = λ T summary. text_behind style T (undecided (messages MESSAGE_LIMIT T));
-  refused = λ T summary why. [];
 }
 
 -- what is told of the frames of a trace is the list of the items that they decide

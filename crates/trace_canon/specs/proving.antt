@@ -1,5 +1,5 @@
 -- Devices of proof, apart from the definitions that the promises are made of.
-pub mod Begun
+pub mod ReceptionStarts
 pub mod Writing
 pub mod Measuring
 pub mod Saying

@@ -9,7 +9,7 @@ ghost use Rattle.isotp_segment.specs.CanonicalFrames.{IsFullNext, canonical_fram
 ghost use Rattle.isotp_segment.specs.Timed.{all_frames};
 ghost use Rattle.uds_exchange.specs.Judging.{IsJudgedAfter, sent};
 ghost use Rattle.uds_exchange.specs.Order.{held as held_after};
-ghost use Rattle.uds_exchange.specs.Orderer.{IsHeld, orders_after};
+ghost use Rattle.uds_exchange.specs.Orderer.{IsHeld, judged_orderer_after};
 ghost use Rattle.trace_log.specs.Settings.{id_of};
 ghost use Rattle.trace_canon.specs.proving.Saying.{SaysDue, SaysFront};
 ghost use Rattle.trace_canon.specs.proving.Writing.{filled_up, text_from, progress_after};
@@ -21,7 +21,7 @@ use can_log::{
     extended_name, line_end, line_length,
 };
 use direction::Dir;
-use isotp_segment::{SINGLE_LIMIT, Segments, single_frame};
+use isotp_segment::{CanonicalFrames, SINGLE_LIMIT, single_frame};
 use std::alloc::AllocError;
 use trace_io::TextSink;
 use trace_log::Config;
@@ -46,20 +46,20 @@ impl<'a, S: TextSink> MessageSink for CanonicalSink<'a, S> {
 
     type Fault = NoFault;
 
-    ghost after_ok = { λ s d m t. (t.out.ghost_name ≡ s.out.ghost_name) × (t.progress.ghost_name ≡ s.progress.ghost_name) × (t.config ≡ s.config)
-        × (t.progress.now ≡ progress_after s.config s.progress.now (canonical_frames MESSAGE_LIMIT d m))
+    ghost after_ok = { λ s d m t. (t.out.ghost_name ≡ s.out.ghost_name) × (t.progress.ghost_name ≡ s.progress.ghost_name)
+        × (t.config ≡ s.config) × (t.progress.now ≡ progress_after s.config s.progress.now (canonical_frames MESSAGE_LIMIT d m))
         × S.says s.out.now (text_from s.config s.progress.now (canonical_frames MESSAGE_LIMIT d m)) t.out.now };
 
     ghost after_err = { λ s d m e t. ⊥ };
 
     fn put(&mut self, dir: Dir, message: &[u8]) -> Result<(), NoFault> {
-        say_message(self.out, &self.config, self.progress, dir, message);
+        say_canonical(self.out, &self.config, self.progress, dir, message);
         Ok(())
     }
 }
 
 /// Says the lines of a message. Most messages have one frame, which is made and said by itself.
-fn say_message<S: TextSink>(
+fn say_canonical<S: TextSink>(
     out: &mut S,
     config: &Config,
     progress: &mut Progress,
@@ -73,7 +73,13 @@ fn say_message<S: TextSink>(
         if message.len() <= SINGLE_LIMIT {
             say_frame(out, config, progress, dir, &single_frame(message));
         } else {
-            say_frames(out, config, progress, dir, Segments::new(dir, message));
+            say_frames(
+                out,
+                config,
+                progress,
+                dir,
+                CanonicalFrames::new(dir, message),
+            );
         }
     }
 }
@@ -85,7 +91,7 @@ fn say_frames<S: TextSink>(
     config: &Config,
     progress: &mut Progress,
     dir: Dir,
-    frames: Segments<'_>,
+    frames: CanonicalFrames<'_>,
 )
     ensures says { S.says out.old (text_from config.now progress.old frames.entry) out.new }
     ensures progress { progress.new ≡ progress_after config.now progress.old frames.entry }
@@ -112,7 +118,8 @@ fn say_frame<S: TextSink>(
     sender: Dir,
     frame: &[u8; 8],
 ) -> bool
-    ensures says { (later : List (DirValue × List ℕ)) → SaysFront S.says config.now progress.old out.old ((sender, frame.now) ∷ later) progress.new out.new later }
+    ensures says { (later : List (DirValue × List ℕ))
+        → SaysFront S.says config.now progress.old out.old ((sender, frame.now) ∷ later) progress.new out.new later }
     ensures over { result ≡ false → progress.new ≡ filled_up progress.old }
 {
     let id = config.id_of(sender);
@@ -144,19 +151,19 @@ fn say_full_frames<'a, S: TextSink>(
     config: &Config,
     progress: &mut Progress,
     sender: Dir,
-    frames: Segments<'a>,
-) -> Segments<'a>
+    frames: CanonicalFrames<'a>,
+) -> CanonicalFrames<'a>
     ensures says { SaysFront S.says config.now progress.old out.old frames.entry progress.new out.new result }
     ensures fewer { length result ≤ length frames.entry }
     ensures misses_none { IsFullNext sender result → progress.new.room ≡ 0 }
 {
     match config.id_of(sender) {
         Id::Std(number) => {
-            let name = lasting_base_name(number);
+            let name = base_name_in_memory(number);
             say_stretch(out, config, progress, sender, name, frames)
         }
         Id::Ext(number) => {
-            let name = lasting_extended_name(number);
+            let name = extended_name_in_memory(number);
             say_stretch(out, config, progress, sender, name, frames)
         }
     }
@@ -164,7 +171,7 @@ fn say_full_frames<'a, S: TextSink>(
 
 /// What a base identifier gives of each of its lines. It is made by a call, so that its parts lie together in memory.
 #[inline(never)]
-fn lasting_base_name(number: u16) -> [u8; BASE_NAME]
+fn base_name_in_memory(number: u16) -> [u8; BASE_NAME]
     ensures { result ≡ canonical_name (Std number) }
 {
     base_name(number)
@@ -172,15 +179,14 @@ fn lasting_base_name(number: u16) -> [u8; BASE_NAME]
 
 /// The same of an extended identifier.
 #[inline(never)]
-fn lasting_extended_name(number: u32) -> [u8; EXTENDED_NAME]
+fn extended_name_in_memory(number: u32) -> [u8; EXTENDED_NAME]
     ensures { result ≡ canonical_name (Ext number) }
 {
     extended_name(number)
 }
 
-/// The same by the name of the sender, beside which time and data alone differ from frame to frame. The three are said as they
-/// lie: none is put together first, to be loaded at once where store-to-load forwarding fails. The frames are moved in and out, so that none of their
-/// parts has to lie in memory meanwhile.
+/// The same by the name of the sender. The three parts of a line are said as they lie: put together first, it would be
+/// loaded by a covering load. The frames are moved in and out, so that none of their parts has to lie in memory meanwhile.
 #[inline(always)]
 fn say_stretch<'a, S: TextSink, const NAME: usize>(
     out: &mut S,
@@ -188,8 +194,8 @@ fn say_stretch<'a, S: TextSink, const NAME: usize>(
     progress: &mut Progress,
     sender: Dir,
     name: [u8; NAME],
-    frames: Segments<'a>,
-) -> Segments<'a>
+    frames: CanonicalFrames<'a>,
+) -> CanonicalFrames<'a>
     requires name { name ≡ canonical_name (id_of config.now sender) }
     requires short { NAME ≤ EXTENDED_NAME }
     ensures says { SaysFront S.says config.now progress.old out.old frames.entry progress.new out.new result }
@@ -208,17 +214,19 @@ fn say_stretch<'a, S: TextSink, const NAME: usize>(
 }
 
 /// Takes one more message, and says the lines of all whose place is now known.
-pub(crate) fn order_to<S: TextSink>(
+pub(crate) fn say_due<S: TextSink>(
     orderer: &mut JudgedOrderer,
     config: &Config,
     progress: &mut Progress,
     out: &mut S,
     message: Judged<'_>,
 ) -> Result<(), AllocError>
-    ensures stands { OnOk result ((M : List Message) → orderer.old ≡ orders_after M → IsJudgedAfter M message.entry → orderer.new ≡ orders_after (M ++ sent message.entry ∷ [])) }
-    ensures says { OnOk result ((M : List Message) → orderer.old ≡ orders_after M → IsJudgedAfter M message.entry
+    ensures stands { OnOk result ((M : List Message) → orderer.old ≡ judged_orderer_after M → IsJudgedAfter M message.entry
+        → orderer.new ≡ judged_orderer_after (M ++ sent message.entry ∷ [])) }
+    ensures says { OnOk result ((M : List Message) → orderer.old ≡ judged_orderer_after M → IsJudgedAfter M message.entry
         → SaysDue S.says config.now M (sent message.entry) progress.old out.old progress.new out.new) }
-    ensures held { OnErr result ((M : List Message) → orderer.old ≡ orders_after M → IsJudgedAfter M message.entry → IsHeld M (sent message.entry)) }
+    ensures held { OnErr result ((M : List Message) → orderer.old ≡ judged_orderer_after M → IsJudgedAfter M message.entry
+        → IsHeld M (sent message.entry)) }
     ensures refused { OnErr result ((progress.new ≡ progress.old) × S.says out.old [] out.new) }
 {
     let mut sink = CanonicalSink {
@@ -228,20 +236,21 @@ pub(crate) fn order_to<S: TextSink>(
     };
     match orderer.take(message, &mut sink) {
         Ok(()) => Ok(()),
+        // A text sink takes all that is said, and a run ends with the first fault: what is left is refused memory.
         Err(_fault) => Err(AllocError),
     }
 }
 
 /// Says the lines of what is held.
-pub(crate) fn finish_to<S: TextSink>(
+pub(crate) fn say_held<S: TextSink>(
     orderer: JudgedOrderer,
     config: &Config,
     progress: &mut Progress,
     out: &mut S,
 )
-    ensures progress { (M : List Message) → orderer ≡ orders_after M
+    ensures progress { (M : List Message) → orderer ≡ judged_orderer_after M
         → progress.new ≡ progress_after config.now progress.old (all_frames MESSAGE_LIMIT (held_after M)) }
-    ensures says { (M : List Message) → orderer ≡ orders_after M
+    ensures says { (M : List Message) → orderer ≡ judged_orderer_after M
         → S.says out.old (text_from config.now progress.old (all_frames MESSAGE_LIMIT (held_after M))) out.new }
 {
     let mut sink = CanonicalSink {
@@ -249,8 +258,6 @@ pub(crate) fn finish_to<S: TextSink>(
         progress,
         config: *config,
     };
-    if let Err(_fault) = orderer.finish(&mut sink) {
-        // A text sink takes all that is said.
-        return;
-    }
+    // A text sink takes all that is said: so this never fails.
+    let _ = orderer.finish(&mut sink);
 }

@@ -62,9 +62,9 @@ pub(crate) fn session_of<R: Source>(
 #[derive(Drop)]
 pub(crate) struct Collector {
     alloc: Global,
-    /// What the messages so far mean, or nothing where its canonical log is too long.
+    /// What the messages so far mean, or nothing where their canonical log is too long.
     pub pairing: JudgedPairing,
-    /// How long that canonical log is, or a number above the limit.
+    /// How long the canonical log of these messages is, or a number above the limit.
     pub length: u64,
     pub config: Config,
 }
@@ -78,9 +78,11 @@ impl Collector {
     ghost use Rattle.trace_canon.specs.SessionScript.{Collects};
     ghost use Rattle.trace_canon.specs.proving.Measuring.{HaveLengths};
 
-    /// Takes one more message: what it adds to the length, and the message itself where the canonical log is within the limit.
+    /// Takes one more message: what it adds to the length, and the message itself where the canonical log is within the
+    /// limit.
     fn take(&mut self, message: Judged<'_>) -> Result<(), AllocError>
-        ensures { OnOk result ((settings : Settings) (M : List Message) → IsJudgedAfter M message.entry → Collects settings M self.old.pairing self.old.length self.old.config
+        ensures { OnOk result ((settings : Settings) (M : List Message) → IsJudgedAfter M message.entry
+            → Collects settings M self.old.pairing self.old.length self.old.config
             → Collects settings (M ++ sent message.entry ∷ []) self.new.pairing self.new.length self.new.config) }
     {
         let length = self.length.saturating_add(self.added(message));
@@ -96,7 +98,8 @@ impl Collector {
 
     /// By how many bytes one more message makes the canonical log longer.
     fn added(&self, message: Judged<'_>) -> u64
-        ensures { (M : List Message) (size : ℕ) → IsJudgedAfter M message.entry → HaveLengths self.now.config (flattened (meaning M)) size
+        ensures { (M : List Message) (size : ℕ) → IsJudgedAfter M message.entry
+            → HaveLengths self.now.config (flattened (meaning M)) size
             → HaveLengths self.now.config (flattened (meaning (M ++ sent message.entry ∷ []))) (size + result) }
     {
         if has_place(message.step) {
@@ -118,19 +121,17 @@ fn has_place(step: Step) -> bool
 }
 
 impl Machine for Collector {
-    ghost use Rattle.trace_run.specs.Told.{tells_no_refusal};
     ghost use Rattle.isotp_receive.specs.declared.TheConstants.{MESSAGE_LIMIT};
     ghost use Rattle.isotp_receive.specs.Verdict.{messages};
-    ghost use Rattle.trace_canon.specs.Keeping.{CompletesMessage};
+    ghost use Rattle.trace_canon.specs.MemoryNeeded.{CompletesMessage};
     ghost use Rattle.trace_canon.specs.SessionScript.{Collects, answers_session, silent_script};
 
     type Answer = Session;
 
-    ghost stands = { λ start T now. Collects start.config (messages MESSAGE_LIMIT T) now.pairing now.length now.config };
+    ghost stands = { λ start T now.
+        Collects start.config (messages MESSAGE_LIMIT T) now.pairing now.length now.config };
 
     ghost script = { λ start. silent_script };
-
-    ghost refusal = { λ start. tells_no_refusal };
 
     ghost answers = { λ start. answers_session start.config };
 

@@ -4,8 +4,8 @@ ghost use Rattle.uds_exchange.specs.ItemSeen.{item_value};
 ghost use Rattle.trace_canon.specs.ComparisonText.{shown_text};
 
 use trace_io::TextSink;
-use trace_text::say::say_text;
-use trace_text::{Notation, Numbering, say_item_object, say_worded};
+use trace_text::values::say_text;
+use trace_text::{Notation, Numbering, say_item_object, say_worded_line};
 use uds_exchange::{Item, Meaning};
 
 /// Says the item at a place of a meaning, or that there is none.
@@ -17,6 +17,7 @@ pub(crate) fn say_item_at<S: TextSink>(
 )
     ensures { S.says out.old (shown_text notation (place + 1) (slice_get meaning.now place)) out.new }
 {
+    // Asked here, too, so that its number is known to be a u64.
     if place >= meaning.len() {
         say_nothing(notation, out);
         return;
@@ -31,7 +32,7 @@ fn say_shown<S: TextSink>(number: u64, item: Item<'_>, notation: Notation, out: 
     ensures { S.says out.old (shown_text notation number (Some (item_value item.entry))) out.new }
 {
     match notation {
-        Notation::Text => say_worded(number, Numbering::Shown, item, out),
+        Notation::Text => say_worded_line(number, Numbering::Shown, item, out),
         Notation::Json => say_item_object(number, Numbering::Shown, item, out),
     }
 }

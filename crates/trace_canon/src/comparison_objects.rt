@@ -6,7 +6,7 @@ use crate::compared_items::say_item_at;
 use crate::comparing::{Compared, Comparison};
 use text_parts::say;
 use trace_io::TextSink;
-use trace_text::say::say_text;
+use trace_text::values::say_text;
 use trace_text::{Notation, Place};
 
 /// Says how two logs compare, as an object in a line.
@@ -15,7 +15,9 @@ pub(crate) fn say_comparison_object<S: TextSink>(
     shows_items: bool,
     out: &mut S,
 )
-    ensures { S.says out.old (object_line (comparison_members shows_items compared.now.comparison compared.now.left.meaning compared.now.right.meaning)) out.new }
+    ensures { S.says out.old
+        (object_line
+        (comparison_members shows_items compared.now.comparison compared.now.left.meaning compared.now.right.meaning)) out.new }
 {
     match compared.comparison {
         Comparison::Same => say_text(out, "{\"same\":true}\n"),
@@ -28,7 +30,9 @@ pub(crate) fn say_comparison_object<S: TextSink>(
 
 /// Says the object of two logs that differ at this place, with the items of both there.
 fn say_shown_object<S: TextSink>(compared: &Compared, place: usize, out: &mut S)
-    ensures { S.says out.old (object_line (different_members place (shown_members place compared.now.left.meaning compared.now.right.meaning))) out.new }
+    ensures { S.says out.old
+        (object_line (different_members place (shown_members place compared.now.left.meaning compared.now.right.meaning)))
+        out.new }
 {
     say(
         out,

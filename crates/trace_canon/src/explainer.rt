@@ -5,7 +5,7 @@ ghost use Rattle.isotp_receive.specs.declared.TheConstants.{MESSAGE_LIMIT};
 ghost use Rattle.trace_canon.specs.ExplainScript.{dropped_text, end_text, ended_text, event_text, unfinished_line};
 ghost use Rattle.trace_canon.specs.ExplainScript.{explain_script};
 ghost use Rattle.trace_log.specs.Laws.{Certifies};
-ghost use Rattle.trace_run.specs.Told.{RanLenient, answers_counts, command, needs_none};
+ghost use Rattle.trace_run.specs.Told.{RanLenient, answers_counts, command, needs_none, tells_no_refusal};
 ghost use Rattle.trace_io.specs.Counted.{IsLowCount};
 ghost use Rattle.trace_log.specs.Devices.{AgreesWith, HasLowCounts};
 
@@ -17,8 +17,8 @@ use trace_log::{Config, Fault, Summary};
 use trace_run::{Glimpse, Machine, Seen, Stop, run_lenient};
 use trace_text::{Notation, Remark, say_remark};
 
-/// Reads a log and writes a line for each reception that ended without its message and for each frame that was dropped, as
-/// they come; then the receptions that stand at the end, and the counts. In words or as objects of JSON.
+/// Reads a log and writes a line for each reception that ended without its message and for each frame that was dropped,
+/// as they come; then the receptions that stand at the end, and the counts. In words or as objects of JSON.
 ///
 /// The target is not flushed.
 pub fn explain<R: Source, W: Target>(
@@ -32,10 +32,13 @@ pub fn explain<R: Source, W: Target>(
     requires writer { IsLowCount (W.failures writer.old) }
 
     // What is answered and written; that it is written before more is read; and what was done with the devices.
-    ensures ran { RanLenient R.Source W.Target (command (explain_script notation MESSAGE_LIMIT) answers_counts needs_none) config.now reader.old writer.old result reader.new writer.new }
+    ensures ran { RanLenient R.Source W.Target
+        (command (explain_script notation MESSAGE_LIMIT) tells_no_refusal answers_counts needs_none)
+        config.now reader.old writer.old result reader.new writer.new }
 
     // Where nothing was dropped, ended or left unfinished, the log is a recording.
-    ensures certificate { (log : List ℕ) → AgreesWith R.Source reader.old reader.new log → IfOk result (Certifies MESSAGE_LIMIT config.now log) }
+    ensures certificate { (log : List ℕ) → AgreesWith R.Source reader.old reader.new log
+        → IfOk result (Certifies MESSAGE_LIMIT config.now log) }
 {
     run_lenient(alloc, config, Explainer { notation }, reader, writer)
 }
@@ -49,7 +52,7 @@ struct Explainer {
 impl Machine for Explainer {
     ghost use Rattle.std.specs.Prelude.{◌≡◌};
     ghost use Rattle.isotp_receive.specs.declared.TheConstants.{MESSAGE_LIMIT};
-    ghost use Rattle.trace_run.specs.Told.{answers_counts, tells_no_refusal};
+    ghost use Rattle.trace_run.specs.Told.{answers_counts, needs_none};
     ghost use Rattle.trace_canon.specs.ExplainScript.{explain_script};
 
     type Answer = Summary;
@@ -58,11 +61,9 @@ impl Machine for Explainer {
 
     ghost script = { λ start. explain_script start.notation MESSAGE_LIMIT };
 
-    ghost refusal = { λ start. tells_no_refusal };
-
     ghost answers = { λ start. answers_counts };
 
-    ghost needs = { λ start T e. ⊥ };
+    ghost needs = { λ start. needs_none };
 
     #[inline(always)]
     fn is_strict(&self) -> bool {
@@ -94,8 +95,8 @@ impl Machine for Explainer {
     ) {}
 }
 
-/// Says the lines of a frame, which is in this line and was sent by this side. Laid in line, where it is known of most frames
-/// that they have none: a call would hand over what the frame did in memory, where store-to-load forwarding fails.
+/// Says the lines of a frame, which is in this line and was sent by this side. Inlined, where it is known of most frames
+/// that they have none: a call would hand over what the frame did in memory, for a covering load.
 #[inline(always)]
 fn say_event<S: TextSink>(notation: Notation, line: u64, dir: Dir, event: Event<'_>, out: &mut S)
     ensures { S.says out.old (event_text notation line dir (seen_event event.entry)) out.new }

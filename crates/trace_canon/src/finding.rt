@@ -1,6 +1,6 @@
 //! `find`: the pairs of identifiers that ask and answer, written once the log has ended.
 ghost use Rattle.std.specs.Prelude.{Err};
-ghost use Rattle.trace_canon.specs.Found.{RanToFind};
+ghost use Rattle.trace_canon.specs.Finding.{RanToFind};
 ghost use Rattle.trace_io.specs.Counted.{IsLowCount};
 ghost use Rattle.trace_log.specs.Devices.{HasLowCounts};
 
@@ -47,7 +47,7 @@ struct Pairs<'a> {
 }
 
 impl<'a> Part for Pairs<'a> {
-    ghost use Rattle.trace_canon.specs.Found.{pairs_text};
+    ghost use Rattle.trace_canon.specs.Finding.{pairs_text};
 
     ghost text = { λ lines. pairs_text lines.notation lines.pairs.now.items };
 

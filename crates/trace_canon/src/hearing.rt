@@ -1,13 +1,12 @@
-//! Which identifiers of a log ask, and which answer them. Every frame is heard, whatever its identifier: so this stands on
-//! the lines of a log, and no machine does it.
+//! Which identifiers of a log ask, and which answer them. Every frame is heard, whatever its identifier: so this stands
+//! on the lines of a log, and no machine does it.
 ghost use Rattle.std.specs.Prelude.{◌≡◌, List, ℕ, [], length, IfErr, IfOk, Option};
 ghost use Rattle.can_log.specs.declared.frame.Stamped.{Stamped as StampedValue};
-ghost use Rattle.trace_canon.specs.Found.{GivesFound, IsFoundOf, NeedsMemoryToFind, frames_in, summary_of_lines};
-ghost use Rattle.trace_canon.specs.Read.{RanToRead};
+ghost use Rattle.trace_canon.specs.Finding.{GivesFound, IsFoundOf, frames_in, reading_to_find, summary_of_lines};
+ghost use Rattle.trace_canon.specs.ReadOnly.{RanToRead};
 ghost use Rattle.trace_canon.specs.proving.Hearing.{HasHeard};
 ghost use Rattle.trace_log.specs.Devices.{HasLowCounts};
-ghost use Rattle.trace_log.specs.Refusal.{HasNoBadPlaceWithin};
-ghost use Rattle.trace_log.specs.Summing.{ends_in_line_feed};
+ghost use Rattle.trace_log.specs.Summing as Spec;
 ghost use Rattle.uds_find.specs.Credit.{HasCredit};
 
 use can_log::{Stamped, Wanted};
@@ -30,47 +29,11 @@ pub(crate) fn found_in<R: Source>(
     reader: &mut R,
 ) -> Result<Found, Fault>
     requires reader { HasLowCounts R.Source reader.old }
-    ensures ran { RanToRead R.Source (GivesFound config.now) HasNoBadPlaceWithin NeedsMemoryToFind config.now.max_bytes reader.old result reader.new }
+    ensures ran { RanToRead R.Source (GivesFound config.now) (reading_to_find config.now) reader.old result reader.new }
 {
-    let mut hearing = start(alloc);
-    let ended = feed_lines(config.max_bytes(), reader, &mut hearing, &mut ())?;
-    finish(alloc, hearing, ended)
-}
-
-/// Before the first line.
-fn start(alloc: Global) -> Hearing
-    ensures { HasHeard [] result.finder result.lines }
-{
-    Hearing {
-        finder: Finder::new(alloc),
-        lines: 0,
-    }
-}
-
-/// The pairs of all that was heard. The log ended in a line feed, or not.
-fn finish(alloc: Global, hearing: Hearing, ended: bool) -> Result<Found, Fault>
-    ensures found { IfOk result (λ found. (log : List ℕ) (meanings : List (Option StampedValue)) → HasHeard meanings hearing.finder hearing.lines
-        → ended ≡ ends_in_line_feed log → IsFoundOf log meanings found.pairs.items found.summary) }
-    ensures fault { IfErr result (λ fault. fault ≡ Fault.Memory) }
-    ensures needs { IfErr result (λ fault. (meanings : List (Option StampedValue)) → HasHeard meanings hearing.finder hearing.lines → HasCredit (frames_in meanings)) }
-{
-    let Hearing { finder, lines } = hearing;
-    let pairs = finder.finish(alloc)?;
-    Ok(Found {
-        pairs,
-        summary: summary(lines, ended),
-    })
-}
-
-/// What is counted in a log of so many lines. Where nobody told the identifiers, no frame is of a side.
-fn summary(lines: u64, ended: bool) -> Summary
-    ensures { (log : List ℕ) (meanings : List (Option StampedValue)) → lines ≡ length meanings → ended ≡ ends_in_line_feed log → result ≡ summary_of_lines log meanings }
-{
-    Summary {
-        lines,
-        ends_in_line_feed: ended,
-        ..Summary::nothing()
-    }
+    let mut hearing = Hearing::start(alloc);
+    let ends_in_line_feed = feed_lines(config.max_bytes(), reader, &mut hearing, &mut ())?;
+    hearing.finish(alloc, ends_in_line_feed)
 }
 
 /// What hears every frame of a log.
@@ -80,9 +43,50 @@ pub(crate) struct Hearing {
     pub lines: u64,
 }
 
+impl Hearing {
+    /// Before the first line.
+    fn start(alloc: Global) -> Hearing
+        ensures { HasHeard [] result.finder result.lines }
+    {
+        Hearing {
+            finder: Finder::new(alloc),
+            lines: 0,
+        }
+    }
+
+    /// The pairs of all that was heard. The log ended in a line feed, or not.
+    fn finish(self, alloc: Global, ends_in_line_feed: bool) -> Result<Found, Fault>
+        ensures found { IfOk result (λ found. (log : List ℕ) (meanings : List (Option StampedValue))
+            → HasHeard meanings self.finder self.lines
+            → ends_in_line_feed ≡ Spec.ends_in_line_feed log → IsFoundOf log meanings found.pairs.items found.summary) }
+        ensures fault { IfErr result (λ fault. fault ≡ Fault.Memory) }
+        ensures needs { IfErr result (λ fault. (meanings : List (Option StampedValue))
+            → HasHeard meanings self.finder self.lines → HasCredit (frames_in meanings)) }
+    {
+        let Hearing { finder, lines } = self;
+        let pairs = finder.finish(alloc)?;
+        Ok(Found {
+            pairs,
+            summary: summary(lines, ends_in_line_feed),
+        })
+    }
+}
+
+/// What is counted in a log of so many lines. Where nobody told the identifiers, no frame is of a side.
+fn summary(lines: u64, ends_in_line_feed: bool) -> Summary
+    ensures { (log : List ℕ) (meanings : List (Option StampedValue)) → lines ≡ length meanings
+        → ends_in_line_feed ≡ Spec.ends_in_line_feed log → result ≡ summary_of_lines log meanings }
+{
+    Summary {
+        lines,
+        ends_in_line_feed,
+        ..Summary::nothing()
+    }
+}
+
 impl LineTaker for Hearing {
     ghost use Rattle.std.specs.Prelude.{◌≡◌, ⊤, [], ◌∷◌, ◌++◌};
-    ghost use Rattle.trace_canon.specs.Found.{frames_in};
+    ghost use Rattle.trace_canon.specs.Finding.{frames_in};
     ghost use Rattle.trace_log.specs.declared.fault.Fault.TheVariants.{Memory};
     ghost use Rattle.trace_canon.specs.proving.Hearing.{HasHeard};
     ghost use Rattle.uds_find.specs.Credit.{HasCredit};
@@ -95,7 +99,8 @@ impl LineTaker for Hearing {
 
     ghost broke = { λ s meanings t. ⊥ };
 
-    ghost stopped = { λ s meanings what fault t. HasHeard [] s.0.finder s.0.lines → (fault ≡ Memory) × HasCredit (frames_in (meanings ++ what ∷ [])) };
+    ghost stopped = { λ s meanings what fault t. HasHeard [] s.0.finder s.0.lines
+        → (fault ≡ Memory) × HasCredit (frames_in (meanings ++ what ∷ [])) };
 
     ghost sure = { λ s first t. ⊤ };
 

@@ -1,7 +1,7 @@
 //! A text of the items of a log, written once they are known: what a command says that needs the whole meaning.
 ghost use Rattle.std.specs.Prelude.{ℕ};
 ghost use Rattle.isotp_receive.specs.declared.TheConstants.{MESSAGE_LIMIT};
-ghost use Rattle.trace_canon.specs.Listed.{RanOverItems};
+ghost use Rattle.trace_canon.specs.ItemText.{RanOverItems};
 ghost use Rattle.trace_io.specs.Counted.{IsLowCount};
 ghost use Rattle.trace_log.specs.Devices.{HasLowCounts};
 
@@ -38,7 +38,8 @@ pub fn write_items<T: ItemText, R: Source, W: Target>(
 ) -> Result<Summary, Fault>
     requires reader { HasLowCounts R.Source reader.old }
     requires writer { IsLowCount (W.failures writer.old) }
-    ensures ran { RanOverItems R.Source W.Target (T.text text.now) MESSAGE_LIMIT config.now reader.old writer.old result reader.new writer.new }
+    ensures ran { RanOverItems R.Source W.Target (T.text text.now) MESSAGE_LIMIT
+        config.now reader.old writer.old result reader.new writer.new }
 {
     let session = session_of(alloc, config, reader)?;
     let items = &session.meaning;

@@ -23,25 +23,35 @@
 //! ```
 //!
 //! `trace_log` reads a log and says what it means, `trace_run` runs a machine over it, where the way of a frame is
-//! drawn, and `trace_text` has the texts that commands share. Here are the commands.
+//! drawn, and `trace_text` has the texts that commands share. Here are the commands:
 //!
-//! What tells of a log while it comes is a machine of [`trace_run`](trace_run::Machine): [`normalise`] (`normaliser`, and
-//! `canonical_sink` for its lines), [`explain`] (`explainer`), [`messages`] (`placer`, and `begun` for where a message
-//! began) and [`watch`] (`watcher`). So is what collects the meaning of a log (`collector`): on it stand
-//! [`meaning_of`], [`compare`] (`comparing`), and each text of the items (`item_text`), as that of [`list`] (`lister`).
+//! | Command | Files | Definitions |
+//! |---|---|---|
+//! | [`normalise`] | `normaliser`, `canonical_sink`, `progress`, `length` | `CanonicalScript` |
+//! | [`explain`] | `explainer` | `ExplainScript` |
+//! | [`messages`] | `placer`, `reception_starts`, `message_objects`, `message_parts` | `MessageLines`, `PlaceLaws`, `ReceptionStarts` |
+//! | [`watch`] | `watcher` | `WatchScript` |
+//! | [`meaning_of`] | `collector`, `length` | `Sessions`, `SessionScript` |
+//! | [`compare`] | `comparing` | `Compared` |
+//! | [`write_comparison`] | `comparison_text`, `comparison_objects`, `compared_items` | `ComparisonText` |
+//! | [`list`], [`write_items`] | `lister`, `item_text` | `ItemText` |
+//! | [`find`] | `finding`, `hearing`, `pair_lines` | `Finding` |
+//! | all of them over memory | [`in_memory`] | `InMemory` |
 //!
-//! [`find`] (`finding`) is none: it hears every frame, whatever its identifier (`hearing`), and has no receiver.
-//! [`counted`] answers of a log in memory with a text and the counts, and [`in_memory`] with its meaning.
+//! What a run comes to that writes a text at the end is in `WrittenAtEnd`, and of one that writes nothing in `ReadOnly`;
+//! for which frames a command needs memory, in `MemoryNeeded`.
+//!
+//! What tells of a log while it comes is a machine of [`trace_run`](trace_run::Machine): those of the first four rows. So
+//! is what collects the meaning of a log: on it stand [`meaning_of`], [`compare`] and [`write_items`]. [`find`] is none:
+//! it hears every frame, whatever its identifier, and has no receiver.
 #![tactic(auto)]
 
-pub mod begun;
 mod canonical_sink;
 mod collector;
 mod compared_items;
 mod comparing;
-mod comparison_lines;
 mod comparison_objects;
-pub mod counted;
+mod comparison_text;
 mod explainer;
 mod finding;
 mod hearing;
@@ -56,11 +66,12 @@ mod normaliser;
 mod pair_lines;
 mod placer;
 mod progress;
+pub mod reception_starts;
 mod watcher;
 
 pub use collector::{Session, meaning_of};
 pub use comparing::{Compared, Comparison, compare};
-pub use comparison_lines::{ComparisonStyle, write_comparison};
+pub use comparison_text::{ComparisonStyle, write_comparison};
 pub use explainer::explain;
 pub use finding::find;
 pub use item_text::{ItemText, write_items};

@@ -1,7 +1,7 @@
 //! `list`: the items of a log, written once they are known.
 ghost use Rattle.isotp_receive.specs.declared.TheConstants.{MESSAGE_LIMIT};
-ghost use Rattle.trace_text.specs.ListText.{list_text};
-ghost use Rattle.trace_canon.specs.Listed.{RanOverItems};
+ghost use Rattle.trace_text.specs.ItemLines.{list_text};
+ghost use Rattle.trace_canon.specs.ItemText.{RanOverItems};
 ghost use Rattle.trace_io.specs.Counted.{IsLowCount};
 ghost use Rattle.trace_log.specs.Devices.{HasLowCounts};
 
@@ -24,13 +24,14 @@ pub fn list<R: Source, W: Target>(
 ) -> Result<Summary, Fault>
     requires reader { HasLowCounts R.Source reader.old }
     requires writer { IsLowCount (W.failures writer.old) }
-    ensures ran { RanOverItems R.Source W.Target (list_text style) MESSAGE_LIMIT config.now reader.old writer.old result reader.new writer.new }
+    ensures ran { RanOverItems R.Source W.Target (list_text style) MESSAGE_LIMIT
+        config.now reader.old writer.old result reader.new writer.new }
 {
     write_items(alloc, config, &style, reader, writer)
 }
 
 impl ItemText for ItemStyle {
-    ghost use Rattle.trace_text.specs.ListText.{list_text};
+    ghost use Rattle.trace_text.specs.ItemLines.{list_text};
 
     ghost text = { λ style. list_text style };
 

@@ -2,11 +2,11 @@
 ghost use Rattle.trace_text.specs.Json.{object_line};
 ghost use Rattle.trace_canon.specs.MessageLines.{judged_at, placed_members};
 
-use crate::begun::FramePlace;
-use crate::message_parts::{Role, Stamp};
+use crate::message_parts::Role;
+use crate::reception_starts::FramePlace;
 use text_parts::say;
 use trace_io::TextSink;
-use trace_text::{Bytes, Number, Sender};
+use trace_text::{Bytes, Number, Sender, Stamp};
 use uds_exchange::Judged;
 
 /// Says the line of a message that has its first frame and its last one in these places, as an object.
@@ -23,7 +23,7 @@ pub(crate) fn say_message_object<S: TextSink>(
         (
             (
                 "{\"item\":",
-                Number(message.item),
+                Number(message.item_number),
                 ",\"role\":\"",
                 Role(message.step),
                 "\",\"direction\":\"",

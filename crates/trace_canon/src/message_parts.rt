@@ -1,9 +1,9 @@
 //! The parts of what `messages` says of a message.
-use crate::begun::FramePlace;
+use crate::reception_starts::FramePlace;
 use text_parts::{Part, say};
 use trace_io::TextSink;
 use trace_text::names::role_name;
-use trace_text::{Number, SixDecimals};
+use trace_text::{Number, Stamp};
 use uds_exchange::Step;
 
 /// What a message is to its item.
@@ -18,21 +18,6 @@ impl Part for Role {
     #[inline(always)]
     fn say<S: TextSink>(self, out: &mut S) {
         say(out, role_name(self.0));
-    }
-}
-
-/// The time of a frame, which is so many microseconds: its seconds, a dot, and six digits.
-#[derive(Clone, Copy)]
-pub(crate) struct Stamp(pub u64);
-
-impl Part for Stamp {
-    ghost use Rattle.trace_canon.specs.MessageLines.{stamp_text};
-
-    ghost text = { λ stamp. stamp_text stamp.0 };
-
-    #[inline(always)]
-    fn say<S: TextSink>(self, out: &mut S) {
-        say(out, (Number(self.0 / 1_000_000), ".", SixDecimals(self.0)));
     }
 }
 

@@ -7,13 +7,14 @@ ghost use Rattle.trace_log.specs.Answers.{Answers, ReadsWhile, WritesEagerly};
 ghost use Rattle.trace_log.specs.CanonicalLog.{canonical_log, canonical_log_of_lines};
 ghost use Rattle.trace_canon.specs.CanonicalScript.{StandsCanonical};
 ghost use Rattle.trace_log.specs.Devices.{AgreesWith, bytes_given, ReadFrom, WroteTo, HasLowCounts};
-ghost use Rattle.trace_canon.specs.Keeping.{HasTextOf, NeedsMemoryToOrder};
+ghost use Rattle.trace_canon.specs.InMemory.{HasTextOf};
+ghost use Rattle.trace_canon.specs.MemoryNeeded.{NeedsMemoryToOrder};
 ghost use Rattle.trace_log.specs.declared.fault.Fault.TheVariants.{Memory, Write};
 ghost use Rattle.trace_log.specs.Laws.{IsCanonicalFor, Records, Certifies};
 ghost use Rattle.trace_log.specs.Refusal.{IsNotRefusedWithin};
 ghost use Rattle.trace_io.specs.Counted.{IsLowCount};
 
-use crate::canonical_sink::{finish_to, order_to};
+use crate::canonical_sink::{say_due, say_held};
 use crate::progress::Progress;
 use isotp_receive::Pair;
 use std::alloc::{AllocError, Global};
@@ -36,11 +37,13 @@ pub fn normalise<R: Source, W: Target>(
 
     // What is answered and written, for each log with which the bytes that were read agree.
     ensures answer { (log : List ℕ) → AgreesWith R.Source reader.old reader.new log
-        → Answers MESSAGE_LIMIT config.now log (bytes_given R.Source reader.old reader.new) result (W.taken writer.old) (W.taken writer.new) }
+        → Answers MESSAGE_LIMIT config.now log (bytes_given R.Source reader.old reader.new)
+        result (W.taken writer.old) (W.taken writer.new) }
 
     // Before each read all is written whose place the lines so far decide.
     ensures eager { (log : List ℕ) → AgreesWith R.Source reader.old reader.new log
-        → WritesEagerly MESSAGE_LIMIT config.now log (bytes_given R.Source reader.old reader.new) (W.taken writer.old) (W.taken writer.new) }
+        → WritesEagerly MESSAGE_LIMIT config.now log (bytes_given R.Source reader.old reader.new)
+        (W.taken writer.old) (W.taken writer.new) }
 
     // What is written is accepted, is its own canonical log, and has the meaning of the log.
     ensures again { (log : List ℕ) → AgreesWith R.Source reader.old reader.new log
@@ -48,14 +51,17 @@ pub fn normalise<R: Source, W: Target>(
 
     // For a recording of messages their meaning's canonical log is written; and a summary that counts nothing dropped,
     // ended or unfinished certifies that the log is one.
-    ensures recording { (log : List ℕ) → AgreesWith R.Source reader.old reader.new log → OnOk result ((M : List Message) → Records MESSAGE_LIMIT config.now log M
+    ensures recording { (log : List ℕ) → AgreesWith R.Source reader.old reader.new log
+        → OnOk result ((M : List Message) → Records MESSAGE_LIMIT config.now log M
         → W.taken writer.new ≡ W.taken writer.old ++ canonical_log MESSAGE_LIMIT config.now (flattened (meaning M))) }
-    ensures certificate { (log : List ℕ) → AgreesWith R.Source reader.old reader.new log → IfOk result (λ summary. Certifies MESSAGE_LIMIT config.now log summary) }
+    ensures certificate { (log : List ℕ) → AgreesWith R.Source reader.old reader.new log
+        → IfOk result (λ summary. Certifies MESSAGE_LIMIT config.now log summary) }
 
     // Reading stops within one piece: of all bytes given but the last 4,096 none refuses the log, and of all where a read
     // failed.
     ensures near { (log : List ℕ) → AgreesWith R.Source reader.old reader.new log
-        → ReadsWhile (IsNotRefusedWithin MESSAGE_LIMIT config.now log) (bytes_given R.Source reader.old reader.new) (R.failures reader.old) (R.failures reader.new) }
+        → ReadsWhile (IsNotRefusedWithin MESSAGE_LIMIT config.now log)
+        (bytes_given R.Source reader.old reader.new) (R.failures reader.old) (R.failures reader.new) }
 
     // Memory is refused only for a log that needs it: for a message of several frames, or for one that is held.
     ensures memory { (log : List ℕ) → AgreesWith R.Source reader.old reader.new log
@@ -86,9 +92,8 @@ pub(crate) struct Normaliser {
 }
 
 impl Machine for Normaliser {
-    ghost use Rattle.trace_run.specs.Told.{tells_no_refusal};
     ghost use Rattle.isotp_receive.specs.declared.TheConstants.{MESSAGE_LIMIT};
-    ghost use Rattle.trace_canon.specs.Keeping.{CompletesHeld};
+    ghost use Rattle.trace_canon.specs.MemoryNeeded.{CompletesHeld};
     ghost use Rattle.trace_canon.specs.CanonicalScript.{StandsCanonical, answers_canonical, canonical_script};
 
     type Answer = Summary;
@@ -96,8 +101,6 @@ impl Machine for Normaliser {
     ghost stands = { λ start T now. StandsCanonical start.config T now.orderer now.config now.progress };
 
     ghost script = { λ start. canonical_script start.config };
-
-    ghost refusal = { λ start. tells_no_refusal };
 
     ghost answers = { λ start. answers_canonical start.config };
 
@@ -113,7 +116,7 @@ impl Machine for Normaliser {
         let Some(message) = seen.message else {
             return Ok(());
         };
-        order_to(
+        say_due(
             &mut self.orderer,
             &self.config,
             &mut self.progress,
@@ -133,7 +136,7 @@ impl Machine for Normaliser {
             mut progress,
             config,
         } = self;
-        finish_to(orderer, &config, &mut progress, out);
+        say_held(orderer, &config, &mut progress, out);
         if progress.is_over() {
             return Err(Stop::OutputLimit);
         }

@@ -1,9 +1,9 @@
 //! The text of the pairs of a log, said pair by pair.
-ghost use Rattle.trace_canon.specs.Found.{pair_line, pairs_text};
+ghost use Rattle.trace_canon.specs.Finding.{pair_line, pairs_text};
 
 use text_parts::say;
 use trace_io::TextSink;
-use trace_text::{Notation, Number, Spelled};
+use trace_text::{Notation, Number, Verbatim};
 use uds_find::CreditLine;
 
 /// Says the line of each pair, in order.
@@ -25,9 +25,9 @@ fn say_pair<S: TextSink>(pair: &CreditLine, notation: Notation, out: &mut S)
             (
                 Number(pair.credits),
                 " --tester ",
-                Spelled(pair.tester.as_slice()),
+                Verbatim(pair.tester.as_slice()),
                 " --unit ",
-                Spelled(pair.unit.as_slice()),
+                Verbatim(pair.unit.as_slice()),
                 "\n",
             ),
         ),
@@ -37,9 +37,9 @@ fn say_pair<S: TextSink>(pair: &CreditLine, notation: Notation, out: &mut S)
                 "{\"credits\":",
                 Number(pair.credits),
                 ",\"tester\":\"",
-                Spelled(pair.tester.as_slice()),
+                Verbatim(pair.tester.as_slice()),
                 "\",\"unit\":\"",
-                Spelled(pair.unit.as_slice()),
+                Verbatim(pair.unit.as_slice()),
                 "\"}\n",
             ),
         ),

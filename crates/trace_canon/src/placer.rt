@@ -1,13 +1,13 @@
 //! `messages`: a machine that says each message with its place in the log, as it is delivered.
 ghost use Rattle.isotp_receive.specs.declared.TheConstants.{MESSAGE_LIMIT};
 ghost use Rattle.trace_canon.specs.MessageLines.{judged_at, placed_line, placed_text, placing_script};
-ghost use Rattle.trace_run.specs.Told.{RanLenient, answers_counts, command, needs_none};
+ghost use Rattle.trace_run.specs.Told.{RanLenient, answers_counts, command, needs_none, tells_no_refusal};
 ghost use Rattle.trace_io.specs.Counted.{IsLowCount};
 ghost use Rattle.trace_log.specs.Devices.{HasLowCounts};
 
-use crate::begun::{Begun, FramePlace};
 use crate::message_objects::say_message_object;
 use crate::message_parts::{Extent, Role};
+use crate::reception_starts::{FramePlace, ReceptionStarts};
 use isotp_receive::Pair;
 use std::alloc::{AllocError, Global};
 use text_parts::say;
@@ -33,11 +33,13 @@ pub fn messages<R: Source, W: Target>(
     requires writer { IsLowCount (W.failures writer.old) }
 
     // What is answered and written; that it is written before more is read; and what was done with the devices.
-    ensures ran { RanLenient R.Source W.Target (command (placing_script notation MESSAGE_LIMIT) answers_counts needs_none) config.now reader.old writer.old result reader.new writer.new }
+    ensures ran { RanLenient R.Source W.Target
+        (command (placing_script notation MESSAGE_LIMIT) tells_no_refusal answers_counts needs_none)
+        config.now reader.old writer.old result reader.new writer.new }
 {
     let machine = Placer {
         notation,
-        begun: Begun::start(),
+        begun: ReceptionStarts::start(),
     };
     run_lenient(alloc, config, machine, reader, writer)
 }
@@ -46,14 +48,14 @@ pub fn messages<R: Source, W: Target>(
 #[derive(Drop)]
 pub(crate) struct Placer {
     pub notation: Notation,
-    pub begun: Begun,
+    pub begun: ReceptionStarts,
 }
 
 impl Machine for Placer {
     ghost use Rattle.isotp_receive.specs.declared.TheConstants.{MESSAGE_LIMIT};
-    ghost use Rattle.trace_canon.specs.proving.Begun.{PlacesMessages};
+    ghost use Rattle.trace_canon.specs.proving.ReceptionStarts.{PlacesMessages};
     ghost use Rattle.trace_canon.specs.MessageLines.{placing_script};
-    ghost use Rattle.trace_run.specs.Told.{answers_counts, tells_no_refusal};
+    ghost use Rattle.trace_run.specs.Told.{answers_counts, needs_none};
 
     type Answer = Summary;
 
@@ -61,11 +63,9 @@ impl Machine for Placer {
 
     ghost script = { λ start. placing_script start.notation MESSAGE_LIMIT };
 
-    ghost refusal = { λ start. tells_no_refusal };
-
     ghost answers = { λ start. answers_counts };
 
-    ghost needs = { λ start T e. ⊥ };
+    ghost needs = { λ start. needs_none };
 
     #[inline(always)]
     fn is_strict(&self) -> bool {
@@ -131,7 +131,7 @@ fn say_message_line<S: TextSink>(
     say(
         out,
         (
-            Number(message.item),
+            Number(message.item_number),
             " ",
             Role(message.step),
             " ",

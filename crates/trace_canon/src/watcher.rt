@@ -4,9 +4,9 @@ ghost use Rattle.direction.specs.Dir.{Message};
 ghost use Rattle.isotp_receive.specs.declared.TheConstants.{MESSAGE_LIMIT};
 ghost use Rattle.uds_exchange.specs.Judging.{IsJudgedAfter, sent};
 ghost use Rattle.uds_exchange.specs.Decided.{undecided};
-ghost use Rattle.uds_exchange.specs.Decider.{decides_after, IsKept};
-ghost use Rattle.trace_canon.specs.Keeping.{CompletesKept};
-ghost use Rattle.trace_run.specs.Told.{RanLenient, answers_counts, command};
+ghost use Rattle.uds_exchange.specs.Decider.{decider_after, IsKept};
+ghost use Rattle.trace_canon.specs.MemoryNeeded.{CompletesKept};
+ghost use Rattle.trace_run.specs.Told.{RanLenient, answers_counts, command, tells_no_refusal};
 ghost use Rattle.trace_canon.specs.WatchScript.{watching_script, WritesTheList};
 ghost use Rattle.trace_canon.specs.proving.Watching.{SaysDecided, SaysLines};
 ghost use Rattle.trace_io.specs.Counted.{IsLowCount};
@@ -17,7 +17,7 @@ use std::alloc::{AllocError, Global};
 use trace_io::{Source, Target, TextSink};
 use trace_log::{Config, Fault, Summary};
 use trace_run::{Glimpse, Machine, Seen, Stop, run_lenient};
-use trace_text::{ItemStyle, say_item};
+use trace_text::{ItemStyle, say_item_line};
 use uds_exchange::{Decider, Item, ItemSink, Judged};
 
 /// Reads a log and writes the lines of [`list`](crate::list), each as soon as its item is decided: an exchange when its
@@ -35,7 +35,9 @@ pub fn watch<R: Source, W: Target>(
     requires writer { IsLowCount (W.failures writer.old) }
 
     // What is answered and written; that it is written before more is read; and what was done with the devices.
-    ensures ran { RanLenient R.Source W.Target (command (watching_script style) answers_counts (CompletesKept MESSAGE_LIMIT)) config.now reader.old writer.old result reader.new writer.new }
+    ensures ran { RanLenient R.Source W.Target
+        (command (watching_script style) tells_no_refusal answers_counts (CompletesKept MESSAGE_LIMIT))
+        config.now reader.old writer.old result reader.new writer.new }
 
     // At the end of the log that is the list of its meaning.
     ensures whole { (log : List ℕ) → AgreesWith R.Source reader.old reader.new log
@@ -60,8 +62,8 @@ pub(crate) struct Watcher {
 
 impl Machine for Watcher {
     ghost use Rattle.isotp_receive.specs.declared.TheConstants.{MESSAGE_LIMIT};
-    ghost use Rattle.trace_canon.specs.Keeping.{CompletesKept};
-    ghost use Rattle.trace_run.specs.Told.{answers_counts, tells_no_refusal};
+    ghost use Rattle.trace_canon.specs.MemoryNeeded.{CompletesKept};
+    ghost use Rattle.trace_run.specs.Told.{answers_counts};
     ghost use Rattle.trace_canon.specs.WatchScript.{watching_script};
     ghost use Rattle.trace_canon.specs.proving.Watching.{WatchesItems};
 
@@ -70,8 +72,6 @@ impl Machine for Watcher {
     ghost stands = { λ start T now. WatchesItems start.style T now.decider now.style now.number };
 
     ghost script = { λ start. watching_script start.style };
-
-    ghost refusal = { λ start. tells_no_refusal };
 
     ghost answers = { λ start. answers_counts };
 
@@ -87,7 +87,7 @@ impl Machine for Watcher {
         let Some(message) = seen.message else {
             return Ok(());
         };
-        decide_to(
+        say_decided(
             &mut self.decider,
             self.style,
             &mut self.number,
@@ -107,7 +107,7 @@ impl Machine for Watcher {
             style,
             mut number,
         } = self;
-        finish_to(decider, style, &mut number, out);
+        say_undecided(decider, style, &mut number, out);
         Ok(*summary)
     }
 
@@ -131,29 +131,31 @@ pub(crate) struct LineSink<'a, S> {
 impl<'a, S: TextSink> ItemSink for LineSink<'a, S> {
     ghost use Rattle.std.specs.Prelude.{◌≡◌};
     ghost use Rattle.uds_exchange.specs.Judging.{one_more};
-    ghost use Rattle.trace_text.specs.ListText.{item_line};
+    ghost use Rattle.trace_text.specs.ItemLines.{item_line};
 
-    ghost takes = { λ s item t. (t.out.ghost_name ≡ s.out.ghost_name) × (t.number.ghost_name ≡ s.number.ghost_name) × (t.style ≡ s.style)
-        × (t.number.now ≡ one_more s.number.now) × S.says s.out.now (item_line s.style s.number.now item) t.out.now };
+    ghost takes = { λ s item t. (t.out.ghost_name ≡ s.out.ghost_name) × (t.number.ghost_name ≡ s.number.ghost_name)
+        × (t.style ≡ s.style) × (t.number.now ≡ one_more s.number.now) × S.says s.out.now (item_line s.style s.number.now item) t.out.now };
 
     fn put(&mut self, item: Item<'_>) {
-        say_item(*self.number, self.style, item, self.out);
+        say_item_line(*self.number, self.style, item, self.out);
         *self.number = self.number.saturating_add(1);
     }
 }
 
 /// Takes one more message, and says the lines of all items that are now decided.
-fn decide_to<S: TextSink>(
+fn say_decided<S: TextSink>(
     decider: &mut Decider,
     style: ItemStyle,
     number: &mut u64,
     out: &mut S,
     message: Judged<'_>,
 ) -> Result<(), AllocError>
-    ensures stands { OnOk result ((M : List Message) → decider.old ≡ decides_after M → IsJudgedAfter M message.entry → decider.new ≡ decides_after (M ++ sent message.entry ∷ [])) }
-    ensures says { OnOk result ((M : List Message) → decider.old ≡ decides_after M → IsJudgedAfter M message.entry
+    ensures stands { OnOk result ((M : List Message) → decider.old ≡ decider_after M → IsJudgedAfter M message.entry
+        → decider.new ≡ decider_after (M ++ sent message.entry ∷ [])) }
+    ensures says { OnOk result ((M : List Message) → decider.old ≡ decider_after M → IsJudgedAfter M message.entry
         → SaysDecided S.says style M (sent message.entry) number.old out.old number.new out.new) }
-    ensures kept { OnErr result ((M : List Message) → decider.old ≡ decides_after M → IsJudgedAfter M message.entry → IsKept M (sent message.entry)) }
+    ensures kept { OnErr result ((M : List Message) → decider.old ≡ decider_after M → IsJudgedAfter M message.entry
+        → IsKept M (sent message.entry)) }
     ensures quiet { OnErr result (S.says out.old [] out.new) }
 {
     let mut sink = LineSink { out, number, style };
@@ -161,8 +163,8 @@ fn decide_to<S: TextSink>(
 }
 
 /// Says the lines of the items that are not decided.
-fn finish_to<S: TextSink>(decider: Decider, style: ItemStyle, number: &mut u64, out: &mut S)
-    ensures { (M : List Message) → decider ≡ decides_after M
+fn say_undecided<S: TextSink>(decider: Decider, style: ItemStyle, number: &mut u64, out: &mut S)
+    ensures { (M : List Message) → decider ≡ decider_after M
         → SaysLines S.says style (undecided M) number.old out.old number.new out.new }
 {
     let mut sink = LineSink { out, number, style };

@@ -6,7 +6,7 @@ use Rattle.uds_difference.specs.Rows.{AreBeside, rows_of}
 use Rattle.uds_difference.specs.declared.row.Row.{Row}
 use Rattle.uds_difference.specs.declared.row.Row.TheVariants.{Same, Changed, OnlyLeft, OnlyRight}
 use Rattle.uds_difference.proofs.Promises.{rows_are_beside}
-use Rattle.trace_text.specs.ListText.{list_text_from}
+use Rattle.trace_text.specs.ItemLines.{list_text_from}
 use Rattle.trace_text.specs.declared.item_style.ItemStyle.{ItemStyle}
 use Rattle.trace_text.specs.declared.item_style.Numbering.TheVariants.{Hidden}
 use Rattle.trace_text.specs.declared.notation.Notation.TheVariants.{Text}

@@ -1,5 +1,5 @@
 -- Hunks lead from the left list to the right one.
-use Rattle.std.proofs.Common.{◌≡◌, ℕ, zero, suc, ◌+◌, ◌-◌, ◌≤◌, ◌<◌, Bool, false, ◌||◌, List, [], ◌∷◌, ◌++◌, length, take, drop, map, ap, ap₂, subst, sym, ◌∙◌, arith, refl, inl, inr, Some, Option}
+use Rattle.std.proofs.Common.{◌≡◌, ℕ, zero, suc, ◌+◌, ◌*◌, ◌-◌, ◌≤◌, ◌<◌, Bool, false, ◌||◌, List, [], ◌∷◌, ◌++◌, length, take, drop, map, ap, ap₂, subst, sym, ◌∙◌, arith, refl, inl, inr, Some, Option}
 use Rattle.std.specs.Prelude.{slice_get}
 use Rattle.text_parts.specs.Parts.{text_if_some}
 use Rattle.std.proofs.Math.Seq.{drop-nil}
@@ -10,7 +10,7 @@ use Rattle.uds_difference.specs.Rows.{AreBeside, rows_of}
 use Rattle.uds_difference.specs.declared.row.Row.{Row}
 use Rattle.uds_difference.specs.declared.row.Row.TheVariants.{Same, Changed, OnlyLeft, OnlyRight}
 use Rattle.uds_difference.proofs.Promises.{rows_are_beside}
-use Rattle.trace_difference.specs.Hunks.{Hunk, changes_within, hunk_length, hunks_behind, is_change, left_count, left_in, right_count, right_in, rows_to_last_change}
+use Rattle.trace_difference.specs.Hunks.{Hunk, changes_within, context, hunk_length, hunks_behind, is_change, left_count, left_in, right_count, right_in, rows_to_last_change}
 use Rattle.trace_difference.specs.Laws.{HunksLeadToTheRight, Leads, new_lines, old_lines}
 use Rattle.trace_difference.specs.Lines.{Line, added, behind_removed, kept, line_at, lines_of, listed, removed}
 
@@ -147,7 +147,7 @@ module _ (xs ys : List ItemValue) where
   -- a hunk has its first row
   long : (row : Row) (later : List Row) → 0 < hunk_length (row ∷ later)
   long row later =
-      elim (cases_Bool (changes_within 7 later)) [
+      elim (cases_Bool (changes_within (2 * context + 1) later)) [
         | inl near ↦ let e : rows_to_last_change (row ∷ later) ≡ suc (rows_to_last_change later) = rw near refl in omega arith
         | inr far ↦ let e : rows_to_last_change (row ∷ later) ≡ 1 = rw far refl in omega arith
       ]
@@ -214,9 +214,9 @@ module _ (xs ys : List ItemValue) where
   lead most [] i j [] (y ∷ vs) short h left right = absurd h
   lead zero (row ∷ rows) i j us vs short h left right = absurd (omega arith)
   lead (suc most) (row ∷ rows) i j us vs short h left right =
-      elim (cases_Bool (changes_within 4 (row ∷ rows))) [
+      elim (cases_Bool (changes_within (context + 1) (row ∷ rows))) [
         | inl near ↦ rw near (near-row most (lead most) row rows i j us vs (omega arith) h left right)
-        | inr far ↦ rw far (far-row most (lead most) row rows i j us vs (omega arith) (unchanged row (changes_within 3 rows) far) h left right)
+        | inr far ↦ rw far (far-row most (lead most) row rows i j us vs (omega arith) (unchanged row (changes_within context rows) far) h left right)
       ]
     where
       unchanged : (row : Row) (later : Bool) → is_change row || later ≡ false → is_change row ≡ false

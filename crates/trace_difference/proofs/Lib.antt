@@ -9,4 +9,5 @@ pub mod ObjectTurns
 pub mod Leading
 pub mod EqualSessions
 pub mod Counted
+pub mod InMemories
 pub mod Promises

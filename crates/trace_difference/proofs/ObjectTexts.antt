@@ -16,22 +16,22 @@ in_one : (a b c d e f g h i j k l m : List ℕ)
     ≡ a ++ (b ++ (c ++ (d ++ (e ++ (f ++ (g ++ (h ++ (i ++ (j ++ (k ++ (l ++ m)))))))))))
 in_one a b c d e f g h i j k l m = simp append_assoc
 
-pub row_is : (xs ys : List ItemValue) (place i j : ℕ) (row : Row)
-    → (((row_front place (change_word row) (i + left_in row) (j + right_in row) ++ value_text (left_value xs i row)) ++ codes ",\"right\":") ++ value_text (right_value ys j row)) ++ codes "}\n"
-    ≡ object_line (row_members xs ys place i j row)
-row_is xs ys place i j row =
+pub row_is : (xs ys : List ItemValue) (change_number i j : ℕ) (row : Row)
+    → (((row_front change_number (change_word row) (i + left_in row) (j + right_in row) ++ value_text (left_value xs i row)) ++ codes ",\"right\":") ++ value_text (right_value ys j row)) ++ codes "}\n"
+    ≡ object_line (row_members xs ys change_number i j row)
+row_is xs ys change_number i j row =
     let left = left_value xs i row in
     let right = right_value ys j row in
-    in_one (codes "{\"place\":") (decimal place) (codes ",\"change\":\"") (change_word row) (codes "\",\"left_item\":") (decimal (i + left_in row)) (codes ",\"right_item\":")
+    in_one (codes "{\"place\":") (decimal change_number) (codes ",\"change\":\"") (change_word row) (codes "\",\"left_item\":") (decimal (i + left_in row)) (codes ",\"right_item\":")
     (decimal (j + right_in row)) (codes ",\"left\":") (value_text left) (codes ",\"right\":") (value_text right) (codes "}\n")
     ∙ ap (λ l.
-    codes "{\"place\":" ++ (decimal place ++ (codes ",\"change\":\"" ++ (change_word row ++ (codes "\",\"left_item\":" ++ (decimal (i + left_in row) ++ (codes ",\"right_item\":" ++ (decimal (j + right_in row) ++ (codes ",\"left\":" ++ l)))))))))
+    codes "{\"place\":" ++ (decimal change_number ++ (codes ",\"change\":\"" ++ (change_word row ++ (codes "\",\"left_item\":" ++ (decimal (i + left_in row) ++ (codes ",\"right_item\":" ++ (decimal (j + right_in row) ++ (codes ",\"left\":" ++ l)))))))))
     (ap (λ l. value_text left ++ (codes ",\"right\":" ++ l)) (value_is right (codes "}\n")) ∙ value_is left _)
-    ∙ sym (line_is (row_members xs ys place i j row))
+    ∙ sym (line_is (row_members xs ys change_number i j row))
 
-pub front-is : (place i j : ℕ) (row : Row) (left right : ℕ) → left ≡ left_in row → right ≡ right_in row
-    → row_front place (change_word row) (i + left) (j + right) ≡ row_front place (change_word row) (i + left_in row) (j + right_in row)
-front-is place i j row left right a b = rw (a, b) refl
+pub front-is : (change_number i j : ℕ) (row : Row) (left right : ℕ) → left ≡ left_in row → right ≡ right_in row
+    → row_front change_number (change_word row) (i + left) (j + right) ≡ row_front change_number (change_word row) (i + left_in row) (j + right_in row)
+front-is change_number i j row left right a b = rw (a, b) refl
 
 in_ten : (a b c d e f g h i j : List ℕ)
     → (a ++ b ++ c ++ d ++ e ++ f ++ g ++ h ++ i ++ j) ≡ a ++ (b ++ (c ++ (d ++ (e ++ (f ++ (g ++ (h ++ (i ++ j))))))))

@@ -1,10 +1,10 @@
 -- One row after another.
-use Rattle.std.proofs.Common.{◌≡◌, ℕ, zero, suc, ◌+◌, ◌-◌, ◌≤◌, ◌<◌, min, true, false, List, [], ◌∷◌, length, take, drop, get_or, ap, sym, ◌∙◌, arith, refl, inl, inr}
+use Rattle.std.proofs.Common.{◌≡◌, ℕ, zero, suc, ◌+◌, ◌*◌, ◌-◌, ◌≤◌, ◌<◌, min, true, false, List, [], ◌∷◌, length, take, drop, get_or, ap, sym, ◌∙◌, arith, refl, inl, inr}
 use Rattle.std.proofs.lemmas.Bool.{cases_lt}
 use Rattle.std.proofs.lemmas.List.{drop_all, drop_more, take_rest}
 use Rattle.uds_difference.specs.declared.row.Row.{Row}
 use Rattle.uds_difference.specs.declared.row.Row.TheVariants.{Same}
-use Rattle.trace_difference.specs.Hunks.{changes_within, is_change, rows_to_last_change}
+use Rattle.trace_difference.specs.Hunks.{changes_within, context, is_change, rows_to_last_change}
 
 pub drop-is : {X : Type 0} (xs : List X) (i : ℕ) (d x : X) → i < length xs → get_or xs i d ≡ x → drop i xs ≡ x ∷ drop (i + 1) xs
 drop-is {X = X} xs i d x h is = drop_more xs i d h ∙ ap (λ (v : X). v ∷ drop (i + 1) xs) is
@@ -47,21 +47,21 @@ not-yet-at count rows k d below same =
 
 -- ---- up to the last change of a hunk, by what a slice has from a place on
 
-last-first : (row : Row) (later : List Row) → changes_within 7 later ≡ false → rows_to_last_change (row ∷ later) ≡ 1
+last-first : (row : Row) (later : List Row) → changes_within (2 * context + 1) later ≡ false → rows_to_last_change (row ∷ later) ≡ 1
 last-first row later far = rw far refl
 
-last-next : (row : Row) (later : List Row) → changes_within 7 later ≡ true → rows_to_last_change (row ∷ later) ≡ suc (rows_to_last_change later)
+last-next : (row : Row) (later : List Row) → changes_within (2 * context + 1) later ≡ true → rows_to_last_change (row ∷ later) ≡ suc (rows_to_last_change later)
 last-next row later near = rw near refl
 
-pub last-here : (rows : List Row) (k : ℕ) → k < length rows → changes_within 7 (take (length rows - (k + 1)) (drop (k + 1) rows)) ≡ false
+pub last-here : (rows : List Row) (k : ℕ) → k < length rows → changes_within (2 * context + 1) (take (length rows - (k + 1)) (drop (k + 1) rows)) ≡ false
     → k + rows_to_last_change (drop k rows) ≡ k + 1
 last-here rows k below far =
     ap (λ (l : List Row). k + rows_to_last_change l) (drop_more rows k Same below)
-    ∙ ap (λ (n : ℕ). k + n) (last-first (get_or rows k Same) (drop (k + 1) rows) (sym (ap (changes_within 7) (take_rest rows (k + 1))) ∙ far))
+    ∙ ap (λ (n : ℕ). k + n) (last-first (get_or rows k Same) (drop (k + 1) rows) (sym (ap (changes_within (2 * context + 1)) (take_rest rows (k + 1))) ∙ far))
 
-pub last-later : (rows : List Row) (k : ℕ) → k < length rows → changes_within 7 (take (length rows - (k + 1)) (drop (k + 1) rows)) ≡ true
+pub last-later : (rows : List Row) (k : ℕ) → k < length rows → changes_within (2 * context + 1) (take (length rows - (k + 1)) (drop (k + 1) rows)) ≡ true
     → k + rows_to_last_change (drop k rows) ≡ (k + 1) + rows_to_last_change (drop (k + 1) rows)
 last-later rows k below near =
-    let here = last-next (get_or rows k Same) (drop (k + 1) rows) (sym (ap (changes_within 7) (take_rest rows (k + 1))) ∙ near) in
+    let here = last-next (get_or rows k Same) (drop (k + 1) rows) (sym (ap (changes_within (2 * context + 1)) (take_rest rows (k + 1))) ∙ near) in
     let next : k + suc (rows_to_last_change (drop (k + 1) rows)) ≡ (k + 1) + rows_to_last_change (drop (k + 1) rows) = omega arith in
     ap (λ (l : List Row). k + rows_to_last_change l) (drop_more rows k Same below) ∙ ap (λ (n : ℕ). k + n) here ∙ next

@@ -1,6 +1,6 @@
 -- The hunks of rows: what of them a text shows.
 use Prim.Native.Nat.{zero, suc}
-use Rattle.std.specs.Prelude.{ℕ, ◌+◌, ◌-◌, min, Bool, true, false, ◌||◌, List, [], ◌∷◌, length, take, if◌then◌else◌}
+use Rattle.std.specs.Prelude.{ℕ, ◌+◌, ◌-◌, ◌*◌, min, Bool, true, false, ◌||◌, List, [], ◌∷◌, length, take, if◌then◌else◌}
 use Rattle.uds_difference.specs.declared.row.Row.{Row}
 use Rattle.uds_difference.specs.declared.row.Row.TheVariants.{Same, Changed, OnlyLeft, OnlyRight}
 
@@ -41,15 +41,19 @@ changes_within zero rows = false
 changes_within (suc count) [] = false
 changes_within (suc count) (row ∷ rows) = is_change row || changes_within count rows
 
+-- how many rows that are the same stand in front of the first change of a hunk, and behind its last one
+abbrev pub context : ℕ
+context = 3
+
 -- how many rows of a hunk, which begins with the first of these, stand up to its last change: there at most six rows
 -- between two changes are the same
 abbrev pub rows_to_last_change : List Row → ℕ
 rows_to_last_change [] = 0
-rows_to_last_change (row ∷ rows) = if changes_within 7 rows then suc (rows_to_last_change rows) else 1
+rows_to_last_change (row ∷ rows) = if changes_within (2 * context + 1) rows then suc (rows_to_last_change rows) else 1
 
 -- how many rows it has: behind its last change three, or as many as there are
 abbrev pub hunk_length : List Row → ℕ
-hunk_length rows = rows_to_last_change rows + min 3 (length rows - rows_to_last_change rows)
+hunk_length rows = rows_to_last_change rows + min context (length rows - rows_to_last_change rows)
 
 -- a hunk: how many items of both sessions stand before it, and its rows
 pub record Hunk : Type 0 where
@@ -63,7 +67,7 @@ abbrev pub hunks_behind : ℕ → ℕ → ℕ → List Row → List Hunk
 hunks_behind shown left right [] = []
 hunks_behind (suc shown) left right (row ∷ rows) = hunks_behind shown (left + left_in row) (right + right_in row) rows
 hunks_behind zero left right (row ∷ rows) =
-    if changes_within 4 (row ∷ rows)
+    if changes_within (context + 1) (row ∷ rows)
     then record { left = left; right = right; rows = take (hunk_length (row ∷ rows)) (row ∷ rows) }
     ∷ hunks_behind (hunk_length (row ∷ rows) - 1) (left + left_in row) (right + right_in row) rows
     else hunks_behind 0 (left + left_in row) (right + right_in row) rows

@@ -4,7 +4,7 @@ use Rattle.std.specs.List.{flat_map}
 use Rattle.uds_exchange.specs.Meaning.{ItemValue}
 use Rattle.uds_difference.specs.Rows.{rows_of}
 use Rattle.uds_difference.specs.declared.row.Row.TheVariants.{Same, Changed, OnlyLeft, OnlyRight}
-use Rattle.trace_text.specs.ListText.{list_text}
+use Rattle.trace_text.specs.ItemLines.{list_text}
 use Rattle.trace_text.specs.declared.item_style.ItemStyle.{ItemStyle}
 use Rattle.trace_text.specs.declared.item_style.Numbering.TheVariants.{Hidden}
 use Rattle.trace_text.specs.declared.notation.Notation.TheVariants.{Text}

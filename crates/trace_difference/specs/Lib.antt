@@ -4,5 +4,6 @@ pub mod Labels
 pub mod Unified
 pub mod Objects
 pub mod Written
+pub mod InMemory
 pub mod Laws
 pub mod proving

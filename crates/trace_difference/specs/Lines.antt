@@ -4,7 +4,7 @@ use Rattle.text_parts.specs.Parts.{text_if_some}
 use Rattle.uds_exchange.specs.Meaning.{ItemValue}
 use Rattle.uds_difference.specs.declared.row.Row.{Row}
 use Rattle.uds_difference.specs.declared.row.Row.TheVariants.{Same, Changed, OnlyLeft, OnlyRight}
-use Rattle.trace_text.specs.ListText.{worded_line}
+use Rattle.trace_text.specs.ItemLines.{worded_line}
 use Rattle.trace_text.specs.declared.item_style.Numbering.TheVariants.{Hidden}
 
 -- what becomes of a line

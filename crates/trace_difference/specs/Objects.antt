@@ -5,7 +5,7 @@ use Rattle.uds_difference.specs.declared.row.Row.{Row}
 use Rattle.uds_difference.specs.declared.row.Row.TheVariants.{Same, Changed, OnlyLeft, OnlyRight}
 use Rattle.trace_text.specs.Json.{Value, Members, nothing, member, object_line}
 use Rattle.trace_text.specs.Json as json
-use Rattle.trace_text.specs.ListText.{item_object}
+use Rattle.trace_text.specs.ItemLines.{item_object}
 use Rattle.trace_text.specs.declared.item_style.Numbering.TheVariants.{Hidden}
 use Rattle.trace_difference.specs.Hunks.{is_change, left_in, right_in}
 
@@ -35,29 +35,29 @@ right_value ys j Changed = listed_value (slice_get ys j)
 right_value ys j OnlyLeft = json.null
 right_value ys j OnlyRight = listed_value (slice_get ys j)
 
--- A row: the number of its place, what becomes of its item, and of both sides the number of its item, or of the one in front
+-- A row: the number of its change, what becomes of its item, and of both sides the number of its item, or of the one in front
 -- of it where it has none.
 abbrev pub row_members : List ItemValue → List ItemValue → ℕ → ℕ → ℕ → Row → Members
-row_members xs ys place i j row =
-    member (codes "place") (json.number place) (member (codes "change") (json.string (change_word row))
+row_members xs ys change_number i j row =
+    member (codes "place") (json.number change_number) (member (codes "change") (json.string (change_word row))
     (member (codes "left_item") (json.number (i + left_in row)) (member (codes "right_item") (json.number (j + right_in row))
     (member (codes "left") (left_value xs i row) (member (codes "right") (right_value ys j row) nothing)))))
 
 -- its line, where it is a change
 abbrev pub row_text : List ItemValue → List ItemValue → ℕ → ℕ → ℕ → Row → List ℕ
-row_text xs ys place i j row = if is_change row then object_line (row_members xs ys place i j row) else []
+row_text xs ys change_number i j row = if is_change row then object_line (row_members xs ys change_number i j row) else []
 
--- the number of the place of a row, by that of the last place in front of it, and whether the row in front is a change: a
--- place is a longest run of rows that are changes
-abbrev pub place_of : ℕ → Bool → Row → ℕ
-place_of places behind_change row = if is_change row && not behind_change then places + 1 else places
+-- The number of the last change up to a row, by that of the last one in front of it, and whether the row in front is a
+-- change: such rows that follow one another have one number, as they are at one place.
+abbrev pub next_change_number : ℕ → Bool → Row → ℕ
+next_change_number change_number behind_change row = if is_change row && not behind_change then change_number + 1 else change_number
 
 -- the lines of rows, whose first one stands at these places of both lists
 abbrev pub rows_text : List ItemValue → List ItemValue → ℕ → Bool → ℕ → ℕ → List Row → List ℕ
-rows_text xs ys places behind_change i j [] = []
-rows_text xs ys places behind_change i j (row ∷ rows) =
-    row_text xs ys (place_of places behind_change row) i j row
-    ++ rows_text xs ys (place_of places behind_change row) (is_change row) (i + left_in row) (j + right_in row) rows
+rows_text xs ys change_number behind_change i j [] = []
+rows_text xs ys change_number behind_change i j (row ∷ rows) =
+    row_text xs ys (next_change_number change_number behind_change row) i j row
+    ++ rows_text xs ys (next_change_number change_number behind_change row) (is_change row) (i + left_in row) (j + right_in row) rows
 
 -- both are of one kind
 abbrev pub same_row : Row → Row → Bool

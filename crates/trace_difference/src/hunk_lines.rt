@@ -7,7 +7,7 @@ ghost use Rattle.trace_difference.specs.proving.Waiting.{added_lines};
 use crate::written::Side;
 use text_parts::say;
 use trace_io::TextSink;
-use trace_text::{Numbering, say_worded};
+use trace_text::{Numbering, say_worded_line};
 use uds_difference::Row;
 use uds_exchange::Meaning;
 
@@ -75,6 +75,6 @@ fn say_item_at<S: TextSink>(items: &Meaning, place: usize, out: &mut S)
     ensures { S.says out.old (line_at items.now place) out.new }
 {
     if let Some(item) = items.item(place) {
-        say_worded(0, Numbering::Hidden, item, out);
+        say_worded_line(0, Numbering::Hidden, item, out);
     }
 }

@@ -4,6 +4,9 @@ ghost use Rattle.trace_difference.specs.Hunks.{changes_within, differs, hunk_len
 
 use uds_difference::Row;
 
+/// How many rows that are the same stand in front of the first change of a hunk, and behind its last one, as `diff -U3` has it.
+pub(crate) const CONTEXT: usize = 3;
+
 /// Whether what stands in a row is not the same in both sessions.
 pub(crate) fn is_change(row: Row) -> bool
     ensures { result ≡ is_change row }
@@ -85,7 +88,7 @@ pub(crate) fn hunk_length(rows: &[Row]) -> usize
     ensures within { result ≤ length rows.now }
 {
     let last = rows_to_last_change(rows);
-    last + (rows.len() - last).min(3)
+    last + (rows.len() - last).min(CONTEXT)
 }
 
 /// How many of them stand up to its last change.
@@ -95,7 +98,7 @@ fn rows_to_last_change(rows: &[Row]) -> usize
     ensures within { result ≤ length rows.now }
 {
     'rows: for k in 0..rows.len() {
-        if !changes_within(7, &rows[k + 1..]) {
+        if !changes_within(2 * CONTEXT + 1, &rows[k + 1..]) {
             return k + 1;
         }
     }

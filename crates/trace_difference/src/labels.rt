@@ -5,7 +5,7 @@ ghost use Rattle.trace_difference.specs.Labels.{escaped, is_plain, is_plain_name
 
 use text_parts::Part;
 use trace_io::TextSink;
-use trace_text::say::say_text;
+use trace_text::values::say_text;
 
 /// The name of a file: as it is where it is plain, and else between quotes.
 #[derive(Clone, Copy)]
@@ -45,12 +45,12 @@ fn say_escaped<S: TextSink>(name: &[u8], out: &mut S)
     ensures { S.says out.old (flat_map escaped name.now) out.new }
 {
     'bytes: for byte in name {
-        say_byte(*byte, out);
+        say_escaped_byte(*byte, out);
     }
 }
 
 /// Says a byte between quotes.
-fn say_byte<S: TextSink>(byte: u8, out: &mut S)
+fn say_escaped_byte<S: TextSink>(byte: u8, out: &mut S)
     ensures { S.says out.old (escaped byte) out.new }
 {
     if byte == b'"' || byte == b'\\' {

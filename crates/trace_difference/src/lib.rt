@@ -3,7 +3,7 @@
 //! [`uds_difference`] says what stands beside what in two sessions. Here is what is written of that. In words it is what
 //! `diff -U3` writes of both lists without numbers: hunks of lines, with three lines of what is the same before and behind
 //! each place, so that `patch` makes the right list of the left one. As JSON it is an object for each row that is not the same
-//! in both, and one with the counts.
+//! in both, and one with the counts. [`in_memory`] answers of two logs in memory with this text.
 //!
 //! ```text
 //! --- one.log
@@ -18,6 +18,7 @@
 
 mod hunk_lines;
 mod hunk_rows;
+pub mod in_memory;
 mod labels;
 pub mod laws;
 mod row_objects;

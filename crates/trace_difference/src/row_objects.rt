@@ -3,13 +3,13 @@ ghost use Rattle.std.specs.Prelude.{◌≡◌, ◌+◌, ◌<◌, ◌≤◌, ◌^
 ghost use Rattle.trace_text.specs.Json.{object_line, value_text};
 ghost use Rattle.trace_difference.specs.Hunks.{left_in, right_in};
 ghost use Rattle.trace_difference.specs.proving.RowFront.{row_front};
-ghost use Rattle.trace_difference.specs.Objects.{change_word, count_members, count_of, left_value, listed_value, objects_text, place_of, right_value, row_members, row_text, rows_text, same_row};
+ghost use Rattle.trace_difference.specs.Objects.{change_word, count_members, count_of, left_value, listed_value, next_change_number, objects_text, right_value, row_members, row_text, rows_text, same_row};
 
 use crate::hunk_rows::{is_change, left_in, right_in};
 use crate::written::Side;
 use text_parts::{Either, Part, say};
 use trace_io::TextSink;
-use trace_text::say::say_text;
+use trace_text::values::say_text;
 use trace_text::{Number, Numbering, say_item_object};
 use uds_difference::Row;
 use uds_exchange::Meaning;
@@ -25,38 +25,47 @@ pub(crate) fn say_objects<S: TextSink>(
     ensures { S.says out.old (objects_text shortest rows.now left.entry.items.now right.entry.items.now) out.new }
 {
     say_rows(left, right, rows, out);
-    say_counts(shortest, rows, out);
+    say_row_counts(shortest, rows, out);
 }
 
 /// Says an object for each row that is a change.
 fn say_rows<S: TextSink>(left: Side<'_>, right: Side<'_>, rows: &[Row], out: &mut S)
     ensures { S.says out.old (rows_text left.entry.items.now right.entry.items.now 0 false 0 0 rows.now) out.new }
 {
-    let mut places = 0;
+    let mut change_number = 0;
     let mut behind_change = false;
-    let mut i = 0;
-    let mut j = 0;
+    let mut left_before = 0;
+    let mut right_before = 0;
     'rows: for row in rows {
-        places = place_of(places, behind_change, *row);
+        change_number = next_change_number(change_number, behind_change, *row);
         behind_change = is_change(*row);
         if behind_change {
-            say_row(left.items, right.items, places, i, j, *row, out);
+            say_row(
+                left.items,
+                right.items,
+                change_number,
+                left_before,
+                right_before,
+                *row,
+                out,
+            );
         }
-        i += left_in(*row);
-        j += right_in(*row);
+        left_before += left_in(*row);
+        right_before += right_in(*row);
     }
 }
 
-/// The number of the place of a row, by that of the last one in front of it, and whether the row in front is a change.
-fn place_of(places: u64, behind_change: bool, row: Row) -> u64
-    requires { places < 2 ^ 63 }
-    ensures value { result ≡ place_of places behind_change row }
-    ensures few { result ≤ places + 1 }
+/// The number of the last change up to a row, by that of the last one in front of it, and whether the row in front is a
+/// change: such rows that follow one another have one number.
+fn next_change_number(change_number: u64, behind_change: bool, row: Row) -> u64
+    requires { change_number < 2 ^ 63 }
+    ensures value { result ≡ next_change_number change_number behind_change row }
+    ensures few { result ≤ change_number + 1 }
 {
     if is_change(row) && !behind_change {
-        places + 1
+        change_number + 1
     } else {
-        places
+        change_number
     }
 }
 
@@ -64,42 +73,53 @@ fn place_of(places: u64, behind_change: bool, row: Row) -> u64
 fn say_row<S: TextSink>(
     left: &Meaning,
     right: &Meaning,
-    place: u64,
-    i: usize,
-    j: usize,
+    change_number: u64,
+    left_before: usize,
+    right_before: usize,
     row: Row,
     out: &mut S,
 )
-    requires i_small { i < 2 ^ 63 }
-    requires j_small { j < 2 ^ 63 }
-    ensures { S.says out.old (object_line (row_members left.now right.now place i j row)) out.new }
+    requires left_small { left_before < 2 ^ 63 }
+    requires right_small { right_before < 2 ^ 63 }
+    ensures { S.says out.old (object_line (row_members left.now right.now change_number left_before right_before row)) out.new }
 {
-    say_row_front(place, i, j, row, out);
-    say_left(left, i, row, out);
+    say_row_front(change_number, left_before, right_before, row, out);
+    say_left(left, left_before, row, out);
     say_text(out, ",\"right\":");
-    say_right(right, j, row, out);
+    say_right(right, right_before, row, out);
     say_text(out, "}\n");
 }
 
 /// Says it up to what both sides have.
-fn say_row_front<S: TextSink>(place: u64, i: usize, j: usize, row: Row, out: &mut S)
-    requires i_small { i < 2 ^ 63 }
-    requires j_small { j < 2 ^ 63 }
-    ensures { S.says out.old (row_front place (change_word row) (i + left_in row) (j + right_in row)) out.new }
+fn say_row_front<S: TextSink>(
+    change_number: u64,
+    left_before: usize,
+    right_before: usize,
+    row: Row,
+    out: &mut S,
+)
+    requires left_small { left_before < 2 ^ 63 }
+    requires right_small { right_before < 2 ^ 63 }
+    ensures { S.says out.old (row_front change_number (change_word row) (left_before + left_in row) (right_before + right_in row)) out.new }
 {
     let left = left_in(row);
     let right = right_in(row);
     say(
         out,
-        ("{\"place\":", Number(place), ",\"change\":\"", Change(row)),
+        (
+            "{\"place\":",
+            Number(change_number),
+            ",\"change\":\"",
+            Change(row),
+        ),
     );
     say(
         out,
         (
             "\",\"left_item\":",
-            Number((i + left) as u64),
+            Number((left_before + left) as u64),
             ",\"right_item\":",
-            Number((j + right) as u64),
+            Number((right_before + right) as u64),
             ",\"left\":",
         ),
     );
@@ -155,7 +175,7 @@ fn say_listed<S: TextSink>(items: &Meaning, place: usize, out: &mut S)
 }
 
 /// Says the object of the counts.
-fn say_counts<S: TextSink>(shortest: bool, rows: &[Row], out: &mut S)
+fn say_row_counts<S: TextSink>(shortest: bool, rows: &[Row], out: &mut S)
     ensures { S.says out.old (object_line (count_members shortest rows.now)) out.new }
 {
     let same = count_of(Row::Same, rows);

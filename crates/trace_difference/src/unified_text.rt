@@ -8,14 +8,14 @@ ghost use Rattle.trace_difference.specs.proving.HunkOf.{hunk_of};
 
 use crate::hunk_lines::say_lines;
 use crate::hunk_rows::{
-    changes_within, differs, hunk_length, left_count, left_in, right_count, right_in,
+    CONTEXT, changes_within, differs, hunk_length, left_count, left_in, right_count, right_in,
 };
 use crate::labels::Label;
 use crate::written::Side;
 use text_parts::{Part, say};
 use trace_io::TextSink;
 use trace_text::{Number, Place};
-use uds_difference::Row;
+use uds_difference::{Row, bound_for};
 
 /// Says the text of these rows of two sessions: nothing where nothing differs.
 pub(crate) fn say_unified<S: TextSink>(
@@ -28,23 +28,13 @@ pub(crate) fn say_unified<S: TextSink>(
     ensures { S.says out.old (unified_text left.entry.name.now right.entry.name.now shortest (bound_for (length left.entry.items.now + length right.entry.items.now)) rows.now left.entry.items.now right.entry.items.now) out.new }
 {
     if differs(rows) {
-        let bound = bound_for(left.items.len() + right.items.len());
+        let bound = u64::from(bound_for(left.items.len() + right.items.len()));
         say(
             out,
             (Note { shortest, bound }, Header(left.name, right.name)),
         );
         say_hunks(left, right, rows, out);
     }
-}
-
-/// How many items a shortest script removes and adds at most, where two sessions have so many items together.
-fn bound_for(items: usize) -> u64
-    ensures { result ≡ bound_for items }
-{
-    if items == 0 {
-        return 2_000;
-    }
-    (1_073_741_824 / items as u64).min(2_000).max(64)
 }
 
 /// That a shorter script may keep equal items, where this bound was passed up to which one is looked for.
@@ -92,19 +82,19 @@ fn say_hunks<S: TextSink>(left: Side<'_>, right: Side<'_>, rows: &[Row], out: &m
     ensures { S.says out.old (flat_map (hunk_text left.entry.items.now right.entry.items.now) (hunks rows.now)) out.new }
 {
     let mut shown = 0;
-    let mut i = 0;
-    let mut j = 0;
+    let mut left_before = 0;
+    let mut right_before = 0;
     'rows: for k in 0..rows.len() {
         let rest = &rows[k..];
         if shown > 0 {
             shown -= 1;
-        } else if changes_within(4, rest) {
+        } else if changes_within(CONTEXT + 1, rest) {
             let length = hunk_length(rest);
-            say_hunk(left, right, i, j, &rest[..length], out);
+            say_hunk(left, right, left_before, right_before, &rest[..length], out);
             shown = length - 1;
         }
-        i += left_in(rows[k]);
-        j += right_in(rows[k]);
+        left_before += left_in(rows[k]);
+        right_before += right_in(rows[k]);
     }
 }
 

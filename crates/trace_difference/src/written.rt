@@ -36,7 +36,7 @@ pub fn write_difference<W: Target>(
     ensures printed { Prints W.Target (written_rows notation left.entry.name.now right.entry.name.now difference.now.shortest difference.now.rows.items left.entry.items.now right.entry.items.now) target.old result target.new }
 {
     print(
-        Noted {
+        DifferenceText {
             difference,
             left,
             right,
@@ -64,14 +64,14 @@ pub fn say_difference<S: TextSink>(
 
 /// A difference in a notation.
 #[derive(Clone, Copy)]
-struct Noted<'a> {
+struct DifferenceText<'a> {
     difference: &'a Difference,
     left: Side<'a>,
     right: Side<'a>,
     notation: Notation,
 }
 
-impl<'a> Part for Noted<'a> {
+impl<'a> Part for DifferenceText<'a> {
     ghost use Rattle.trace_difference.specs.Written.{written_rows};
 
     ghost text = { λ t. written_rows t.notation t.left.name.now t.right.name.now t.difference.now.shortest t.difference.now.rows.items t.left.items.now t.right.items.now };

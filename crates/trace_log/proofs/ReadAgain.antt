@@ -23,9 +23,9 @@ use Rattle.isotp_receive.specs.Trace.{Entry}
 use Rattle.isotp_receive.specs.Verdict.{messages}
 use Rattle.isotp_receive.proofs.Promises.{recording_delivers, clean_trace_is_a_recording, kept_is_within, clean_is_counted}
 use Rattle.isotp_segment.specs.CanonicalFrames.{canonical_frames}
-use Rattle.isotp_segment.specs.Laws.{IsFullFrame}
+use Rattle.isotp_segment.specs.Laws.{HasEightBytes}
 use Rattle.isotp_segment.specs.Timed.{timed, HasFrames, all_frames}
-use Rattle.isotp_segment.proofs.Promises.{canonical_frames_are_full, canonical_frames_are_a_recording, canonical_frames_are_clean}
+use Rattle.isotp_segment.proofs.Promises.{canonical_frames_have_eight_bytes, canonical_frames_are_a_recording, canonical_frames_are_clean}
 use Rattle.uds_exchange.specs.Meaning.{ItemValue, meaning, flattened, removed_messages}
 use Rattle.uds_exchange.proofs.Promises.{meaning_is_kept, none_is_lost, none_is_made_up}
 use Rattle.trace_log.specs.Settings.{Settings, AreSettings, id_of}
@@ -56,12 +56,12 @@ abbrev stamped_from : Settings → ℕ → List (Dir × List ℕ) → List (Opti
 stamped_from settings n [] = []
 stamped_from settings n (frame ∷ later) = Some (stamped_at settings n frame) ∷ stamped_from settings (n + 1) later
 
-canonical_lines_mean : (settings : Settings) (n : ℕ) (frames : List (Dir × List ℕ)) → AreSettings settings → AllByRecursion IsFullFrame frames
+canonical_lines_mean : (settings : Settings) (n : ℕ) (frames : List (Dir × List ℕ)) → AreSettings settings → AllByRecursion HasEightBytes frames
     → n + length frames ≤ 10 ^ 13 → LinesMean (canonical_lines settings n frames) (stamped_from settings n frames)
 unfolding canonical_lines
 canonical_lines_mean settings n [] are full few = tt
 canonical_lines_mean settings n (frame ∷ later) are full few = (
-  canonical_line_means n (id_of settings frame.0) frame.1 (omega arith) (spellable settings frame.0 are) full.0.full full.0.bytes,
+  canonical_line_means n (id_of settings frame.0) frame.1 (omega arith) (spellable settings frame.0 are) full.0.eight full.0.bytes,
   canonical_lines_mean settings (n + 1) later are full.1 (omega arith),
 )
 
@@ -101,11 +101,11 @@ few_frames settings frames =
     let few = lines_are_few (canonical_lines settings 0 frames) in
     omega arith
 
-frames_are_full : (limit : ℕ) (M : List Message) → limit < 2 ^ 32 → AllByRecursion (IsSendable limit) M → AllByRecursion IsFullFrame (all_frames limit M)
+frames_are_full : (limit : ℕ) (M : List Message) → limit < 2 ^ 32 → AllByRecursion (IsSendable limit) M → AllByRecursion HasEightBytes (all_frames limit M)
 frames_are_full limit [] most each = tt
 frames_are_full limit (one ∷ later) most each =
-    AllByRecursion-append IsFullFrame (canonical_frames limit one.0 one.1) (all_frames limit later)
-    (canonical_frames_are_full limit one.0 one.1 most each.0.bytes) (frames_are_full limit later most each.1)
+    AllByRecursion-append HasEightBytes (canonical_frames limit one.0 one.1) (all_frames limit later)
+    (canonical_frames_have_eight_bytes limit one.0 one.1 most each.0.bytes) (frames_are_full limit later most each.1)
 
 -- The canonical log of these messages, where it is within the limit, is read as their canonical frames.
 record ReadsAs (limit : ℕ) (settings : Settings) (text : List ℕ) (M : List Message) : Type 0 where
@@ -267,12 +267,12 @@ pending_are_the_rest limit settings log meanings = none_is_lost (messages_of_lin
 
 -- ---- how long a canonical log is
 
-pub lines_length : (settings : Settings) (n : ℕ) (frames : List (Dir × List ℕ)) → AllByRecursion IsFullFrame frames
+pub lines_length : (settings : Settings) (n : ℕ) (frames : List (Dir × List ℕ)) → AllByRecursion HasEightBytes frames
     → length (ended_lines (canonical_lines settings n frames)) ≡ lines_size settings frames
 unfolding canonical_lines
 lines_length settings n [] full = refl
 lines_length settings n (frame ∷ later) full =
-    let one = canonical_line_length n (id_of settings frame.0) frame.1 full.0.full in
+    let one = canonical_line_length n (id_of settings frame.0) frame.1 full.0.eight in
     let rest = lines_length settings (n + 1) later full.1 in
     let all = length-append (canonical_line n (id_of settings frame.0) frame.1) (ended_lines (canonical_lines settings (n + 1) later)) in
     omega arith

@@ -1,6 +1,6 @@
 -- What is counted in a log, by what each frame of its trace does at its place.
 use Prim.Native.Char.{code}
-use Rattle.std.specs.Prelude.{ℕ, ◌+◌, ◌==◌, ◌&&◌, min, nat_lt, Bool, true, false, if◌then◌else◌, List, [], ◌∷◌, length, map, codes, Option, Some, None, is_some}
+use Rattle.std.specs.Prelude.{ℕ, ◌+◌, ◌==◌, ◌&&◌, not, min, nat_lt, Bool, true, false, if◌then◌else◌, List, [], ◌∷◌, length, map, codes, Option, Some, None, is_some}
 use Rattle.std.specs.List.{count_by, last_or}
 use Rattle.direction.specs.declared.Dir.{Dir}
 use Rattle.direction.specs.declared.Dir.TheVariants as dir
@@ -73,6 +73,10 @@ named_counts summary =
 abbrev pub is_clean : Summary → Bool
 is_clean summary =
     nat_lt 0 summary.tester_frames && (nat_lt 0 summary.unit_frames && ((summary.dropped == 0) && ((summary.ended == 0) && ((summary.unfinished == 0) && summary.ends_in_line_feed))))
+
+-- the log has bytes, the last of which is no line feed; one without bytes has no lines
+abbrev pub lacks_line_feed : Summary → Bool
+lacks_line_feed summary = nat_lt 0 summary.lines && not summary.ends_in_line_feed
 
 -- ---- devices of proof: counts with their names as the code has them, and the counts of frames as they grow
 

@@ -105,4 +105,11 @@ impl Summary {
             && self.unfinished == 0
             && self.ends_in_line_feed
     }
+
+    /// Whether the log has bytes, the last of which is no line feed.
+    pub fn lacks_line_feed(&self) -> bool
+        ensures { result ≡ Spec.lacks_line_feed self.now }
+    {
+        self.lines > 0 && !self.ends_in_line_feed
+    }
 }

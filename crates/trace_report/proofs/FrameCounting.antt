@@ -22,10 +22,10 @@ use Rattle.isotp_receive.proofs.Promises.{one_more, same-self, other-apart}
 use Rattle.uds_exchange.specs.Judging.{one_more as one_more_count}
 use Rattle.trace_canon.specs.MessageLines.{last_start, place_of}
 use Rattle.trace_report.specs.Events.{frames_by}
-use Rattle.trace_canon.specs.declared.begun.FramePlace.{FramePlace}
+use Rattle.trace_canon.specs.declared.reception_starts.FramePlace.{FramePlace}
 use Rattle.trace_report.specs.declared.frames.FrameCounts.{FrameCounts}
-use Rattle.trace_canon.specs.proving.Begun.{IsBegunAt}
-use Rattle.trace_canon.specs.Begun.{left_by}
+use Rattle.trace_canon.specs.proving.ReceptionStarts.{IsBegunAt}
+use Rattle.trace_canon.specs.ReceptionStarts.{left_by}
 use Rattle.trace_report.specs.declared.places.Places.{Places}
 use Rattle.trace_report.specs.proving.Following.{CountFrames, KnowsPlaces, IsTaken, counted_by, frames_with, taken_after}
 use Rattle.trace_canon.proofs.Promises.{role_own, role_other}

@@ -8,7 +8,7 @@ use Rattle.trace_log.proofs.Promises.{has_own_frame}
 use Rattle.trace_log.specs.Needing.{HasFrame}
 use Rattle.trace_log.specs.Settings.{Settings}
 use Rattle.trace_log.specs.Summing.{summary_of}
-use Rattle.trace_run.specs.Told.{AnswersTold, IsUnreadFor, TellsNothing}
+use Rattle.trace_run.specs.Told.{AnswersTold, IsUnreadFor, TellsNothing, tells_no_refusal}
 use Rattle.trace_log.specs.Trace.{trace}
 use Rattle.trace_log.specs.declared.fault.Fault.{Fault}
 use Rattle.trace_log.specs.declared.fault.Fault.TheVariants.{BadLine, Oversize, LogLimit, OutputLimit, Read, Write, Memory}
@@ -18,41 +18,41 @@ use Rattle.trace_report.specs.Held.{HoldsOne, HasOwnFrame}
 use Rattle.trace_report.specs.Page.{first_time, last_time}
 use Rattle.trace_report.specs.Session.{SessionValue, session_of}
 use Rattle.trace_report.specs.declared.keeper.Heard.{Heard}
-use Rattle.trace_report.specs.declared.span.Span.{Span}
+use Rattle.trace_report.specs.declared.times.Times.{Times}
 use Rattle.trace_report.specs.proving.Following.{rows_in, times_of}
 use Rattle.trace_report.specs.proving.Heard.{IsHeardOf, answers_heard, quiet_script}
-use Rattle.trace_report.specs.proving.Lending.{first_of_span, last_of_span}
-use Rattle.trace_report.proofs.Steps.{span_next}
+use Rattle.trace_report.specs.proving.Lending.{first_of_times, last_of_times}
+use Rattle.trace_report.proofs.Steps.{times_next}
 
 -- nothing is told
 pub quiet_tells_nothing : TellsNothing quiet_script
-quiet_tells_nothing = record { of_frames = λ T e. refl; at_the_end = λ T summary. refl; of_refusals = λ T summary why. refl }
+quiet_tells_nothing = record { of_frames = λ T e. refl; at_the_end = λ T summary. refl }
 
 -- the times with one more frame
-pub span_goes_on : (T : List Entry) (e : Entry) (span : Span) (micros : ℕ) → Some span ≡ times_of T → e.micros ≡ micros
-    → Some (record { first = span.first; last = micros }) ≡ times_of (T ++ e ∷ [])
-span_goes_on [] e span micros is at = absurd (none-some span (sym is))
-span_goes_on (x ∷ T) e span micros is at =
-    span_next (x ∷ T) e span.first micros (ap (λ (s : Span). s.first) (same_Some span (record { first = x.micros; last = last_time x.micros T }) is)) (sym at)
+pub times_go_on : (T : List Entry) (e : Entry) (times : Times) (micros : ℕ) → Some times ≡ times_of T → e.micros ≡ micros
+    → Some (record { first = times.first; last = micros }) ≡ times_of (T ++ e ∷ [])
+times_go_on [] e times micros is at = absurd (none-some times (sym is))
+times_go_on (x ∷ T) e times micros is at =
+    times_next (x ∷ T) e times.first micros (ap (λ (s : Times). s.first) (same_Some times (record { first = x.micros; last = last_time x.micros T }) is)) (sym at)
 
 -- the times of a first frame
-pub span_begins : (T : List Entry) (e : Entry) (micros : ℕ) → None ≡ times_of T → e.micros ≡ micros
+pub times_begin : (T : List Entry) (e : Entry) (micros : ℕ) → None ≡ times_of T → e.micros ≡ micros
     → Some (record { first = micros; last = micros }) ≡ times_of (T ++ e ∷ [])
-span_begins [] e micros is at = span_next [] e micros micros (sym at) (sym at)
-span_begins (x ∷ T) e micros is at = absurd (none-some (record { first = x.micros; last = last_time x.micros T }) is)
+times_begin [] e micros is at = times_next [] e micros micros (sym at) (sym at)
+times_begin (x ∷ T) e micros is at = absurd (none-some (record { first = x.micros; last = last_time x.micros T }) is)
 
 -- the times of a session
-pub first_known : (T : List Entry) (span : Option Span) → span ≡ times_of T → first_of_span span ≡ first_time T
-first_known [] span is = ap first_of_span is
-first_known (x ∷ T) span is = ap first_of_span is
+pub first_known : (T : List Entry) (times : Option Times) → times ≡ times_of T → first_of_times times ≡ first_time T
+first_known [] times is = ap first_of_times is
+first_known (x ∷ T) times is = ap first_of_times is
 
-pub last_known : (T : List Entry) (span : Option Span) → span ≡ times_of T → last_of_span span ≡ last_time 0 T
-last_known [] span is = ap last_of_span is
-last_known (x ∷ T) span is = ap last_of_span is
+pub last_known : (T : List Entry) (times : Option Times) → times ≡ times_of T → last_of_times times ≡ last_time 0 T
+last_known [] times is = ap last_of_times is
+last_known (x ∷ T) times is = ap last_of_times is
 
 module _ (settings : Settings) (log : List ℕ) (given : ℕ) (old new : List ℕ) where
   -- what is answered of a log that can't be read
-  pub unread_so : (fault : Fault) → AnswersTold quiet_script answers_heard MESSAGE_LIMIT settings log given (Err fault) old new
+  pub unread_so : (fault : Fault) → AnswersTold quiet_script tells_no_refusal answers_heard MESSAGE_LIMIT settings log given (Err fault) old new
       → IsUnreadFor false MESSAGE_LIMIT settings log fault
   unread_so (BadLine line column) answered = answered.0
   unread_so (Oversize line announced) answered = answered.0
@@ -65,12 +65,12 @@ module _ (settings : Settings) (log : List ℕ) (given : ℕ) (old new : List �
   -- and of one that can, where this session is of what was heard
   pub read_so : (heard : Heard) (session : SessionValue)
       → ((T : List Entry) (summary : Summary) → IsHeardOf T summary heard → session ≡ session_of MESSAGE_LIMIT T summary)
-      → AnswersTold quiet_script answers_heard MESSAGE_LIMIT settings log given (Ok heard) old new → HoldsOne MESSAGE_LIMIT settings log (Ok session)
+      → AnswersTold quiet_script tells_no_refusal answers_heard MESSAGE_LIMIT settings log given (Ok heard) old new → HoldsOne MESSAGE_LIMIT settings log (Ok session)
   read_so heard session is (all, meanings, read, answer, wrote) =
       (meanings, read, is (trace settings meanings) (summary_of MESSAGE_LIMIT settings log meanings) answer)
 
   -- the log has a frame where a row of its end is there
-  pub has_own_where_held : (heard : Heard) → rows_in heard.last ≢ [] → AnswersTold quiet_script answers_heard MESSAGE_LIMIT settings log given (Ok heard) old new
+  pub has_own_where_held : (heard : Heard) → rows_in heard.last ≢ [] → AnswersTold quiet_script tells_no_refusal answers_heard MESSAGE_LIMIT settings log given (Ok heard) old new
       → HasOwnFrame settings log
   has_own_where_held heard some (all, meanings, read, answer, wrote) =
       has_own_frame settings log meanings read.1 (λ none. some (answer.last ∙ ap (λ (T : List Entry). end_rows MESSAGE_LIMIT T) none))

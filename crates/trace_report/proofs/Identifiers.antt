@@ -149,10 +149,10 @@ identifiers_stand_once settings meanings few =
 abbrev sorts : List Sort
 sorts =
     sort.Requests ∷ sort.Positives ∷ sort.Negatives ∷ sort.Pendings ∷ sort.KeepAlives ∷ sort.Strays ∷ sort.Unanswered ∷ sort.Silent
-    ∷ sort.Drops ∷ sort.Ends ∷ sort.Partials ∷ []
+    ∷ sort.Dropped ∷ sort.Ended ∷ sort.Unfinished ∷ []
 
 abbrev sort_at : ℕ → Sort
-sort_at number = slice_index_or sorts number sort.Partials
+sort_at number = slice_index_or sorts number sort.Unfinished
 
 ranked : (kind : Sort) → sort_at (rank kind) ≡ kind
 ranked sort.Requests = refl
@@ -163,9 +163,9 @@ ranked sort.KeepAlives = refl
 ranked sort.Strays = refl
 ranked sort.Unanswered = refl
 ranked sort.Silent = refl
-ranked sort.Drops = refl
-ranked sort.Ends = refl
-ranked sort.Partials = refl
+ranked sort.Dropped = refl
+ranked sort.Ended = refl
+ranked sort.Unfinished = refl
 
 same-sort : (kind other : Sort) → (rank kind == rank other) ≡ true → other ≡ kind
 same-sort kind other same = sym (ranked other) ∙ ap sort_at (sym (eqb-true (rank kind) (rank other) same)) ∙ ranked kind
@@ -188,9 +188,9 @@ module _ (kind : Sort) (to : Link) (leads : (number : ℕ) → led_to kind numbe
 
 has-each : (items lines sides : ℕ) (rows : List RowValue) → ArePlaced items lines sides rows → HasEachTarget rows
 has-each items lines sides rows are = record {
-  drops = first-lead sort.Drops link.Line (λ number. refl) (targets_in rows) rows are.lead;
-  ends = first-lead sort.Ends link.Line (λ number. refl) (targets_in rows) rows are.lead;
-  partials = first-lead sort.Partials link.Side (λ number. refl) (targets_in rows) rows are.lead;
+  dropped = first-lead sort.Dropped link.Line (λ number. refl) (targets_in rows) rows are.lead;
+  ended = first-lead sort.Ended link.Line (λ number. refl) (targets_in rows) rows are.lead;
+  unfinished = first-lead sort.Unfinished link.Side (λ number. refl) (targets_in rows) rows are.lead;
   negatives = first-lead sort.Negatives link.Item (λ number. refl) (targets_in rows) rows are.lead;
   unanswered = first-lead sort.Unanswered link.Item (λ number. refl) (targets_in rows) rows are.lead;
   strays = first-lead sort.Strays link.Item (λ number. refl) (targets_in rows) rows are.lead;

@@ -11,8 +11,8 @@ use Rattle.uds_exchange.specs.OneMessage.{step_if_open, step_of}
 use Rattle.uds_exchange.specs.Order.{has_exchange}
 use Rattle.uds_exchange.specs.declared.step.Step.{Step}
 use Rattle.uds_exchange.specs.declared.step.Step.TheVariants as becomes
-use Rattle.uds_exchange.specs.WaitingExchange.{one_later, waiting, waiting_sid}
-use Rattle.uds_exchange.specs.proving.Pairing.{join, join_by}
+use Rattle.uds_exchange.specs.OpenExchange.{one_later, open_exchange_in, open_sid_in}
+use Rattle.uds_exchange.specs.proving.Pairing.{items_with, items_with_other}
 use Rattle.uds_message.specs.Message.{is_keep_alive, is_negative_response, sid}
 use Rattle.trace_report.specs.Events.{role_of_step}
 use Rattle.trace_report.specs.Items.{RowMessage, answer_in, item_value, items_in}
@@ -35,7 +35,7 @@ kind (message (role.Pending asked) d place bytes) = nothing
 kind (message role.KeepAlive d place bytes) = strays d bytes
 kind (message role.Stray d place bytes) = strays d bytes
 kind (no_answer number silent) = nothing
-kind (dropped place d named why) = nothing
+kind (dropped place d linked why) = nothing
 kind (ended place end) = nothing
 kind (unfinished d line len) = nothing
 
@@ -66,7 +66,7 @@ answer-by-kinds (message (role.Pending asked) d place bytes ∷ rest) = answer-b
 answer-by-kinds (message role.KeepAlive d place bytes ∷ rest) = answer-by-kinds rest
 answer-by-kinds (message role.Stray d place bytes ∷ rest) = answer-by-kinds rest
 answer-by-kinds (no_answer number silent ∷ rest) = answer-by-kinds rest
-answer-by-kinds (dropped place d named why ∷ rest) = answer-by-kinds rest
+answer-by-kinds (dropped place d linked why ∷ rest) = answer-by-kinds rest
 answer-by-kinds (ended place end ∷ rest) = answer-by-kinds rest
 answer-by-kinds (unfinished d line len ∷ rest) = answer-by-kinds rest
 
@@ -79,7 +79,7 @@ values-by-kinds (message (role.Pending asked) d place bytes ∷ rest) = values-b
 values-by-kinds (message role.KeepAlive d place bytes ∷ rest) = ap (λ l. stray d bytes ∷ l) (values-by-kinds rest)
 values-by-kinds (message role.Stray d place bytes ∷ rest) = ap (λ l. stray d bytes ∷ l) (values-by-kinds rest)
 values-by-kinds (no_answer number silent ∷ rest) = values-by-kinds rest
-values-by-kinds (dropped place d named why ∷ rest) = values-by-kinds rest
+values-by-kinds (dropped place d linked why ∷ rest) = values-by-kinds rest
 values-by-kinds (ended place end ∷ rest) = values-by-kinds rest
 values-by-kinds (unfinished d line len ∷ rest) = values-by-kinds rest
 
@@ -137,9 +137,9 @@ module _ (reply : List ℕ) where
 
   -- the answer is given to the exchange that waits
   abbrev Answered : List ItemValue → List ItemValue → Type 0
-  Answered items now = (w : ℕ × List ℕ) → waiting items ≡ Some w → now ≡ slice_set items w.0 (exchange w.1 (Some reply))
+  Answered items now = (w : ℕ × List ℕ) → open_exchange_in items ≡ Some w → now ≡ slice_set items w.0 (exchange w.1 (Some reply))
 
-  later-by : (x : ItemValue) (items now : List ItemValue) (found : Option (ℕ × List ℕ)) → waiting items ≡ found → Answered items now
+  later-by : (x : ItemValue) (items now : List ItemValue) (found : Option (ℕ × List ℕ)) → open_exchange_in items ≡ found → Answered items now
       → (w : ℕ × List ℕ) → one_later found ≡ Some w → x ∷ now ≡ slice_set (x ∷ items) w.0 (exchange w.1 (Some reply))
   later-by x items now None is goes w waits = absurd (none-some w waits)
   later-by x items now (Some v) is goes w waits =
@@ -147,8 +147,8 @@ module _ (reply : List ℕ) where
       (ap (λ l. x ∷ l) (goes v is))
 
   later : (x : ItemValue) (items now : List ItemValue) → Answered items now
-      → (w : ℕ × List ℕ) → one_later (waiting items) ≡ Some w → x ∷ now ≡ slice_set (x ∷ items) w.0 (exchange w.1 (Some reply))
-  later x items now goes w waits = later-by x items now (waiting items) refl goes w waits
+      → (w : ℕ × List ℕ) → one_later (open_exchange_in items) ≡ Some w → x ∷ now ≡ slice_set (x ∷ items) w.0 (exchange w.1 (Some reply))
+  later x items now goes w waits = later-by x items now (open_exchange_in items) refl goes w waits
 
   asked : (bytes : List ℕ) (ks : List RowKind) (found : Option (List ℕ)) → answer_of ks ≡ found → Answered (values_of ks) (values_of (more ks))
       → Answered (exchange bytes found ∷ values_of ks) (exchange bytes (answer_of (more ks)) ∷ values_of (more ks))
@@ -157,13 +157,13 @@ module _ (reply : List ℕ) where
       ∙ later (exchange bytes (Some old)) (values_of ks) (values_of (more ks)) goes w waits
   asked bytes ks None is goes w waits = elim (cases_Bool (has_exchange (values_of ks))) [
     | inl has ↦
-        let waits_later : one_later (waiting (values_of ks)) ≡ Some w =
-        sym (ap (λ (b : Bool). if b then one_later (waiting (values_of ks)) else Some (0, bytes)) has) ∙ waits in
+        let waits_later : one_later (open_exchange_in (values_of ks)) ≡ Some w =
+        sym (ap (λ (b : Bool). if b then one_later (open_exchange_in (values_of ks)) else Some (0, bytes)) has) ∙ waits in
         ap (λ o. exchange bytes o ∷ values_of (more ks)) (stopped ks (answers reply ∷ []) has is)
         ∙ later (exchange bytes None) (values_of ks) (values_of (more ks)) goes w waits_later
     | inr none ↦
         let waits_here : Some (0, bytes) ≡ Some w =
-        sym (ap (λ (b : Bool). if b then one_later (waiting (values_of ks)) else Some (0, bytes)) none) ∙ waits in
+        sym (ap (λ (b : Bool). if b then one_later (open_exchange_in (values_of ks)) else Some (0, bytes)) none) ∙ waits in
         subst (λ (u : ℕ × List ℕ). exchange bytes (answer_of (more ks)) ∷ values_of (more ks) ≡ slice_set (exchange bytes None ∷ values_of ks) u.0 (exchange u.1 (Some reply)))
         (same_Some (0, bytes) w waits_here)
         (λ i. exchange bytes (open-to ks (answers reply ∷ []) none is i) ∷ still ks none i)
@@ -202,8 +202,8 @@ module _ (ks : List RowKind) (x : Message) where
   stays : with_kind nothing ≡ values_of ks
   stays = values-behind ks (nothing ∷ []) refl ∙ append-nil (values_of ks)
 
-  joined-by : (o : Option (ℕ × List ℕ)) → waiting (values_of ks) ≡ o
-      → with_kind (kind_of_step (step_if_open (option_map (λ place. sid place.1) o) x) x) ≡ join_by o (values_of ks) x
+  joined-by : (o : Option (ℕ × List ℕ)) → open_exchange_in (values_of ks) ≡ o
+      → with_kind (kind_of_step (step_if_open (option_map (λ place. sid place.1) o) x) x) ≡ items_with_other o (values_of ks) x
   joined-by None is = values-behind ks (strays x.0 x.1 ∷ []) refl
   joined-by (Some w) is = elim (cases_Bool (is_answer_to w.1 x)) [
     | inl e ↦ rw e (answered x.1 ks w is)
@@ -213,8 +213,8 @@ module _ (ks : List RowKind) (x : Message) where
     ]
   ]
 
-  pub joined : with_kind (kind_of_step (step_of (waiting_sid (values_of ks)) x) x) ≡ join (values_of ks) x
+  pub joined : with_kind (kind_of_step (step_of (open_sid_in (values_of ks)) x) x) ≡ items_with (values_of ks) x
   joined = elim (cases_Bool (is_tester_request x)) [
     | inl e ↦ rw e (values-behind ks (asks x.1 ∷ []) refl)
-    | inr e ↦ rw e (joined-by (waiting (values_of ks)) refl)
+    | inr e ↦ rw e (joined-by (open_exchange_in (values_of ks)) refl)
   ]

@@ -7,7 +7,7 @@ use Rattle.uds_exchange.proofs.Promises.{message_stays}
 use Rattle.trace_report.specs.Rows.{RowValue, message}
 use Rattle.trace_report.specs.Sorts.{counts_in, sort_of}
 use Rattle.trace_report.specs.declared.counts.SortCounts.{SortCounts}
-use Rattle.trace_report.specs.declared.kept_rows.KeptItem.{KeptItem}
+use Rattle.trace_report.specs.declared.item_places.ItemPlace.{ItemPlace}
 use Rattle.trace_report.specs.declared.kept_rows.KeptRow.{KeptRow}
 use Rattle.trace_report.specs.declared.kept_rows.KeptRow.TheVariants as kept
 use Rattle.trace_report.specs.proving.Keeping.{row_at, rows_at, IsLaid, AreLaid, AreKept, ArePlaced, places_next, waiting_next}
@@ -37,14 +37,14 @@ module _ (old new : List (List ℕ)) (on : GoesOn old new) where
   row-stays : (row : KeptRow) → IsLaid old row → row_at new row ≡ row_at old row
   row-stays (kept.Message sent) laid = ap (message sent.role sent.dir sent.place) (lies-still sent.bytes laid).bytes
   row-stays (kept.NoAnswer number silent) laid = refl
-  row-stays (kept.Dropped place d named why) laid = refl
+  row-stays (kept.Dropped place d linked why) laid = refl
   row-stays (kept.Ended place end) laid = refl
   row-stays (kept.Unfinished d line len) laid = refl
 
   laid-still : (row : KeptRow) → IsLaid old row → IsLaid new row
   laid-still (kept.Message sent) laid = (lies-still sent.bytes laid).inside
   laid-still (kept.NoAnswer number silent) laid = tt
-  laid-still (kept.Dropped place d named why) laid = tt
+  laid-still (kept.Dropped place d linked why) laid = tt
   laid-still (kept.Ended place end) laid = tt
   laid-still (kept.Unfinished d line len) laid = tt
 
@@ -62,7 +62,7 @@ module _ (old new : List (List ℕ)) (on : GoesOn old new) where
     rows-more =
         ap (rows_at new) all ∙ map-append (row_at new) rows (row ∷ []) ∙ (λ i. rows-stay rows laid i ++ is i ∷ [])
 
-    pub kept-more : (places places-then : List KeptItem) (waiting waiting-then : Option ℕ) (counts counts-then : SortCounts) (at : ℕ)
+    pub kept-more : (places places-then : List ItemPlace) (waiting waiting-then : Option ℕ) (counts counts-then : SortCounts) (at : ℕ)
         → ArePlaced (rows_at old rows) places (items_in (rows_at old rows)) → waiting ≡ waiting_in (rows_at old rows) → counts ≡ counts_in (rows_at old rows)
         → at ≡ length rows → length rows < 2 ^ 64 - 1
         → places-then ≡ places_next value places waiting at → waiting-then ≡ waiting_next value places waiting → counts-then ≡ counts_with (sort_of value) counts

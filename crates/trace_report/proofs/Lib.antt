@@ -23,6 +23,7 @@ mod LineOrder
 mod RowTargets
 mod Identifiers
 pub mod Harmless
+pub mod PageStyle
 pub mod ToldAnswers
 pub mod ToldTimes
 mod PagesInMemory

@@ -22,13 +22,13 @@ use Rattle.uds_exchange.proofs.Promises.{open_request_goes_on}
 use Rattle.uds_message.specs.Message.{sid, is_final_for, is_pending_for, is_suppressing}
 use Rattle.uds_exchange.specs.Meaning.{is_from_tester}
 use Rattle.trace_canon.specs.MessageLines.{first_frame, place_of}
-use Rattle.trace_canon.specs.declared.begun.FramePlace.{FramePlace}
+use Rattle.trace_canon.specs.declared.reception_starts.FramePlace.{FramePlace}
 use Rattle.trace_canon.proofs.Promises.{messages_next}
-use Rattle.trace_report.specs.Events.{asked_in, completes_request, completes_request_by, ended_rows, event_rows, frame_rows, frames_by, is_request_step, is_there, role_of_step, rows_before, verdict_rows}
+use Rattle.trace_report.specs.Events.{asked_in, completes_request, completes_request_by, ended_rows, event_rows, frame_rows, frames_by, is_request_step, ends_nothing, role_of_step, rows_before, verdict_rows}
 use Rattle.trace_report.specs.Rows.{RowValue}
 use Rattle.trace_report.specs.Rows.{message as message_row}
 use Rattle.trace_report.specs.declared.follower.Follower.{Follower}
-use Rattle.trace_report.specs.declared.places.Extent.{Extent}
+use Rattle.trace_report.specs.declared.places.MessageExtent.{MessageExtent}
 use Rattle.trace_report.specs.proving.Following.{IsSilent, KnowsMessages, dropped_by, dropped_rows}
 use Rattle.trace_report.proofs.Steps.{asked_next}
 
@@ -124,13 +124,13 @@ met_none T e seen follower is none known =
     let told = tells_no_message T e seen is none in
     met_still T e e.dir (verdict MESSAGE_LIMIT T e) refl refl follower told (asks_none T e e.dir (verdict MESSAGE_LIMIT T e).verdict told) known
 
-rows_by : (T : List Entry) (e : Entry) (d : Dir) (here : FramePlace) (named : Bool) (did : VerdictValue) → told_message e.dir did ≡ [] → here ≡ place_of e → e.dir ≡ d
-    → dropped_by here d named did ≡ verdict_rows MESSAGE_LIMIT T e named did
-rows_by T e d here named (message bytes) none here_is dir_is = cc none
-rows_by T e d here named began none here_is dir_is = refl
-rows_by T e d here named stored none here_is dir_is = refl
-rows_by T e d here named flowed none here_is dir_is = refl
-rows_by T e d here named (dropped reason) none here_is dir_is = (λ i. row.dropped (here_is i) (sym dir_is i) named reason ∷ [])
+rows_by : (T : List Entry) (e : Entry) (d : Dir) (here : FramePlace) (linked : Bool) (did : VerdictValue) → told_message e.dir did ≡ [] → here ≡ place_of e → e.dir ≡ d
+    → dropped_by here d linked did ≡ verdict_rows MESSAGE_LIMIT T e linked did
+rows_by T e d here linked (message bytes) none here_is dir_is = cc none
+rows_by T e d here linked began none here_is dir_is = refl
+rows_by T e d here linked stored none here_is dir_is = refl
+rows_by T e d here linked flowed none here_is dir_is = refl
+rows_by T e d here linked (dropped reason) none here_is dir_is = (λ i. row.dropped (here_is i) (sym dir_is i) linked reason ∷ [])
 
 pub rows_none : (T : List Entry) (e : Entry) (seen : Seen) (here : FramePlace) (ended drop : List RowValue) → IsSeen T e seen → seen.message ≡ None → here ≡ place_of e
     → ended ≡ ended_rows e seen.event.ended → drop ≡ dropped_rows here seen.dir (seen_event seen.event) → (ended ++ []) ++ drop ≡ frame_rows MESSAGE_LIMIT T e
@@ -138,7 +138,7 @@ rows_none T e seen here ended drop is none here_is ended_is drop_is =
     let did = is.event.did in
     let told : told_message e.dir (seen_event seen.event).verdict ≡ [] = ap (λ (x : EventValue). told_message e.dir x.verdict) did ∙ tells_no_message T e seen is none in
     ap (λ l. l ++ drop) (append-nil ended)
-    ∙ (λ i. ended_is i ++ (drop_is ∙ rows_by T e seen.dir here (is_there seen.event.ended) (seen_event seen.event).verdict told here_is is.event.dir) i)
+    ∙ (λ i. ended_is i ++ (drop_is ∙ rows_by T e seen.dir here (ends_nothing seen.event.ended) (seen_event seen.event).verdict told here_is is.event.dir) i)
     ∙ ap (λ x. event_rows MESSAGE_LIMIT T e x) did
 
 -- the rows of what a frame ended, then of the item that its message closes, and then of the message
@@ -146,7 +146,7 @@ pub rows_of_message : (ended closing : List RowValue) (row : RowValue) → (ende
 rows_of_message ended closing row = append_assoc ended closing (row ∷ [])
 
 -- so they are the rows of the event
-pub message_event : (T : List Entry) (e : Entry) (d : Dir) (event : EventValue) (bytes : List ℕ) (asked : ℕ) (here : FramePlace) (extent : Extent)
+pub message_event : (T : List Entry) (e : Entry) (d : Dir) (event : EventValue) (bytes : List ℕ) (asked : ℕ) (here : FramePlace) (extent : MessageExtent)
     → e.dir ≡ d → event ≡ verdict MESSAGE_LIMIT T e → event.verdict ≡ message bytes → asked ≡ asked_in MESSAGE_LIMIT T → here ≡ place_of e
     → extent.first ≡ place_of (first_frame T e) → extent.frames ≡ frames_by (stands MESSAGE_LIMIT e.dir T) (role e.dir e)
     → ended_rows e event.ended
@@ -160,5 +160,5 @@ message_event T e d event bytes asked here extent dir_is is told asked_is here_i
     ++ (rows_before M (step_after M (sym dir_is i, bytes))
     ++ message_row (role_of_step (asked_is i) (step_after M (sym dir_is i, bytes)) (sym dir_is i) bytes) (sym dir_is i)
     (record { item = number_after M (sym dir_is i, bytes); first = first_is i; last = here_is i; frames = frames_is i }) bytes ∷ []))
-    ∙ ap (λ v. ended_rows e (verdict MESSAGE_LIMIT T e).ended ++ verdict_rows MESSAGE_LIMIT T e (is_there (verdict MESSAGE_LIMIT T e).ended) v)
+    ∙ ap (λ v. ended_rows e (verdict MESSAGE_LIMIT T e).ended ++ verdict_rows MESSAGE_LIMIT T e (ends_nothing (verdict MESSAGE_LIMIT T e).ended) v)
     (sym (sym (ap (λ (x : EventValue). x.verdict) is) ∙ told))

@@ -5,7 +5,7 @@ use Rattle.std.proofs.lemmas.List.{map-append}
 use Rattle.std.proofs.lemmas.Option.{none-some, same_Some}
 use Rattle.trace_report.specs.Items.{RowMessage, PlacedItem, answer_in, items_in, message_in}
 use Rattle.trace_report.specs.Rows.{RowValue, message, no_answer, dropped, ended, unfinished}
-use Rattle.trace_report.specs.declared.kept_rows.KeptItem.{KeptItem}
+use Rattle.trace_report.specs.declared.item_places.ItemPlace.{ItemPlace}
 use Rattle.trace_report.specs.declared.row.MessageRole.TheVariants as role
 use Rattle.trace_report.specs.proving.Keeping.{RowPart, asks, answers, begins, nothing, part_of, awaits, place_later, place_by, waiting_of, waiting_in, message_at, item_by, item_with, item_if, placed_at, ArePlaced, answered_at, place_answered, places_answered, item_answered, items_answered, places_begun, places_next, waiting_next}
 
@@ -34,7 +34,7 @@ answer-by-parts (message (role.Pending asked) d place bytes ∷ rest) = answer-b
 answer-by-parts (message role.KeepAlive d place bytes ∷ rest) = answer-by-parts rest
 answer-by-parts (message role.Stray d place bytes ∷ rest) = answer-by-parts rest
 answer-by-parts (no_answer number silent ∷ rest) = answer-by-parts rest
-answer-by-parts (dropped place d named why ∷ rest) = answer-by-parts rest
+answer-by-parts (dropped place d linked why ∷ rest) = answer-by-parts rest
 answer-by-parts (ended place end ∷ rest) = answer-by-parts rest
 answer-by-parts (unfinished d line len ∷ rest) = answer-by-parts rest
 
@@ -50,7 +50,7 @@ items-by-parts (message role.KeepAlive d place bytes ∷ rest) =
 items-by-parts (message role.Stray d place bytes ∷ rest) =
     ap (λ l. item_by (record { role = role.Stray; dir = d; place = place; bytes = bytes }) None ∷ l) (items-by-parts rest)
 items-by-parts (no_answer number silent ∷ rest) = items-by-parts rest
-items-by-parts (dropped place d named why ∷ rest) = items-by-parts rest
+items-by-parts (dropped place d linked why ∷ rest) = items-by-parts rest
 items-by-parts (ended place end ∷ rest) = items-by-parts rest
 items-by-parts (unfinished d line len ∷ rest) = items-by-parts rest
 
@@ -170,14 +170,14 @@ waiting-below (nothing ∷ rest) = waiting-below rest
 
 -- Places.
 
-pub same-count : (rows : List RowValue) (places : List KeptItem) (items : List PlacedItem) → ArePlaced rows places items → length places ≡ length items
+pub same-count : (rows : List RowValue) (places : List ItemPlace) (items : List PlacedItem) → ArePlaced rows places items → length places ≡ length items
 same-count rows [] [] placed = refl
 same-count rows [] (item ∷ items) placed = absurd placed
 same-count rows (place ∷ places) [] placed = absurd placed
 same-count rows (place ∷ places) (item ∷ items) placed = ap suc (same-count rows places items placed.1)
 
 -- the item that waits has a place
-pub waiting-placed : (rows : List RowValue) (places : List KeptItem) (waiting : Option ℕ) → ArePlaced rows places (items_in rows) → waiting ≡ waiting_in rows
+pub waiting-placed : (rows : List RowValue) (places : List ItemPlace) (waiting : Option ℕ) → ArePlaced rows places (items_in rows) → waiting ≡ waiting_in rows
     → IfSome waiting (λ number. number < length places)
 waiting-placed rows places waiting placed is =
     subst (λ w. IfSome w (λ number. number < length places)) (sym is)
@@ -185,11 +185,11 @@ waiting-placed rows places waiting placed is =
     (waiting-below (map part_of rows)))
 
 -- the item at a place
-abbrev pub item_of_place : List RowValue → Option KeptItem → Option PlacedItem
+abbrev pub item_of_place : List RowValue → Option ItemPlace → Option PlacedItem
 item_of_place rows None = None
 item_of_place rows (Some place) = placed_at rows place
 
-pub item-placed : (rows : List RowValue) (places : List KeptItem) (items : List PlacedItem) (at : ℕ) → ArePlaced rows places items
+pub item-placed : (rows : List RowValue) (places : List ItemPlace) (items : List PlacedItem) (at : ℕ) → ArePlaced rows places items
     → item_of_place rows (slice_get places at) ≡ slice_get items at
 item-placed rows [] [] at placed = refl
 item-placed rows [] (item ∷ items) at placed = absurd placed
@@ -217,7 +217,7 @@ module _ (rows more : List RowValue) where
   begin-stays None then answer item goes is = absurd (none-some item is)
   begin-stays (Some sent) then answer item goes is = ap (λ b. item_if (rows ++ more) b answer) (goes sent refl) ∙ answer-stays sent answer item is
 
-  stays-placed : (places : List KeptItem) (items : List PlacedItem) → ArePlaced rows places items → ArePlaced (rows ++ more) places items
+  stays-placed : (places : List ItemPlace) (items : List PlacedItem) → ArePlaced rows places items → ArePlaced (rows ++ more) places items
   stays-placed [] [] placed = tt
   stays-placed [] (item ∷ items) placed = absurd placed
   stays-placed (place ∷ places) [] placed = absurd placed
@@ -226,7 +226,7 @@ module _ (rows more : List RowValue) where
     stays-placed places items placed.1,
   )
 
-one-placed : (rows : List RowValue) (places : List KeptItem) (items : List PlacedItem) (place : KeptItem) (item : PlacedItem) → ArePlaced rows places items
+one-placed : (rows : List RowValue) (places : List ItemPlace) (items : List PlacedItem) (place : ItemPlace) (item : PlacedItem) → ArePlaced rows places items
     → placed_at rows place ≡ Some item → ArePlaced rows (places ++ place ∷ []) (items ++ item ∷ [])
 one-placed rows [] [] place item placed is = (is, tt)
 one-placed rows [] (first ∷ items) place item placed is = absurd placed
@@ -243,12 +243,12 @@ begin-is rows (Some begin) (Some at) item is = by (message_at rows at) is
     by (Some sent) is = ap (λ (x : PlacedItem). Some x.begin) (same_Some (item_by begin (Some sent)) item is)
 
 module _ (rows : List RowValue) (at : ℕ) (reply : RowMessage) (there : message_at rows at ≡ Some reply) where
-  answered-here : (place : KeptItem) (item : PlacedItem) → placed_at rows place ≡ Some item → placed_at rows (answered_at place at) ≡ Some (item_by item.begin (Some reply))
+  answered-here : (place : ItemPlace) (item : PlacedItem) → placed_at rows place ≡ Some item → placed_at rows (answered_at place at) ≡ Some (item_by item.begin (Some reply))
   answered-here place item is =
       ap (λ begin. item_if rows begin (Some at)) (begin-is rows (message_at rows place.begin) place.answer item is)
       ∙ ap (option_map (λ (sent : RowMessage). item_by item.begin (Some sent))) there
 
-  one-answered : (places : List KeptItem) (items : List PlacedItem) (number : ℕ) → ArePlaced rows places items
+  one-answered : (places : List ItemPlace) (items : List PlacedItem) (number : ℕ) → ArePlaced rows places items
       → ArePlaced rows (place_answered places number at) (item_answered items number reply)
   one-answered [] [] number placed = tt
   one-answered [] (item ∷ items) number placed = absurd placed
@@ -256,7 +256,7 @@ module _ (rows : List RowValue) (at : ℕ) (reply : RowMessage) (there : message
   one-answered (place ∷ places) (item ∷ items) zero placed = (answered-here place item placed.0, placed.1)
   one-answered (place ∷ places) (item ∷ items) (suc number) placed = (placed.0, one-answered places items number placed.1)
 
-  if-answered : (places : List KeptItem) (items : List PlacedItem) (waiting : Option ℕ) → ArePlaced rows places items
+  if-answered : (places : List ItemPlace) (items : List PlacedItem) (waiting : Option ℕ) → ArePlaced rows places items
       → ArePlaced rows (places_answered places waiting at) (items_answered items waiting reply)
   if-answered places items None placed = placed
   if-answered places items (Some number) placed = one-answered places items number placed
@@ -268,18 +268,18 @@ at-end (first ∷ rows) row = at-end rows row
 
 -- One more row.
 
-module _ (rows : List RowValue) (places : List KeptItem) (waiting : Option ℕ) (placed : ArePlaced rows places (items_in rows)) (waits : waiting ≡ waiting_in rows) where
+module _ (rows : List RowValue) (places : List ItemPlace) (waiting : Option ℕ) (placed : ArePlaced rows places (items_in rows)) (waits : waiting ≡ waiting_in rows) where
   abbrev parts : List RowPart
   parts = map part_of rows
 
   -- what stands there then
-  abbrev pub Next : RowValue → List KeptItem → Option ℕ → Type 0
+  abbrev pub Next : RowValue → List ItemPlace → Option ℕ → Type 0
   Next row places-then waiting-then = ArePlaced (rows ++ row ∷ []) places-then (items_in (rows ++ row ∷ [])) × (waiting-then ≡ waiting_in (rows ++ row ∷ []))
 
   with-part : (row : RowValue) → map part_of (rows ++ row ∷ []) ≡ parts ++ part_of row ∷ []
   with-part row = map-append part_of rows (row ∷ [])
 
-  placed-so : (row : RowValue) (places-then : List KeptItem) (items : List PlacedItem) → items_of (parts ++ part_of row ∷ []) ≡ items
+  placed-so : (row : RowValue) (places-then : List ItemPlace) (items : List PlacedItem) → items_of (parts ++ part_of row ∷ []) ≡ items
       → ArePlaced (rows ++ row ∷ []) places-then items → ArePlaced (rows ++ row ∷ []) places-then (items_in (rows ++ row ∷ []))
   placed-so row places-then items is so =
       subst (ArePlaced (rows ++ row ∷ []) places-then) (sym (items-by-parts (rows ++ row ∷ []) ∙ ap items_of (with-part row) ∙ is)) so
@@ -331,12 +331,12 @@ module _ (rows : List RowValue) (places : List KeptItem) (waiting : Option ℕ) 
   row-more (message role.KeepAlive d place bytes) = begun-more (message role.KeepAlive d place bytes) (record { role = role.KeepAlive; dir = d; place = place; bytes = bytes }) refl refl
   row-more (message role.Stray d place bytes) = begun-more (message role.Stray d place bytes) (record { role = role.Stray; dir = d; place = place; bytes = bytes }) refl refl
   row-more (no_answer number silent) = nothing-more (no_answer number silent) refl
-  row-more (dropped place d named why) = nothing-more (dropped place d named why) refl
+  row-more (dropped place d linked why) = nothing-more (dropped place d linked why) refl
   row-more (ended place end) = nothing-more (ended place end) refl
   row-more (unfinished d line len) = nothing-more (unfinished d line len) refl
 
 -- The code writes the place of an answer into the list of places.
-pub set-answered : (places : List KeptItem) (number : ℕ) (place then : KeptItem) (at : ℕ) → place ≡ get_or places number place → number < length places → then ≡ answered_at place at
+pub set-answered : (places : List ItemPlace) (number : ℕ) (place then : ItemPlace) (at : ℕ) → place ≡ get_or places number place → number < length places → then ≡ answered_at place at
     → slice_set places number then ≡ place_answered places number at
 set-answered [] number place then at there below is = refl
 set-answered (first ∷ places) zero place then at there below is = ap (λ x. x ∷ places) (is ∙ ap (λ p. answered_at p at) there)

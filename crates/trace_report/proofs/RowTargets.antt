@@ -16,13 +16,14 @@ use Rattle.trace_canon.proofs.Promises.{messages_next}
 use Rattle.trace_canon.specs.MessageLines.{place_of}
 use Rattle.uds_exchange.proofs.Promises.{held_are_fewer, items_grow}
 use Rattle.uds_exchange.specs.Meaning.{is_tester_request, meaning}
-use Rattle.uds_exchange.specs.Judging.{items_with, number_after, number_by, open_number, step_after}
+use Rattle.uds_exchange.specs.Judging.{number_after, number_by, open_number, step_after}
+use Rattle.uds_exchange.specs.proving.ItemNumbers.{item_count_after_step}
 use Rattle.uds_exchange.specs.OneMessage.{step_of}
 use Rattle.uds_exchange.specs.Order.{open_request}
 use Rattle.uds_exchange.specs.declared.step.Step.{Step}
 use Rattle.uds_exchange.specs.declared.step.Step.TheVariants as becomes
 use Rattle.uds_message.specs.Message.{is_keep_alive, is_negative_response, is_suppressing, sid}
-use Rattle.trace_report.specs.Events.{asked_in, closing_rows, ended_rows, is_there, message_place, other_role, role_of_step, rows_before, rows_of, standing_row, verdict_rows, waiting_row}
+use Rattle.trace_report.specs.Events.{asked_in, closing_rows, ended_rows, ends_nothing, message_place, other_role, role_of_step, rows_before, rows_of, standing_row, verdict_rows, waiting_row}
 use Rattle.trace_report.specs.Laws.{AreDistinct}
 use Rattle.trace_report.specs.Linked.{IsAmong, side_of, target_at, targets_in}
 use Rattle.trace_report.specs.Page.{all_rows}
@@ -46,9 +47,9 @@ led_to sort.KeepAlives number = None
 led_to sort.Strays number = Some (of_item number)
 led_to sort.Unanswered number = Some (of_item number)
 led_to sort.Silent number = None
-led_to sort.Drops number = Some (of_line number)
-led_to sort.Ends number = Some (of_line number)
-led_to sort.Partials number = Some (of_side (side_of number))
+led_to sort.Dropped number = Some (of_line number)
+led_to sort.Ended number = Some (of_line number)
+led_to sort.Unfinished number = Some (of_side (side_of number))
 
 -- the link to this row leads to one of these places
 abbrev pub Leads : List Target → RowValue → Type 0
@@ -270,7 +271,7 @@ module _ (T : List Entry) (e : Entry) where
       elim (cases_Bool (is_keep_alive bytes)) [ inl e ↦ rw (is, e) tt | inr e ↦ rw (is, e) among ]
 
   placed-step : (lines sides : ℕ) (rows : List RowValue) (bytes : List ℕ) (step : Step) → step_after M (e.dir, bytes) ≡ step → ArePlaced count lines sides rows
-      → ArePlaced (items_with step count) lines sides ((rows ++ rows_before M step) ++ sent bytes step ∷ [])
+      → ArePlaced (item_count_after_step step count) lines sides ((rows ++ rows_before M step) ++ sent bytes step ∷ [])
   placed-step lines sides rows bytes (becomes.Request service) is are =
       placed-begin lines sides (rows ++ closing_rows M) bytes (becomes.Request service) (waiting-placed M lines sides rows are) (ap (λ step. number_by step M) is) refl (λ places among. tt)
   placed-step lines sides rows bytes becomes.Answer is are =
@@ -294,27 +295,27 @@ module _ (T : List Entry) (e : Entry) where
   count-still did none = ap (λ l. length (meaning l)) (sym (append-nil M) ∙ ap (λ l. M ++ l) (sym none))
 
   placed-message : (lines sides : ℕ) (rows : List RowValue) (bytes : List ℕ) → ArePlaced count lines sides rows
-      → ArePlaced (count_with (message bytes)) lines sides (rows ++ verdict_rows MESSAGE_LIMIT T e true (message bytes))
+      → ArePlaced (count_with (message bytes)) lines sides (rows ++ verdict_rows MESSAGE_LIMIT T e false (message bytes))
   placed-message lines sides rows bytes are =
       let step = step_after M (e.dir, bytes) in
       subst (λ n. ArePlaced n lines sides (rows ++ (rows_before M step ++ sent bytes step ∷ []))) (sym (items_grow M (e.dir, bytes)))
-      (subst (ArePlaced (items_with step count) lines sides) (append_assoc rows (rows_before M step) (sent bytes step ∷ [])) (placed-step lines sides rows bytes step refl are))
+      (subst (ArePlaced (item_count_after_step step count) lines sides) (append_assoc rows (rows_before M step) (sent bytes step ∷ [])) (placed-step lines sides rows bytes step refl are))
 
   -- what it does, behind what it ended
-  placed-named : (rows : List RowValue) (did : VerdictValue) → ArePlaced count (e.line + 1) 0 rows → IsAmong (of_line e.line) (targets_in rows)
-      → ArePlaced (count_with did) (e.line + 1) 0 (rows ++ verdict_rows MESSAGE_LIMIT T e true did)
-  placed-named rows (message bytes) are among = placed-message (e.line + 1) 0 rows bytes are
-  placed-named rows began are among = subst (λ n. ArePlaced n (e.line + 1) 0 (rows ++ [])) (count-still began refl) (subst (ArePlaced count (e.line + 1) 0) (sym (append-nil rows)) are)
-  placed-named rows stored are among = subst (λ n. ArePlaced n (e.line + 1) 0 (rows ++ [])) (count-still stored refl) (subst (ArePlaced count (e.line + 1) 0) (sym (append-nil rows)) are)
-  placed-named rows flowed are among = subst (λ n. ArePlaced n (e.line + 1) 0 (rows ++ [])) (count-still flowed refl) (subst (ArePlaced count (e.line + 1) 0) (sym (append-nil rows)) are)
-  placed-named rows (dropped reason) are among =
-      subst (λ n. ArePlaced n (e.line + 1) 0 (rows ++ row.dropped (place_of e) e.dir true reason ∷ [])) (count-still (dropped reason) refl)
-      (placed-quiet count (e.line + 1) 0 rows (row.dropped (place_of e) e.dir true reason) are refl among)
+  placed-unlinked : (rows : List RowValue) (did : VerdictValue) → ArePlaced count (e.line + 1) 0 rows → IsAmong (of_line e.line) (targets_in rows)
+      → ArePlaced (count_with did) (e.line + 1) 0 (rows ++ verdict_rows MESSAGE_LIMIT T e false did)
+  placed-unlinked rows (message bytes) are among = placed-message (e.line + 1) 0 rows bytes are
+  placed-unlinked rows began are among = subst (λ n. ArePlaced n (e.line + 1) 0 (rows ++ [])) (count-still began refl) (subst (ArePlaced count (e.line + 1) 0) (sym (append-nil rows)) are)
+  placed-unlinked rows stored are among = subst (λ n. ArePlaced n (e.line + 1) 0 (rows ++ [])) (count-still stored refl) (subst (ArePlaced count (e.line + 1) 0) (sym (append-nil rows)) are)
+  placed-unlinked rows flowed are among = subst (λ n. ArePlaced n (e.line + 1) 0 (rows ++ [])) (count-still flowed refl) (subst (ArePlaced count (e.line + 1) 0) (sym (append-nil rows)) are)
+  placed-unlinked rows (dropped reason) are among =
+      subst (λ n. ArePlaced n (e.line + 1) 0 (rows ++ row.dropped (place_of e) e.dir false reason ∷ [])) (count-still (dropped reason) refl)
+      (placed-quiet count (e.line + 1) 0 rows (row.dropped (place_of e) e.dir false reason) are refl among)
 
   -- and where it ended nothing
-  placed-alone : (lines : ℕ) (rows : List RowValue) (did : VerdictValue) → ArePlaced count lines 0 rows → lines ≤ e.line
-      → ArePlaced (count_with did) (e.line + 1) 0 (rows ++ verdict_rows MESSAGE_LIMIT T e false did)
-  placed-alone lines rows did are late = by did
+  placed-linked : (lines : ℕ) (rows : List RowValue) (did : VerdictValue) → ArePlaced count lines 0 rows → lines ≤ e.line
+      → ArePlaced (count_with did) (e.line + 1) 0 (rows ++ verdict_rows MESSAGE_LIMIT T e true did)
+  placed-linked lines rows did are late = by did
     where
       onward : ArePlaced count (e.line + 1) 0 rows
       onward = placed-later count lines 0 (e.line + 1) 0 rows are (omega (arith, late)) (omega arith)
@@ -322,23 +323,23 @@ module _ (T : List Entry) (e : Entry) where
       still : ArePlaced count (e.line + 1) 0 (rows ++ [])
       still = subst (ArePlaced count (e.line + 1) 0) (sym (append-nil rows)) onward
 
-      by : (did : VerdictValue) → ArePlaced (count_with did) (e.line + 1) 0 (rows ++ verdict_rows MESSAGE_LIMIT T e false did)
+      by : (did : VerdictValue) → ArePlaced (count_with did) (e.line + 1) 0 (rows ++ verdict_rows MESSAGE_LIMIT T e true did)
       by (message bytes) = placed-message (e.line + 1) 0 rows bytes onward
       by began = subst (λ n. ArePlaced n (e.line + 1) 0 (rows ++ [])) (count-still began refl) still
       by stored = subst (λ n. ArePlaced n (e.line + 1) 0 (rows ++ [])) (count-still stored refl) still
       by flowed = subst (λ n. ArePlaced n (e.line + 1) 0 (rows ++ [])) (count-still flowed refl) still
       by (dropped reason) =
-          subst (λ n. ArePlaced n (e.line + 1) 0 (rows ++ row.dropped (place_of e) e.dir false reason ∷ [])) (count-still (dropped reason) refl)
-          (placed-line count lines 0 e.line rows (row.dropped (place_of e) e.dir false reason) are refl late (among-last (of_line e.line) (targets_in rows)))
+          subst (λ n. ArePlaced n (e.line + 1) 0 (rows ++ row.dropped (place_of e) e.dir true reason ∷ [])) (count-still (dropped reason) refl)
+          (placed-line count lines 0 e.line rows (row.dropped (place_of e) e.dir true reason) are refl late (among-last (of_line e.line) (targets_in rows)))
 
   placed-event : (lines : ℕ) (rows : List RowValue) (ended : Option Ended) (did : VerdictValue) → ArePlaced count lines 0 rows → lines ≤ e.line
-      → ArePlaced (count_with did) (e.line + 1) 0 (rows ++ (ended_rows e ended ++ verdict_rows MESSAGE_LIMIT T e (is_there ended) did))
-  placed-event lines rows None did are late = placed-alone lines rows did are late
+      → ArePlaced (count_with did) (e.line + 1) 0 (rows ++ (ended_rows e ended ++ verdict_rows MESSAGE_LIMIT T e (ends_nothing ended) did))
+  placed-event lines rows None did are late = placed-linked lines rows did are late
   placed-event lines rows (Some end) did are late =
       let one = row.ended (place_of e) end in
       let places = targets_in rows in
-      subst (ArePlaced (count_with did) (e.line + 1) 0) (append_assoc rows (one ∷ []) (verdict_rows MESSAGE_LIMIT T e true did))
-      (placed-named (rows ++ one ∷ []) did (placed-line count lines 0 e.line rows one are refl late (among-last (of_line e.line) places))
+      subst (ArePlaced (count_with did) (e.line + 1) 0) (append_assoc rows (one ∷ []) (verdict_rows MESSAGE_LIMIT T e false did))
+      (placed-unlinked (rows ++ one ∷ []) did (placed-line count lines 0 e.line rows one are refl late (among-last (of_line e.line) places))
       (subst (IsAmong (of_line e.line)) (sym (new-places rows one (of_line e.line) refl)) (among-last (of_line e.line) places)))
 
   -- one more frame
@@ -347,7 +348,7 @@ module _ (T : List Entry) (e : Entry) where
   placed-next lines are late =
       let event = verdict MESSAGE_LIMIT T e in
       subst (ArePlaced (length (meaning (messages MESSAGE_LIMIT (T ++ e ∷ [])))) (e.line + 1) 0) (sym (rows_next MESSAGE_LIMIT T e))
-      (subst (λ N. ArePlaced (length (meaning N)) (e.line + 1) 0 (rows_of MESSAGE_LIMIT T ++ (ended_rows e event.ended ++ verdict_rows MESSAGE_LIMIT T e (is_there event.ended) event.verdict)))
+      (subst (λ N. ArePlaced (length (meaning N)) (e.line + 1) 0 (rows_of MESSAGE_LIMIT T ++ (ended_rows e event.ended ++ verdict_rows MESSAGE_LIMIT T e (ends_nothing event.ended) event.verdict)))
       (sym (messages_next T e e.dir event refl refl)) (placed-event lines (rows_of MESSAGE_LIMIT T) event.ended event.verdict are late))
 
 -- All frames.

@@ -18,9 +18,9 @@ use Rattle.uds_exchange.specs.OneMessage.{step_of}
 use Rattle.uds_exchange.specs.Order.{open_request}
 use Rattle.uds_exchange.specs.declared.step.Step.{Step}
 use Rattle.uds_exchange.specs.declared.step.Step.TheVariants as becomes
-use Rattle.uds_exchange.specs.WaitingExchange.{waiting_sid}
-use Rattle.uds_exchange.specs.proving.Pairing.{join}
-use Rattle.trace_report.specs.Events.{asked_in, closing_rows, end_rows, ended_rows, is_there, message_place, role_of_step, rows_before, rows_of, standing_row, verdict_rows, waiting_row}
+use Rattle.uds_exchange.specs.OpenExchange.{open_sid_in}
+use Rattle.uds_exchange.specs.proving.Pairing.{items_with}
+use Rattle.trace_report.specs.Events.{asked_in, closing_rows, end_rows, ended_rows, ends_nothing, message_place, role_of_step, rows_before, rows_of, standing_row, verdict_rows, waiting_row}
 use Rattle.trace_report.specs.Laws.{ItemsAreTheMeaning}
 use Rattle.trace_report.specs.Page.{all_rows}
 use Rattle.trace_report.specs.Rows as row
@@ -83,8 +83,8 @@ module _ (T : List Entry) (e : Entry) where
       → values_of (ks ++ kind_of_step (step_after M (e.dir, bytes)) (e.dir, bytes) ∷ []) ≡ meaning (M ++ (e.dir, bytes) ∷ [])
   with-message ks bytes so =
       let x : Message = (e.dir, bytes) in
-      ap (λ step. values_of (ks ++ kind_of_step step x ∷ [])) (sym (step_by_items M x) ∙ ap (λ items. step_of (waiting_sid items) x) (sym so))
-      ∙ joined ks x ∙ ap (λ items. join items x) so ∙ sym (meaning_goes_on M x)
+      ap (λ step. values_of (ks ++ kind_of_step step x ∷ [])) (sym (step_by_items M x) ∙ ap (λ items. step_of (open_sid_in items) x) (sym so))
+      ∙ joined ks x ∙ ap (λ items. items_with items x) so ∙ sym (meaning_goes_on M x)
 
   with-message-rows : (ks : List RowKind) (bytes : List ℕ) (step : Step) → step ≡ step_after M (e.dir, bytes) → values_of ks ≡ meaning M
       → values_of (ks ++ map kind (rows_before M step ++ row.message (role_of_step (asked_in MESSAGE_LIMIT T) step e.dir bytes) e.dir (message_place MESSAGE_LIMIT T e bytes) bytes ∷ []))
@@ -98,13 +98,13 @@ module _ (T : List Entry) (e : Entry) where
       ∙ ap (λ s. kind_of_step s (e.dir, bytes)) is)
       ∙ with-message (ks ++ before) bytes (no-more ks before (before-quiet M step) ∙ so)
 
-  with-verdict : (ks : List RowKind) (named : Bool) (did : VerdictValue) → values_of ks ≡ meaning M
-      → values_of (ks ++ map kind (verdict_rows MESSAGE_LIMIT T e named did)) ≡ meaning (M ++ told_message e.dir did)
-  with-verdict ks named (message bytes) so = with-message-rows ks bytes (step_after M (e.dir, bytes)) refl so
-  with-verdict ks named began so = ap values_of (append-nil ks) ∙ so ∙ ap meaning (sym (append-nil M))
-  with-verdict ks named stored so = ap values_of (append-nil ks) ∙ so ∙ ap meaning (sym (append-nil M))
-  with-verdict ks named flowed so = ap values_of (append-nil ks) ∙ so ∙ ap meaning (sym (append-nil M))
-  with-verdict ks named (dropped reason) so = no-more ks (nothing ∷ []) tt ∙ so ∙ ap meaning (sym (append-nil M))
+  with-verdict : (ks : List RowKind) (linked : Bool) (did : VerdictValue) → values_of ks ≡ meaning M
+      → values_of (ks ++ map kind (verdict_rows MESSAGE_LIMIT T e linked did)) ≡ meaning (M ++ told_message e.dir did)
+  with-verdict ks linked (message bytes) so = with-message-rows ks bytes (step_after M (e.dir, bytes)) refl so
+  with-verdict ks linked began so = ap values_of (append-nil ks) ∙ so ∙ ap meaning (sym (append-nil M))
+  with-verdict ks linked stored so = ap values_of (append-nil ks) ∙ so ∙ ap meaning (sym (append-nil M))
+  with-verdict ks linked flowed so = ap values_of (append-nil ks) ∙ so ∙ ap meaning (sym (append-nil M))
+  with-verdict ks linked (dropped reason) so = no-more ks (nothing ∷ []) tt ∙ so ∙ ap meaning (sym (append-nil M))
 
   pub one-more-frame : values_of (map kind (rows_of MESSAGE_LIMIT T)) ≡ meaning M
       → values_of (map kind (rows_of MESSAGE_LIMIT (T ++ e ∷ []))) ≡ meaning (messages MESSAGE_LIMIT (T ++ e ∷ []))
@@ -112,12 +112,12 @@ module _ (T : List Entry) (e : Entry) where
       let event = verdict MESSAGE_LIMIT T e in
       let ks = map kind (rows_of MESSAGE_LIMIT T) in
       let ended = ended_rows e event.ended in
-      let did = verdict_rows MESSAGE_LIMIT T e (is_there event.ended) event.verdict in
+      let did = verdict_rows MESSAGE_LIMIT T e (ends_nothing event.ended) event.verdict in
       ap (λ rows. values_of (map kind rows)) (rows_next MESSAGE_LIMIT T e)
       ∙ ap values_of (map-append kind (rows_of MESSAGE_LIMIT T) (ended ++ did))
       ∙ ap (λ l. values_of (ks ++ l)) (map-append kind ended did)
       ∙ ap values_of (sym (append_assoc ks (map kind ended) (map kind did)))
-      ∙ with-verdict (ks ++ map kind ended) (is_there event.ended) event.verdict (no-more ks (map kind ended) (ended-quiet e event.ended) ∙ so)
+      ∙ with-verdict (ks ++ map kind ended) (ends_nothing event.ended) event.verdict (no-more ks (map kind ended) (ended-quiet e event.ended) ∙ so)
       ∙ ap meaning (sym (messages_next T e e.dir event refl refl))
 
 -- All frames.

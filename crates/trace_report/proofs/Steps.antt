@@ -10,7 +10,7 @@ use Rattle.uds_exchange.specs.Judging.{step_after}
 use Rattle.uds_exchange.specs.Order.{open_request}
 use Rattle.uds_exchange.specs.declared.step.Step.{Step}
 use Rattle.uds_exchange.specs.declared.step.Step.TheVariants as becomes
-use Rattle.trace_report.specs.Events.{asked_behind, asked_in, completes_request, ended_rows, frame_rows, is_there, message_place, role_of_step, rows_before, rows_behind, rows_of, verdict_rows, waiting_row}
+use Rattle.trace_report.specs.Events.{asked_behind, asked_in, completes_request, ended_rows, frame_rows, ends_nothing, message_place, role_of_step, rows_before, rows_behind, rows_of, verdict_rows, waiting_row}
 use Rattle.trace_report.specs.Page.{first_time, last_time}
 use Rattle.trace_report.specs.Rows as row
 use Rattle.trace_report.specs.proving.Following.{times_of}
@@ -49,10 +49,10 @@ last_next earlier [] e = refl
 last_next earlier (x ∷ T) e = last_next x.micros T e
 
 -- the times of a trace with one more frame
-pub span_next : (T : List Entry) (e : Entry) (first last : ℕ) → first ≡ first_time (T ++ e ∷ []) → last ≡ e.micros
+pub times_next : (T : List Entry) (e : Entry) (first last : ℕ) → first ≡ first_time (T ++ e ∷ []) → last ≡ e.micros
     → Some (record { first = first; last = last }) ≡ times_of (T ++ e ∷ [])
-span_next [] e first last first_is last_is = (λ i. Some (record { first = first_is i; last = last_is i }))
-span_next (x ∷ T) e first last first_is last_is = (λ i. Some (record { first = first_is i; last = (last_is ∙ sym (last_next x.micros T e)) i }))
+times_next [] e first last first_is last_is = (λ i. Some (record { first = first_is i; last = last_is i }))
+times_next (x ∷ T) e first last first_is last_is = (λ i. Some (record { first = first_is i; last = (last_is ∙ sym (last_next x.micros T e)) i }))
 
 -- Rows are few: three of a frame at the most.
 
@@ -71,25 +71,25 @@ few_ended : (e : Entry) (ended : Option Ended) → length (ended_rows e ended) �
 few_ended e None = omega arith
 few_ended e (Some end) = omega arith
 
-few_of_verdict : (limit : ℕ) (T : List Entry) (e : Entry) (named : Bool) (did : VerdictValue) → length (verdict_rows limit T e named did) ≤ 2
-few_of_verdict limit T e named (message bytes) =
+few_of_verdict : (limit : ℕ) (T : List Entry) (e : Entry) (linked : Bool) (did : VerdictValue) → length (verdict_rows limit T e linked did) ≤ 2
+few_of_verdict limit T e linked (message bytes) =
     let M = messages limit T in
     let step = step_after M (e.dir, bytes) in
     let one = few_before M step in
     let row = row.message (role_of_step (asked_in limit T) step e.dir bytes) e.dir (message_place limit T e bytes) bytes in
     let both = length-append (rows_before M step) (row ∷ []) in
     omega (arith, one, both)
-few_of_verdict limit T e named began = omega arith
-few_of_verdict limit T e named stored = omega arith
-few_of_verdict limit T e named flowed = omega arith
-few_of_verdict limit T e named (dropped reason) = omega arith
+few_of_verdict limit T e linked began = omega arith
+few_of_verdict limit T e linked stored = omega arith
+few_of_verdict limit T e linked flowed = omega arith
+few_of_verdict limit T e linked (dropped reason) = omega arith
 
 few_of_frame : (limit : ℕ) (T : List Entry) (e : Entry) → length (frame_rows limit T e) ≤ 3
 few_of_frame limit T e =
     let event = verdict limit T e in
     let ended = few_ended e event.ended in
-    let did = few_of_verdict limit T e (is_there event.ended) event.verdict in
-    let both = length-append (ended_rows e event.ended) (verdict_rows limit T e (is_there event.ended) event.verdict) in
+    let did = few_of_verdict limit T e (ends_nothing event.ended) event.verdict in
+    let both = length-append (ended_rows e event.ended) (verdict_rows limit T e (ends_nothing event.ended) event.verdict) in
     omega (arith, ended, did, both)
 
 few_behind : (limit : ℕ) (past T : List Entry) → length (rows_behind limit past T) ≤ 3 * length T

@@ -54,16 +54,16 @@ counts_by targets = record {
   pendings = length (targets sort.Pendings);
   keep_alives = length (targets sort.KeepAlives);
   strays = length (targets sort.Strays);
-  drops = length (targets sort.Drops);
-  ends = length (targets sort.Ends);
-  partials = length (targets sort.Partials);
+  dropped = length (targets sort.Dropped);
+  ended = length (targets sort.Ended);
+  unfinished = length (targets sort.Unfinished);
 }
 
 abbrev first_by : (Sort → List ℕ) → FirstTargets
 first_by targets = record {
-  drops = record { items = take most_links (targets sort.Drops) };
-  ends = record { items = take most_links (targets sort.Ends) };
-  partials = record { items = take most_links (targets sort.Partials) };
+  dropped = record { items = take most_links (targets sort.Dropped) };
+  ended = record { items = take most_links (targets sort.Ended) };
+  unfinished = record { items = take most_links (targets sort.Unfinished) };
   negatives = record { items = take most_links (targets sort.Negatives) };
   unanswered = record { items = take most_links (targets sort.Unanswered) };
   strays = record { items = take most_links (targets sort.Strays) };
@@ -86,14 +86,14 @@ module _ (targets : Sort → List ℕ) (target : ℕ) where
   counts_more few sort.Strays = ap (λ n. record (counts_by targets) { strays = n }) (one_longer (targets sort.Strays) target (few sort.Strays))
   counts_more few sort.Unanswered = ap (λ n. record (counts_by targets) { unanswered = n }) (one_longer (targets sort.Unanswered) target (few sort.Unanswered))
   counts_more few sort.Silent = ap (λ n. record (counts_by targets) { silent = n }) (one_longer (targets sort.Silent) target (few sort.Silent))
-  counts_more few sort.Drops = ap (λ n. record (counts_by targets) { drops = n }) (one_longer (targets sort.Drops) target (few sort.Drops))
-  counts_more few sort.Ends = ap (λ n. record (counts_by targets) { ends = n }) (one_longer (targets sort.Ends) target (few sort.Ends))
-  counts_more few sort.Partials = ap (λ n. record (counts_by targets) { partials = n }) (one_longer (targets sort.Partials) target (few sort.Partials))
+  counts_more few sort.Dropped = ap (λ n. record (counts_by targets) { dropped = n }) (one_longer (targets sort.Dropped) target (few sort.Dropped))
+  counts_more few sort.Ended = ap (λ n. record (counts_by targets) { ended = n }) (one_longer (targets sort.Ended) target (few sort.Ended))
+  counts_more few sort.Unfinished = ap (λ n. record (counts_by targets) { unfinished = n }) (one_longer (targets sort.Unfinished) target (few sort.Unfinished))
 
   first_more : (of : Sort) → first_with of target (first_by targets) ≡ first_by (targets_with of)
-  first_more sort.Drops = ap (λ l. record (first_by targets) { drops = record { items = l } }) (take_one_more 10 (targets sort.Drops) target)
-  first_more sort.Ends = ap (λ l. record (first_by targets) { ends = record { items = l } }) (take_one_more 10 (targets sort.Ends) target)
-  first_more sort.Partials = ap (λ l. record (first_by targets) { partials = record { items = l } }) (take_one_more 10 (targets sort.Partials) target)
+  first_more sort.Dropped = ap (λ l. record (first_by targets) { dropped = record { items = l } }) (take_one_more 10 (targets sort.Dropped) target)
+  first_more sort.Ended = ap (λ l. record (first_by targets) { ended = record { items = l } }) (take_one_more 10 (targets sort.Ended) target)
+  first_more sort.Unfinished = ap (λ l. record (first_by targets) { unfinished = record { items = l } }) (take_one_more 10 (targets sort.Unfinished) target)
   first_more sort.Negatives = ap (λ l. record (first_by targets) { negatives = record { items = l } }) (take_one_more 10 (targets sort.Negatives) target)
   first_more sort.Unanswered = ap (λ l. record (first_by targets) { unanswered = record { items = l } }) (take_one_more 10 (targets sort.Unanswered) target)
   first_more sort.Strays = ap (λ l. record (first_by targets) { strays = record { items = l } }) (take_one_more 10 (targets sort.Strays) target)

@@ -2,7 +2,7 @@
 -- The first ten are written open, and the rows of the others are brief.
 use Rattle.std.specs.Prelude.{ℕ, ◌+◌, ◌==◌, Bool, true, false, ◌&&◌, ◌||◌, List, [], ◌∷◌, ◌++◌, codes, nat_le, nat_lt, if◌then◌else◌}
 use Rattle.std.specs.Fmt.{decimal}
-use Rattle.trace_canon.specs.declared.begun.FramePlace.{FramePlace}
+use Rattle.trace_canon.specs.declared.reception_starts.FramePlace.{FramePlace}
 use Rattle.trace_report.specs.declared.row.MessagePlace.{MessagePlace}
 use Rattle.trace_report.specs.declared.row.MessageRole.{MessageRole}
 use Rattle.trace_report.specs.declared.row.MessageRole.TheVariants as role
@@ -35,7 +35,7 @@ is_request_role role.Stray = false
 abbrev pub begins_exchange : RowValue → Bool
 begins_exchange (message is d place bytes) = is_request_role is
 begins_exchange (no_answer number silent) = false
-begins_exchange (dropped place d named why) = false
+begins_exchange (dropped place d linked why) = false
 begins_exchange (ended place end) = false
 begins_exchange (unfinished d line len) = false
 
@@ -79,7 +79,7 @@ message_title origin place =
 abbrev pub block_title : ℕ → RowValue → List ℕ
 block_title origin (message is d place bytes) = message_title origin place
 block_title origin (no_answer number silent) = item_title number
-block_title origin (dropped place d named why) = from_place origin place
+block_title origin (dropped place d linked why) = from_place origin place
 block_title origin (ended place end) = from_place origin place
 block_title origin (unfinished d line len) = codes "At the end of the log"
 

@@ -6,25 +6,25 @@ use Rattle.trace_log.specs.declared.config.TheConstants.{LARGEST_LIMIT}
 use Rattle.trace_log.specs.declared.fault.Fault.{Fault}
 use Rattle.trace_log.specs.declared.fault.Fault.TheVariants.{BadLine, Oversize, LogLimit, OutputLimit, Read, Write, Memory}
 use Rattle.trace_report.specs.Looks.{lacks_stamp, look_of, row_of}
-use Rattle.trace_report.specs.declared.cause.Cause.{Cause}
-use Rattle.trace_report.specs.declared.cause.Cause.TheVariants as cause
+use Rattle.trace_report.specs.declared.cause.RefusalCause.{RefusalCause}
+use Rattle.trace_report.specs.declared.cause.RefusalCause.TheVariants as cause
 use Rattle.trace_report.specs.declared.cause.CauseRow.{CauseRow}
-use Rattle.trace_run.specs.Told.{Glimpse}
+use Rattle.trace_run.specs.Told.{GlimpseValue}
 
 -- The cause of a log that is refused at this place. Where its source is over, nothing before the end was refused: the
 -- last line is cut. Else a line lacks its stamp, or the log looks like something else, or nothing is known.
-abbrev pub cause_of_place : Glimpse → ℕ → ℕ → Option Cause
+abbrev pub cause_of_place : GlimpseValue → ℕ → ℕ → Option RefusalCause
 cause_of_place source line column =
     if source.is_over then Some cause.Cut
     else if lacks_stamp source.first line column then Some (cause.NoStamp line)
     else option_map (λ look. cause.Looks look) (look_of source.first line column)
 
 -- the cause where this limit is passed: that, where a larger one can be given
-abbrev pub cause_of_limit : ℕ → Option Cause
+abbrev pub cause_of_limit : ℕ → Option RefusalCause
 cause_of_limit most = if nat_lt most LARGEST_LIMIT then Some (cause.Limit most) else None
 
 -- the cause of a fault over a log with this limit, by what is seen of its source
-abbrev pub cause_of : Fault → ℕ → Glimpse → Option Cause
+abbrev pub cause_of : Fault → ℕ → GlimpseValue → Option RefusalCause
 cause_of (BadLine line column) most source = cause_of_place source line column
 cause_of LogLimit most source = cause_of_limit most
 cause_of OutputLimit most source = cause_of_limit most
@@ -55,7 +55,7 @@ row_value row = record {
 }
 
 -- the table of causes
-abbrev pub row_of_cause : Cause → CauseRowValue
+abbrev pub row_of_cause : RefusalCause → CauseRowValue
 row_of_cause (cause.Looks look) =
     record { before = []; number = None; between = []; is_named = true; words = (row_of look).words; command = (row_of look).command }
 row_of_cause cause.Cut = record {
@@ -98,10 +98,10 @@ row_text row name =
     row.before ++ number_text row.number ++ row.between ++ named_text row.is_named name ++ row.words ++ codes "; " ++ row.command
 
 -- what is said of a cause
-abbrev pub cause_text : Cause → List ℕ → List ℕ
-cause_text why name = row_text (row_of_cause why) name
+abbrev pub refusal_cause_text : RefusalCause → List ℕ → List ℕ
+refusal_cause_text why name = row_text (row_of_cause why) name
 
 -- on a page, where there is one
-abbrev pub cause_line : Option Cause → List ℕ
+abbrev pub cause_line : Option RefusalCause → List ℕ
 cause_line None = []
-cause_line (Some why) = codes "<p><b>Cause:</b> " ++ cause_text why (codes "this log") ++ codes ".</p>\n"
+cause_line (Some why) = codes "<p><b>Cause:</b> " ++ refusal_cause_text why (codes "this log") ++ codes ".</p>\n"

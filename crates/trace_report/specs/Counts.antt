@@ -35,8 +35,8 @@ other_counts counts =
 -- the counts of what is missing
 abbrev pub lost_counts : SortCounts → List ℕ
 lost_counts counts =
-    count_line true (codes "dropped") counts.drops ++ count_line true (codes "ended") counts.ends
-    ++ count_line true (codes "unfinished") counts.partials
+    count_line true (codes "dropped") counts.dropped ++ count_line true (codes "ended") counts.ended
+    ++ count_line true (codes "unfinished") counts.unfinished
 
 -- all counts
 abbrev pub counts_text : SortCounts → Summary → List ℕ

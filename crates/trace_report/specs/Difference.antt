@@ -18,7 +18,7 @@ use Rattle.trace_report.specs.declared.row.MessageRole.{MessageRole}
 abbrev pub begins_number : ℕ → RowValue → Bool
 begins_number number (message is d place bytes) = begins_item is && place.item == number
 begins_number number (no_answer of silent) = false
-begins_number number (dropped place d named why) = false
+begins_number number (dropped place d linked why) = false
 begins_number number (ended place end) = false
 begins_number number (unfinished d line len) = false
 
@@ -91,7 +91,7 @@ contrast_message mark origin is d place bytes =
 abbrev pub contrast_row : ℕ → Contrast → ℕ → RowValue → List ℕ
 contrast_row number how origin (message is d place bytes) = contrast_message (mark_of number how is place.item) origin is d place bytes
 contrast_row number how origin (no_answer of silent) = no_answer_row of silent
-contrast_row number how origin (dropped place d named why) = dropped_row origin place d true why
+contrast_row number how origin (dropped place d linked why) = dropped_row false origin place d why
 contrast_row number how origin (ended place end) = ended_row false origin place end
 contrast_row number how origin (unfinished d line len) = unfinished_row false d line len
 

@@ -17,7 +17,7 @@ use Rattle.trace_report.specs.Rows.{RowValue}
 use Rattle.trace_report.specs.Rows as row
 use Rattle.trace_report.specs.declared.row.MessagePlace.{MessagePlace}
 use Rattle.trace_report.specs.declared.row.MessageRole.{MessageRole}
-use Rattle.trace_report.specs.declared.row.MessageRole.TheVariants as is
+use Rattle.trace_report.specs.declared.row.MessageRole.TheVariants as message_role
 
 -- the message begins an exchange
 abbrev pub is_request_step : Step → Bool
@@ -52,22 +52,22 @@ asked_in limit T = asked_behind limit 0 [] T
 
 -- an answer by its first byte
 abbrev pub answer_role : ℕ → List ℕ → MessageRole
-answer_role asked bytes = if is_negative_response bytes then is.Negative asked else is.Positive asked
+answer_role asked bytes = if is_negative_response bytes then message_role.Negative asked else message_role.Positive asked
 
 -- a message of a tester that belongs to no exchange: the keep-alive, or a stray
 abbrev pub other_tester_role : List ℕ → MessageRole
-other_tester_role bytes = if is_keep_alive bytes then is.KeepAlive else is.Stray
+other_tester_role bytes = if is_keep_alive bytes then message_role.KeepAlive else message_role.Stray
 
 -- of either side
 abbrev pub other_role : Dir → List ℕ → MessageRole
 other_role dir.Tester bytes = other_tester_role bytes
-other_role dir.Unit bytes = is.Stray
+other_role dir.Unit bytes = message_role.Stray
 
 -- what a message is, by what becomes of it, where the last request was complete at the time `asked`
 abbrev pub role_of_step : ℕ → Step → Dir → List ℕ → MessageRole
-role_of_step asked (becomes.Request service) d bytes = is.Request
+role_of_step asked (becomes.Request service) d bytes = message_role.Request
 role_of_step asked becomes.Answer d bytes = answer_role asked bytes
-role_of_step asked becomes.Removed d bytes = is.Pending asked
+role_of_step asked becomes.Removed d bytes = message_role.Pending asked
 role_of_step asked becomes.Hold d bytes = other_role d bytes
 role_of_step asked becomes.Pass d bytes = other_role d bytes
 
@@ -109,18 +109,18 @@ message_rows limit T e bytes step =
     rows_before (messages limit T) step
     ++ row.message (role_of_step (asked_in limit T) step e.dir bytes) e.dir (message_place limit T e bytes) bytes ∷ []
 
--- something ended
-abbrev pub is_there : Option Ended → Bool
-is_there None = false
-is_there (Some end) = true
+-- nothing ended
+abbrev pub ends_nothing : Option Ended → Bool
+ends_nothing None = true
+ends_nothing (Some end) = false
 
 -- of what the frame e does after the frames T
 abbrev pub verdict_rows : ℕ → List Entry → Entry → Bool → VerdictValue → List RowValue
-verdict_rows limit T e named (message bytes) = message_rows limit T e bytes (step_after (messages limit T) (e.dir, bytes))
-verdict_rows limit T e named began = []
-verdict_rows limit T e named stored = []
-verdict_rows limit T e named flowed = []
-verdict_rows limit T e named (dropped reason) = row.dropped (place_of e) e.dir named reason ∷ []
+verdict_rows limit T e linked (message bytes) = message_rows limit T e bytes (step_after (messages limit T) (e.dir, bytes))
+verdict_rows limit T e linked began = []
+verdict_rows limit T e linked stored = []
+verdict_rows limit T e linked flowed = []
+verdict_rows limit T e linked (dropped reason) = row.dropped (place_of e) e.dir linked reason ∷ []
 
 -- of what it ends
 abbrev pub ended_rows : Entry → Option Ended → List RowValue
@@ -129,7 +129,7 @@ ended_rows e (Some end) = row.ended (place_of e) end ∷ []
 
 -- of both
 abbrev pub event_rows : ℕ → List Entry → Entry → EventValue → List RowValue
-event_rows limit T e event = ended_rows e event.ended ++ verdict_rows limit T e (is_there event.ended) event.verdict
+event_rows limit T e event = ended_rows e event.ended ++ verdict_rows limit T e (ends_nothing event.ended) event.verdict
 
 -- the rows of the frame e after the frames T
 abbrev pub frame_rows : ℕ → List Entry → Entry → List RowValue

@@ -3,21 +3,21 @@
 use Rattle.std.specs.Prelude.{◌≡◌, ⊤, ℕ, List, None, Result, Ok, Err}
 use Rattle.trace_canon.specs.Compared.{fault_in}
 use Rattle.trace_canon.specs.InMemory.{IsOfMemory, IsToldWith}
-use Rattle.trace_canon.specs.declared.counted.CountedComparison.{CountedComparison}
+use Rattle.trace_canon.specs.declared.in_memory.CountedComparison.{CountedComparison}
 use Rattle.trace_log.specs.Settings.{Settings}
 use Rattle.trace_log.specs.declared.fault.CompareFault.{CompareFault}
 use Rattle.trace_log.specs.declared.fault.CompareFault.TheVariants.{Left, Right}
 use Rattle.trace_log.specs.declared.summary.Summary.{Summary}
 use Rattle.trace_report.specs.Front.{PageTitle}
 use Rattle.trace_report.specs.Held.{HasOwnFrame, HoldsTwo, TwoValue, comparison_in}
-use Rattle.trace_report.specs.Page.{nothing_seen, report_script}
+use Rattle.trace_report.specs.Page.{report_script}
 use Rattle.trace_report.specs.PairPage.{PairTitleValue, pair_page}
 use Rattle.trace_report.specs.declared.in_memory.NoPairPage.{NoPairPage}
 use Rattle.trace_report.specs.declared.in_memory.NoPairPage.TheVariants.{OfLog, OfMemory}
 
 -- the log can be read and has these counts, and this is the page with this title
 abbrev pub IsPageWith : PageTitle → ℕ → Settings → List ℕ → List ℕ → Summary → Type 0
-IsPageWith title limit = IsToldWith (report_script title limit nothing_seen) limit
+IsPageWith title limit = IsToldWith (report_script title limit) limit
 
 -- memory is needed to gather a page: each has its front
 abbrev pub NeedsMemoryForPage : ℕ → Settings → List ℕ → Type 0

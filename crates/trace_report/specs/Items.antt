@@ -34,7 +34,7 @@ is_answer_role role.Stray = false
 abbrev pub message_in : RowValue → Option RowMessage
 message_in (message is d place bytes) = Some (record { role = is; dir = d; place = place; bytes = bytes })
 message_in (no_answer number silent) = None
-message_in (dropped place d named why) = None
+message_in (dropped place d linked why) = None
 message_in (ended place end) = None
 message_in (unfinished d line len) = None
 

@@ -25,13 +25,14 @@ use Rattle.trace_report.specs.Items.{RowMessage, PlacedItem, item_value, items_i
 use Rattle.trace_report.specs.Linked.{HasEachTarget, identifiers_in}
 use Rattle.trace_report.specs.Page.{all_rows}
 use Rattle.trace_report.specs.Rows.{RowValue, asked_at, message_row, note_text}
+use Rattle.trace_report.specs.Style.{page_style}
 use Rattle.trace_report.specs.Words.{letters}
 use Rattle.trace_report.specs.declared.contrast.Contrast.TheVariants as contrast
 use Rattle.trace_report.specs.declared.contrast.LogName.{LogName}
 use Rattle.trace_report.specs.declared.contrast.LogName.TheVariants.{A, B}
 use Rattle.trace_report.specs.declared.row.MessagePlace.{MessagePlace}
 use Rattle.trace_report.specs.declared.row.MessageRole.{MessageRole}
-use Rattle.trace_report.specs.declared.row.MessageRole.TheVariants as is
+use Rattle.trace_report.specs.declared.row.MessageRole.TheVariants as message_role
 
 -- a byte that opens and closes nothing in HTML: printable ASCII, and none of < > " '
 abbrev pub is_harmless : ℕ → Bool
@@ -61,6 +62,11 @@ NameIsHarmless = (name : List ℕ) → AllByRecursion (λ b. is_harmless b ≡ t
 -- and so is each letter that is shown for the bytes of a message, of which none is an &
 abbrev pub LettersAreHarmless : Type 0
 LettersAreHarmless = (bytes : List ℕ) → AllByRecursion (λ b. (is_harmless b && not (b == code "&")) ≡ true) (letters bytes)
+
+-- nor does the style of a page, in which no byte is a <: what would end the element that it stands in begins with that, and
+-- so does a comment, which could hide what stands behind it
+abbrev pub StyleHoldsNoTag : Type 0
+StyleHoldsNoTag = list_any (λ b. b == code "<") page_style ≡ false
 
 -- none of these is equal to one behind it
 abbrev pub AreDistinct : {X : Type 0} → List X → Type 0
@@ -105,7 +111,7 @@ RowsAroundHaveTheItem = (number : ℕ) (rows : List RowValue)
 
 -- an answer is told as negative exactly where it is a negative response
 abbrev pub NegativeIsNegative : Type 0
-NegativeIsNegative = (asked : ℕ) (d : Dir) (bytes : List ℕ) → (role_of_step asked becomes.Answer d bytes ≡ is.Negative asked) ↔ (is_negative_response bytes ≡ true)
+NegativeIsNegative = (asked : ℕ) (d : Dir) (bytes : List ℕ) → (role_of_step asked becomes.Answer d bytes ≡ message_role.Negative asked) ↔ (is_negative_response bytes ≡ true)
 
 -- the answer to an exchange in this one of two logs
 abbrev pub answer_of : LogName → Option RowMessage → Option RowMessage → Option RowMessage

@@ -1,4 +1,5 @@
 pub mod Words
+pub mod Style
 pub mod Front
 pub mod Targets
 pub mod Rows
@@ -22,5 +23,6 @@ pub mod Session
 pub mod Held
 pub mod PairPage
 pub mod InMemory
+pub mod Numbers
 pub mod Laws
 pub mod proving

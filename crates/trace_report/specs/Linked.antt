@@ -15,7 +15,7 @@ use Rattle.trace_report.specs.declared.links.Link.TheVariants as link
 abbrev pub target_at : RowValue → Option Target
 target_at (message is d place bytes) = if begins_item is then Some (of_item place.item) else None
 target_at (no_answer number silent) = None
-target_at (dropped place d named why) = if named then None else Some (of_line place.line)
+target_at (dropped place d linked why) = if linked then Some (of_line place.line) else None
 target_at (ended place end) = Some (of_line place.line)
 target_at (unfinished d begun len) = Some (of_side d)
 
@@ -53,9 +53,9 @@ LeadTo rows to numbers = AllByRecursion (λ number. IsAmong (linked_to to number
 
 -- so do all links of a verdict on these rows
 pub record HasEachTarget (rows : List RowValue) : Type 0 where
-  pub drops : LeadTo rows link.Line (first_targets rows).drops
-  pub ends : LeadTo rows link.Line (first_targets rows).ends
-  pub partials : LeadTo rows link.Side (first_targets rows).partials
+  pub dropped : LeadTo rows link.Line (first_targets rows).dropped
+  pub ended : LeadTo rows link.Line (first_targets rows).ended
+  pub unfinished : LeadTo rows link.Side (first_targets rows).unfinished
   pub negatives : LeadTo rows link.Item (first_targets rows).negatives
   pub unanswered : LeadTo rows link.Item (first_targets rows).unanswered
   pub strays : LeadTo rows link.Item (first_targets rows).strays

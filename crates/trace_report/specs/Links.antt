@@ -63,9 +63,9 @@ look_line words to count first = if count == 0 then [] else look_entry words to 
 -- for each reason
 abbrev pub look_lines : Tally → List ℕ
 look_lines tally =
-    look_line (codes "dropped frames") link.Line tally.counts.drops tally.first.drops.items
-    ++ look_line (codes "ended early") link.Line tally.counts.ends tally.first.ends.items
-    ++ look_line (codes "unfinished") link.Side tally.counts.partials tally.first.partials.items
+    look_line (codes "dropped frames") link.Line tally.counts.dropped tally.first.dropped.items
+    ++ look_line (codes "ended early") link.Line tally.counts.ended tally.first.ended.items
+    ++ look_line (codes "unfinished") link.Side tally.counts.unfinished tally.first.unfinished.items
     ++ look_line (codes "negative answers") link.Item tally.counts.negatives tally.first.negatives.items
     ++ look_line (codes "without an answer") link.Item tally.counts.unanswered tally.first.unanswered.items
     ++ look_line (codes "strays") link.Item tally.counts.strays tally.first.strays.items
@@ -73,7 +73,7 @@ look_lines tally =
 -- nothing needs a look
 abbrev pub needs_no_look : SortCounts → Bool
 needs_no_look counts =
-    counts.drops == 0 && (counts.ends == 0 && (counts.partials == 0 && (counts.negatives == 0 && (counts.unanswered == 0 && counts.strays == 0))))
+    counts.dropped == 0 && (counts.ended == 0 && (counts.unfinished == 0 && (counts.negatives == 0 && (counts.unanswered == 0 && counts.strays == 0))))
 
 -- the list of what does
 abbrev pub look_list : Tally → List ℕ

@@ -3,7 +3,7 @@
 use Rattle.std.specs.Prelude.{ℕ, false, List, [], ◌∷◌, ◌++◌, codes, Option}
 use Rattle.isotp_receive.specs.Trace.{Entry}
 use Rattle.trace_report.specs.declared.blocks.Blocks.{Blocks}
-use Rattle.trace_report.specs.declared.cause.Cause.{Cause}
+use Rattle.trace_report.specs.declared.cause.RefusalCause.{RefusalCause}
 use Rattle.trace_report.specs.declared.tally.Tally.{Tally}
 use Rattle.trace_log.specs.declared.summary.Summary.{Summary}
 use Rattle.trace_report.specs.Blocks.{block_end, blocks_of, rows_text}
@@ -15,7 +15,7 @@ use Rattle.trace_report.specs.Rows.{RowValue}
 use Rattle.trace_report.specs.Sorts.{tally_of}
 use Rattle.trace_report.specs.Verdict.{refused_verdict, stop_line, verdict_text}
 use Rattle.trace_log.specs.declared.fault.Fault.{Fault}
-use Rattle.trace_run.specs.Told.{Glimpse, Refusal, Script}
+use Rattle.trace_run.specs.Told.{GlimpseValue, Refusal, Script}
 
 -- the time of the first frame of a trace; 0 where it has none
 abbrev pub first_time : List Entry → ℕ
@@ -49,7 +49,7 @@ abbrev pub page_end : Blocks → Tally → Summary → ℕ → ℕ → List ℕ
 page_end blocks tally summary first last = block_end blocks.count ++ codes "</main>\n" ++ verdict_text tally summary first last ++ help_text
 
 -- and of the page of a log that is refused
-abbrev pub refused_end : Fault → Option Cause → Blocks → Tally → Summary → ℕ → ℕ → List ℕ
+abbrev pub refused_end : Fault → Option RefusalCause → Blocks → Tally → Summary → ℕ → ℕ → List ℕ
 refused_end why cause blocks tally summary first last =
     block_end blocks.count ++ stop_line why ++ codes "</main>\n" ++ refused_verdict why cause tally summary first last ++ help_text
 
@@ -64,19 +64,14 @@ last_text title limit T summary =
 
 -- what is told where a log is refused for this reason, behind the frames T, with its cause by what is seen of the
 -- source. What is open there is neither unfinished nor without an answer: so no row is told of it.
-abbrev pub refused_text : PageTitle → ℕ → Refusal
-refused_text title limit T summary why source =
+abbrev pub refused_text : PageTitle → ℕ → GlimpseValue → Refusal
+refused_text title limit source T summary why =
     front_before title T ++ refused_end why (cause_of why title.most source) (blocks_of (rows_of limit T)) (tally_of (rows_of limit T)) summary (first_time T) (last_time 0 T)
 
--- the script of a report of a log of whose source this is seen where it is refused
-abbrev pub report_script : PageTitle → ℕ → Glimpse → Script
-report_script title limit source = record {
-  strict = false;
-  word = frame_text title limit;
-  last = last_text title limit;
-  refused = λ T summary why. refused_text title limit T summary why source;
-}
+-- the script of a report
+abbrev pub report_script : PageTitle → ℕ → Script
+report_script title limit = record { strict = false; word = frame_text title limit; last = last_text title limit }
 
 -- nothing is seen of a source
-abbrev pub nothing_seen : Glimpse
+abbrev pub nothing_seen : GlimpseValue
 nothing_seen = record { first = []; is_over = false }

@@ -22,8 +22,8 @@ use Rattle.trace_report.specs.Session.{SessionValue}
 use Rattle.trace_report.specs.Sorts.{counts_in}
 use Rattle.trace_log.specs.Summing.{is_clean}
 use Rattle.trace_report.specs.Verdict.{is_called_clean, refusal_words, span_of, unclean_reasons}
-use Rattle.trace_report.specs.declared.cause.Cause.{Cause}
-use Rattle.trace_run.specs.Told.{Glimpse}
+use Rattle.trace_report.specs.declared.cause.RefusalCause.{RefusalCause}
+use Rattle.trace_run.specs.Told.{GlimpseValue}
 use Rattle.trace_report.specs.declared.contrast.LogName.{LogName}
 use Rattle.trace_report.specs.declared.contrast.LogName.TheVariants.{A, B}
 use Rattle.trace_report.specs.declared.pair_page.PairTitle.{PairTitle}
@@ -197,7 +197,7 @@ abbrev pub held_page : PairTitleValue → TwoValue → List ℕ
 held_page title held = pair_front title ++ pair_body title held (pairs_in held) (first_contrast (pairs_in held))
 
 -- the page where this log is refused
-abbrev pub refused_pair : PairTitleValue → LogName → Fault → Option Cause → List ℕ
+abbrev pub refused_pair : PairTitleValue → LogName → Fault → Option RefusalCause → List ℕ
 refused_pair title log why cause =
     pair_front title ++ codes "<section id=\"verdict\" class=\"bad\">\n<h2><span aria-hidden=\"true\">&#10005;</span> " ++ log_letter log
     ++ codes " is refused, so nothing is compared</h2>\n<p><em>" ++ refusal_words why
@@ -215,16 +215,16 @@ has_page Write = false
 has_page Memory = false
 
 -- the page where this log can't be read, if that has one
-abbrev pub unread_page : PairTitleValue → LogName → Fault → Option Cause → List ℕ
+abbrev pub unread_page : PairTitleValue → LogName → Fault → Option RefusalCause → List ℕ
 unread_page title log why cause = if has_page why then refused_pair title log why cause else []
 
 -- the page of what is answered of two logs, where this is the cause of a refusal
-abbrev pub pair_page : PairTitleValue → Result TwoValue CompareFault → Option Cause → List ℕ
+abbrev pub pair_page : PairTitleValue → Result TwoValue CompareFault → Option RefusalCause → List ℕ
 pair_page title (Ok held) cause = held_page title held
 pair_page title (Err (Left why)) cause = unread_page title A why cause
 pair_page title (Err (Right why)) cause = unread_page title B why cause
 
 -- the cause of a fault over two logs with this limit, by what is seen of the source of the one that it is of
-abbrev pub cause_of_pair : CompareFault → ℕ → Glimpse → Glimpse → Option Cause
+abbrev pub cause_of_pair : CompareFault → ℕ → GlimpseValue → GlimpseValue → Option RefusalCause
 cause_of_pair (Left why) most left right = cause_of why most left
 cause_of_pair (Right why) most left right = cause_of why most right

@@ -1,7 +1,7 @@
 -- The rows of a report: what each tells, and its text. A row is one line of HTML: the number of its item, the lines of
 -- the log, the time since the first frame of the two sides, and a cell of the chart, in which words stand at the
 -- sender's side and an arrow fills the rest. End tags are left out where HTML lets one.
-use Rattle.std.specs.Prelude.{ℕ, ◌==◌, Bool, true, false, not, List, [], ◌++◌, codes, length, nat_lt, Option, Some, None, if◌then◌else◌}
+use Rattle.std.specs.Prelude.{ℕ, ◌==◌, Bool, true, false, List, [], ◌++◌, codes, length, nat_lt, Option, Some, None, if◌then◌else◌}
 use Rattle.std.specs.Fmt.{decimal}
 use Rattle.direction.specs.declared.Dir.{Dir}
 use Rattle.direction.specs.declared.Dir.TheVariants as dir
@@ -13,13 +13,13 @@ use Rattle.isotp_receive.specs.declared.event.Ended.{Ended}
 use Rattle.isotp_receive.specs.declared.event.Reason.{Reason}
 use Rattle.isotp_receive.specs.declared.event.Reason.TheVariants as reason
 use Rattle.uds_message.specs.Message.{sid, response_code}
-use Rattle.trace_canon.specs.declared.begun.FramePlace.{FramePlace}
+use Rattle.trace_canon.specs.declared.reception_starts.FramePlace.{FramePlace}
 use Rattle.trace_report.specs.declared.row.Arrow.{Arrow}
 use Rattle.trace_report.specs.declared.row.Arrow.TheVariants as arrow
 use Rattle.trace_report.specs.declared.row.MessagePlace.{MessagePlace}
 use Rattle.trace_report.specs.declared.row.MessageRole.{MessageRole}
 use Rattle.trace_report.specs.declared.row.MessageRole.TheVariants as role
-use Rattle.trace_text.specs.ExplainText.{cause_text, reason_text}
+use Rattle.trace_text.specs.RemarkLines.{cause_text, reason_text}
 use Rattle.trace_report.specs.Targets.{identifier, of_item, of_line, of_side, side_text}
 use Rattle.trace_report.specs.Words.{brief_data, data_text, milliseconds_between, seconds_between}
 use Rattle.trace_text.specs.Words.{direction_text, service_text, code_text}
@@ -30,7 +30,8 @@ pub data RowValue : Type 0 where
   message : MessageRole → Dir → MessagePlace → List ℕ → RowValue
   -- the item of this number has no answer; its request asked for no positive one, or did not
   no_answer : ℕ → Bool → RowValue
-  -- the frame in this place, which this side sent, was dropped; the row before is of the same frame, or is not
+  -- the frame in this place, which this side sent, was dropped; links lead to this row, or the row before is of the same
+  -- frame, and they lead there
   dropped : FramePlace → Dir → Bool → Reason → RowValue
   -- the frame in this place ended a reception
   ended : FramePlace → Ended → RowValue
@@ -227,14 +228,14 @@ no_answer_row number silent = if silent then silent_row number else unanswered_r
 abbrev pub line_target : ℕ → List ℕ
 line_target number = codes " id=\"" ++ identifier (of_line number) ++ codes "\""
 
--- unless those of this line lead to the row before
-abbrev pub target_unless : Bool → ℕ → List ℕ
-target_unless named line = if not named then line_target line else []
+-- where they lead to this row
+abbrev pub target_if : Bool → ℕ → List ℕ
+target_if linked line = if linked then line_target line else []
 
--- where a frame stands
-abbrev pub frame_front : ℕ → Bool → FramePlace → List ℕ
-frame_front origin named place =
-    codes "<tr class=\"x\"" ++ target_unless named place.line ++ codes "><td><td>" ++ decimal place.line ++ codes "<td>" ++ seconds_between origin place.micros
+-- where a frame stands, in a row to which links lead or not
+abbrev pub frame_front : Bool → ℕ → FramePlace → List ℕ
+frame_front linked origin place =
+    codes "<tr class=\"x\"" ++ target_if linked place.line ++ codes "><td><td>" ++ decimal place.line ++ codes "<td>" ++ seconds_between origin place.micros
 
 -- why a frame has no layout, for a reader who knows no ISO 15765-2
 abbrev pub layout_fault_words : PduFault → List ℕ
@@ -265,20 +266,20 @@ cause_words cause.Late = codes "its next frame came after more than 1 s"
 cause_words cause.Sequence = codes "a frame is missing, came twice or out of order"
 cause_words cause.Length = codes "a frame has another length than its first one"
 
--- the row of a frame that was dropped
-abbrev pub dropped_row : ℕ → FramePlace → Dir → Bool → Reason → List ℕ
-dropped_row origin place d named why =
-    frame_front origin named place ++ cell_front d ++ codes "<b>dropped</b> <i>" ++ direction_text d ++ codes " frame:</i> <em>" ++ reason_text why
+-- the row of a frame that was dropped, to which links lead or not
+abbrev pub dropped_row : Bool → ℕ → FramePlace → Dir → Reason → List ℕ
+dropped_row linked origin place d why =
+    frame_front linked origin place ++ cell_front d ++ codes "<b>dropped</b> <i>" ++ direction_text d ++ codes " frame:</i> <em>" ++ reason_text why
     ++ codes "</em>" ++ reason_words why ++ cell_end d arrow.Crossed
 
 -- a message of this direction that is not whole: where it began, and how many bytes were announced
 abbrev pub partial_text : Dir → ℕ → ℕ → List ℕ
 partial_text d line len = direction_text d ++ codes " message from line " ++ decimal line ++ codes ", " ++ decimal len ++ codes " bytes announced:"
 
--- the row of a frame that ended a reception; links lead to it, unless others lead to the row before
+-- the row of a frame that ended a reception, to which links lead or not
 abbrev pub ended_row : Bool → ℕ → FramePlace → Ended → List ℕ
 ended_row linked origin place end =
-    frame_front origin (not linked) place ++ cell_front end.dir ++ codes "<b>ended</b> <i>" ++ partial_text end.dir end.begun_line end.len
+    frame_front linked origin place ++ cell_front end.dir ++ codes "<b>ended</b> <i>" ++ partial_text end.dir end.begun_line end.len
     ++ codes "</i> <em>" ++ cause_text end.cause ++ codes "</em> <i>" ++ cause_words end.cause ++ codes "</i>" ++ cell_end end.dir arrow.Barred
 
 -- a side, to which links lead on a page of one log
@@ -295,6 +296,6 @@ unfinished_row linked d line len =
 abbrev pub row_text : Bool → ℕ → RowValue → List ℕ
 row_text brief origin (message is d place bytes) = message_text brief origin is d place bytes
 row_text brief origin (no_answer number silent) = no_answer_row number silent
-row_text brief origin (dropped place d named why) = dropped_row origin place d named why
+row_text brief origin (dropped place d linked why) = dropped_row linked origin place d why
 row_text brief origin (ended place end) = ended_row true origin place end
 row_text brief origin (unfinished d line len) = unfinished_row true d line len

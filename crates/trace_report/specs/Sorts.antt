@@ -31,9 +31,9 @@ sort_of_silence false = sort.Unanswered
 abbrev pub sort_of : RowValue → Sort
 sort_of (message is d place bytes) = sort_of_role is
 sort_of (no_answer number asked) = sort_of_silence asked
-sort_of (dropped place d named why) = sort.Drops
-sort_of (ended place end) = sort.Ends
-sort_of (unfinished d line len) = sort.Partials
+sort_of (dropped place d linked why) = sort.Dropped
+sort_of (ended place end) = sort.Ended
+sort_of (unfinished d line len) = sort.Unfinished
 
 -- the number of a sort, by which two are told apart
 abbrev pub rank : Sort → ℕ
@@ -45,9 +45,9 @@ rank sort.KeepAlives = 4
 rank sort.Strays = 5
 rank sort.Unanswered = 6
 rank sort.Silent = 7
-rank sort.Drops = 8
-rank sort.Ends = 9
-rank sort.Partials = 10
+rank sort.Dropped = 8
+rank sort.Ended = 9
+rank sort.Unfinished = 10
 
 -- a row is of this sort
 abbrev pub is_of : Sort → RowValue → Bool
@@ -62,7 +62,7 @@ side_number dir.Unit = 1
 abbrev pub target_of : RowValue → ℕ
 target_of (message is d place bytes) = place.item
 target_of (no_answer number asked) = number
-target_of (dropped place d named why) = place.line
+target_of (dropped place d linked why) = place.line
 target_of (ended place end) = place.line
 target_of (unfinished d line len) = side_number d
 
@@ -93,17 +93,17 @@ counts_in rows = record {
   pendings = count_of sort.Pendings rows;
   keep_alives = count_of sort.KeepAlives rows;
   strays = count_of sort.Strays rows;
-  drops = count_of sort.Drops rows;
-  ends = count_of sort.Ends rows;
-  partials = count_of sort.Partials rows;
+  dropped = count_of sort.Dropped rows;
+  ended = count_of sort.Ended rows;
+  unfinished = count_of sort.Unfinished rows;
 }
 
 -- of each sort that needs a look
 abbrev pub first_targets : List RowValue → FirstTargets
 first_targets rows = record {
-  drops = first_of sort.Drops rows;
-  ends = first_of sort.Ends rows;
-  partials = first_of sort.Partials rows;
+  dropped = first_of sort.Dropped rows;
+  ended = first_of sort.Ended rows;
+  unfinished = first_of sort.Unfinished rows;
   negatives = first_of sort.Negatives rows;
   unanswered = first_of sort.Unanswered rows;
   strays = first_of sort.Strays rows;

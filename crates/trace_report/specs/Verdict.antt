@@ -1,14 +1,14 @@
 -- The verdict of a report: whether the recording is clean, what needs a look, and all counts. It is known at the end,
 -- and written there; the style shows it first.
 use Rattle.std.specs.Fmt.{decimal}
-use Rattle.std.specs.Prelude.{ℕ, ◌==◌, ◌&&◌, ◌||◌, not, nat_lt, Bool, List, [], ◌++◌, codes, Option, if◌then◌else◌}
-use Rattle.trace_canon.specs.MessageLines.{stamp_text}
+use Rattle.std.specs.Prelude.{ℕ, ◌==◌, ◌&&◌, ◌||◌, not, Bool, List, [], ◌++◌, codes, Option, if◌then◌else◌}
+use Rattle.trace_text.specs.Words.{stamp_text}
 use Rattle.trace_report.specs.Causes.{cause_line}
 use Rattle.trace_report.specs.Counts.{counts_text}
 use Rattle.trace_report.specs.Links.{look_text}
 use Rattle.trace_report.specs.Words.{seconds_between}
-use Rattle.trace_log.specs.Summing.{is_clean}
-use Rattle.trace_report.specs.declared.cause.Cause.{Cause}
+use Rattle.trace_log.specs.Summing.{is_clean, lacks_line_feed}
+use Rattle.trace_report.specs.declared.cause.RefusalCause.{RefusalCause}
 use Rattle.trace_report.specs.declared.counts.SortCounts.{SortCounts}
 use Rattle.trace_report.specs.declared.tally.Tally.{Tally}
 use Rattle.trace_log.specs.declared.fault.Fault.{Fault}
@@ -59,10 +59,6 @@ is_called_clean summary = is_clean summary && not summary.looks_exchanged
 -- of what was recorded something is in part
 abbrev pub is_partial : Summary → Bool
 is_partial summary = not (summary.dropped == 0) || (not (summary.ended == 0) || not (summary.unfinished == 0))
-
--- the log has bytes, the last of which is no line feed; one without bytes has no lines
-abbrev pub lacks_line_feed : Summary → Bool
-lacks_line_feed summary = nat_lt 0 summary.lines && not summary.ends_in_line_feed
 
 -- what was lost of its frames, in the words that `--strict` tells it
 abbrev pub lost_words : Summary → List ℕ
@@ -159,7 +155,7 @@ abbrev pub stop_line : Fault → List ℕ
 stop_line why = codes "<p class=\"stop\"><b>Refused here:</b> " ++ refusal_words why ++ codes ".</p>\n"
 
 -- the heading, its sentences, and the cause, where there is one
-abbrev pub refused_heading : Fault → Option Cause → List ℕ
+abbrev pub refused_heading : Fault → Option RefusalCause → List ℕ
 refused_heading why cause =
     codes "<section id=\"verdict\" class=\"bad\">\n<h2><span aria-hidden=\"true\">&#10005;</span> The log is refused</h2>\n<p><em>"
     ++ refusal_words why
@@ -167,5 +163,5 @@ refused_heading why cause =
     ++ cause_line cause
 
 -- the verdict of a log that is refused, by what the lines before say
-abbrev pub refused_verdict : Fault → Option Cause → Tally → Summary → ℕ → ℕ → List ℕ
+abbrev pub refused_verdict : Fault → Option RefusalCause → Tally → Summary → ℕ → ℕ → List ℕ
 refused_verdict why cause tally summary first last = refused_heading why cause ++ findings_text tally summary first last

@@ -7,7 +7,7 @@ use Rattle.std.specs.Int.{abs_diff}
 use Rattle.std.specs.List.{flat_map}
 use Rattle.can_log.specs.Digits.{hexadecimal}
 use Rattle.can_log.specs.Digits as digits
-use Rattle.trace_canon.specs.MessageLines.{stamp_text}
+use Rattle.trace_text.specs.Words.{stamp_text}
 
 -- a time in milliseconds: a dot, three digits, and the unit, from which no line break parts it
 abbrev pub milliseconds_text : ℕ → List ℕ

@@ -6,7 +6,7 @@ ghost use Rattle.trace_report.specs.proving.Pages.{row_of};
 use crate::row::{MessagePlace, MessageRole, Row};
 use crate::words::Seconds;
 use text_parts::{Either, Part, When, say};
-use trace_canon::begun::FramePlace;
+use trace_canon::reception_starts::FramePlace;
 use trace_io::TextSink;
 use trace_text::Number;
 

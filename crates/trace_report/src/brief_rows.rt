@@ -1,6 +1,6 @@
 //! The rows of messages in blocks that are folded at first: one line of words each, without a shape.
 ghost use Rattle.std.specs.Prelude.{◌≡◌};
-ghost use Rattle.trace_report.specs.Rows.{brief_message, message_text};
+ghost use Rattle.trace_report.specs.Rows.{brief_message};
 ghost use Rattle.trace_report.specs.Rows as Spec;
 
 use crate::cells::Side;
@@ -13,27 +13,8 @@ use trace_io::TextSink;
 use trace_text::Service;
 use uds_message::sid;
 
-/// Says the row of a message, in a block of brief rows or in another.
-pub(crate) fn say_message<S: TextSink>(
-    brief: bool,
-    origin: u64,
-    role: MessageRole,
-    dir: Dir,
-    place: MessagePlace,
-    message: &[u8],
-    out: &mut S,
-)
-    ensures { S.says out.old (message_text brief origin role dir place message.now) out.new }
-{
-    if brief {
-        say_brief_message(origin, role, dir, place, message, out);
-    } else {
-        say_message_row(origin, role, dir, place, message, out);
-    }
-}
-
 /// Says the row of a message in a block of brief rows: what needs a look has its full row there, too.
-fn say_brief_message<S: TextSink>(
+pub(crate) fn say_brief_message<S: TextSink>(
     origin: u64,
     role: MessageRole,
     dir: Dir,
@@ -54,7 +35,12 @@ fn say_brief_message<S: TextSink>(
         say(
             out,
             (
-                MessageFront(true, origin, role, place),
+                MessageFront {
+                    linked: true,
+                    origin,
+                    role,
+                    place,
+                },
                 "<td class=\"",
                 Side(dir),
                 "\">",

@@ -13,7 +13,7 @@ use trace_text::Number;
 
 /// Why a log is refused, beyond the place.
 #[derive(Clone, Copy)]
-pub enum Cause {
+pub enum RefusalCause {
     /// It is no log, and looks like something else.
     Looks(Look),
     /// It is a log up to its end, where the last line breaks off.
@@ -42,7 +42,7 @@ pub struct CauseRow {
 }
 
 /// The cause of a fault over a log with this limit, by what is seen of its source.
-pub fn cause_of(why: Fault, most: u64, source: Glimpse<'_>) -> Option<Cause>
+pub fn cause_of(why: Fault, most: u64, source: Glimpse<'_>) -> Option<RefusalCause>
     ensures { result ≡ Spec.cause_of why most (glimpse_value source.entry) }
 {
     match why {
@@ -54,39 +54,39 @@ pub fn cause_of(why: Fault, most: u64, source: Glimpse<'_>) -> Option<Cause>
 
 /// The cause of a log that is refused at this place. Nothing is read behind a refused byte: so where all of the log was,
 /// the place is behind its last one.
-fn cause_of_place(line: u64, column: u32, source: Glimpse<'_>) -> Option<Cause>
+fn cause_of_place(line: u64, column: u32, source: Glimpse<'_>) -> Option<RefusalCause>
     ensures { result ≡ Spec.cause_of_place (glimpse_value source.entry) line column }
 {
     if source.is_over {
-        return Some(Cause::Cut);
+        return Some(RefusalCause::Cut);
     }
     if lacks_stamp(source.first, line, column) {
-        return Some(Cause::NoStamp(line));
+        return Some(RefusalCause::NoStamp(line));
     }
     match look_of(source.first, line, column) {
-        Some(look) => Some(Cause::Looks(look)),
+        Some(look) => Some(RefusalCause::Looks(look)),
         None => None,
     }
 }
 
 /// The cause where this limit is passed: that, where a larger one can be given.
-fn cause_of_limit(most: u64) -> Option<Cause>
+fn cause_of_limit(most: u64) -> Option<RefusalCause>
     ensures { result ≡ Spec.cause_of_limit most }
 {
     if most < LARGEST_LIMIT {
-        Some(Cause::Limit(most))
+        Some(RefusalCause::Limit(most))
     } else {
         None
     }
 }
 
 /// The table of causes.
-pub fn row_of_cause(cause: Cause) -> CauseRow
+pub fn row_of_cause(cause: RefusalCause) -> CauseRow
     ensures { row_value result ≡ Spec.row_of_cause cause }
 {
     match cause {
-        Cause::Looks(look) => row_of_look(look),
-        Cause::Cut => CauseRow {
+        RefusalCause::Looks(look) => row_of_look(look),
+        RefusalCause::Cut => CauseRow {
             before: "the last line of ",
             number: None,
             between: "",
@@ -94,7 +94,7 @@ pub fn row_of_cause(cause: Cause) -> CauseRow
             words: "looks cut",
             command: "sed '$d' leaves it out, and a frame is missing",
         },
-        Cause::NoStamp(line) => CauseRow {
+        RefusalCause::NoStamp(line) => CauseRow {
             before: "line ",
             number: Some(line),
             between: " of ",
@@ -102,7 +102,7 @@ pub fn row_of_cause(cause: Cause) -> CauseRow
             words: "begins with no stamp",
             command: "if it is a notice of candump -d, grep -v ^DROPCOUNT leaves it out",
         },
-        Cause::Limit(most) => CauseRow {
+        RefusalCause::Limit(most) => CauseRow {
             before: "the limit is ",
             number: Some(most),
             between: " bytes",
@@ -115,7 +115,7 @@ pub fn row_of_cause(cause: Cause) -> CauseRow
 
 /// The row of a log that looks so.
 fn row_of_look(look: Look) -> CauseRow
-    ensures { row_value result ≡ Spec.row_of_cause (Cause.Looks look) }
+    ensures { row_value result ≡ Spec.row_of_cause (RefusalCause.Looks look) }
 {
     let row = row_of(look);
     CauseRow {
@@ -130,7 +130,7 @@ fn row_of_look(look: Look) -> CauseRow
 
 /// The line of the cause of a refusal, where one is known.
 #[derive(Clone, Copy)]
-pub(crate) struct CauseLine(pub Option<Cause>);
+pub(crate) struct CauseLine(pub Option<RefusalCause>);
 
 impl Part for CauseLine {
     ghost use Rattle.trace_report.specs.Causes.{cause_line};
@@ -150,12 +150,12 @@ impl Part for CauseLine {
 
 /// What is said of a cause, of a log with this name.
 #[derive(Clone, Copy)]
-pub struct CauseOf<N>(pub Cause, pub N);
+pub struct CauseOf<N>(pub RefusalCause, pub N);
 
 impl<N: Part> Part for CauseOf<N> {
-    ghost use Rattle.trace_report.specs.Causes.{cause_text};
+    ghost use Rattle.trace_report.specs.Causes.{refusal_cause_text};
 
-    ghost text = { λ cause. cause_text cause.0 (N.text cause.1) };
+    ghost text = { λ cause. refusal_cause_text cause.0 (N.text cause.1) };
 
     fn say<S: TextSink>(self, out: &mut S) {
         let CauseOf(cause, name) = self;

@@ -12,7 +12,7 @@ use crate::marks::parted;
 use direction::Dir;
 use text_parts::Part;
 use trace_io::TextSink;
-use trace_text::say::{say_byte, say_direction, say_place, say_text};
+use trace_text::values::{say_byte, say_direction, say_place, say_text};
 
 /// One of the two logs of a page, by its letter there.
 #[derive(Clone, Copy, Debug)]

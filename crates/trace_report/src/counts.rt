@@ -20,9 +20,9 @@ pub(crate) struct SortCounts {
     pub pendings: u64,
     pub keep_alives: u64,
     pub strays: u64,
-    pub drops: u64,
-    pub ends: u64,
-    pub partials: u64,
+    pub dropped: u64,
+    pub ended: u64,
+    pub unfinished: u64,
 }
 
 impl SortCounts {
@@ -39,9 +39,9 @@ impl SortCounts {
             pendings: 0,
             keep_alives: 0,
             strays: 0,
-            drops: 0,
-            ends: 0,
-            partials: 0,
+            dropped: 0,
+            ended: 0,
+            unfinished: 0,
         }
     }
 
@@ -58,9 +58,9 @@ impl SortCounts {
             Sort::Strays => self.strays = self.strays.saturating_add(1),
             Sort::Unanswered => self.unanswered = self.unanswered.saturating_add(1),
             Sort::Silent => self.silent = self.silent.saturating_add(1),
-            Sort::Drops => self.drops = self.drops.saturating_add(1),
-            Sort::Ends => self.ends = self.ends.saturating_add(1),
-            Sort::Partials => self.partials = self.partials.saturating_add(1),
+            Sort::Dropped => self.dropped = self.dropped.saturating_add(1),
+            Sort::Ended => self.ended = self.ended.saturating_add(1),
+            Sort::Unfinished => self.unfinished = self.unfinished.saturating_add(1),
         }
     }
 }
@@ -103,26 +103,26 @@ impl<'a> Part for Counts<'a> {
             (
                 "<dl class=\"counts\">\n",
                 (
-                    CountLine(false, "lines", summary.lines),
-                    CountLine(false, "frames", summary.frames),
-                    CountLine(false, "messages", summary.messages),
+                    PlainCount("lines", summary.lines),
+                    PlainCount("frames", summary.frames),
+                    PlainCount("messages", summary.messages),
                 ),
                 (
-                    CountLine(false, "requests", counts.requests),
-                    CountLine(false, "positive", counts.positives),
-                    CountLine(true, "negative", counts.negatives),
-                    CountLine(true, "no answer", counts.unanswered),
-                    CountLine(false, "silent", counts.silent),
+                    PlainCount("requests", counts.requests),
+                    PlainCount("positive", counts.positives),
+                    LookCount("negative", counts.negatives),
+                    LookCount("no answer", counts.unanswered),
+                    PlainCount("silent", counts.silent),
                 ),
                 (
-                    CountLine(false, "pending", counts.pendings),
-                    CountLine(false, "keep-alive", counts.keep_alives),
-                    CountLine(true, "stray", counts.strays),
+                    PlainCount("pending", counts.pendings),
+                    PlainCount("keep-alive", counts.keep_alives),
+                    LookCount("stray", counts.strays),
                 ),
                 (
-                    CountLine(true, "dropped", counts.drops),
-                    CountLine(true, "ended", counts.ends),
-                    CountLine(true, "unfinished", counts.partials),
+                    LookCount("dropped", counts.dropped),
+                    LookCount("ended", counts.ended),
+                    LookCount("unfinished", counts.unfinished),
                 ),
                 "</dl>\n",
             ),
@@ -130,17 +130,71 @@ impl<'a> Part for Counts<'a> {
     }
 }
 
+/// A count under this name, of what needs no look.
+#[derive(Clone, Copy)]
+struct PlainCount(&'static str, u64);
+
+impl Part for PlainCount {
+    ghost use Rattle.std.specs.Prelude.{false};
+    ghost use Rattle.trace_report.specs.Counts.{count_line};
+
+    ghost text = { λ plain. count_line false plain.0.now plain.1 };
+
+    fn say<S: TextSink>(self, out: &mut S) {
+        let PlainCount(words, count) = self;
+        say(
+            out,
+            CountLine {
+                needs_look: false,
+                words,
+                count,
+            },
+        );
+    }
+}
+
+/// A count under this name, of what needs a look.
+#[derive(Clone, Copy)]
+struct LookCount(&'static str, u64);
+
+impl Part for LookCount {
+    ghost use Rattle.std.specs.Prelude.{true};
+    ghost use Rattle.trace_report.specs.Counts.{count_line};
+
+    ghost text = { λ look. count_line true look.0.now look.1 };
+
+    fn say<S: TextSink>(self, out: &mut S) {
+        let LookCount(words, count) = self;
+        say(
+            out,
+            CountLine {
+                needs_look: true,
+                words,
+                count,
+            },
+        );
+    }
+}
+
 /// A count under this name, and whether what it counts needs a look.
 #[derive(Clone, Copy)]
-struct CountLine(bool, &'static str, u64);
+struct CountLine {
+    needs_look: bool,
+    words: &'static str,
+    count: u64,
+}
 
 impl Part for CountLine {
     ghost use Rattle.trace_report.specs.Counts.{count_line};
 
-    ghost text = { λ line. count_line line.0 line.1.now line.2 };
+    ghost text = { λ line. count_line line.needs_look line.words.now line.count };
 
     fn say<S: TextSink>(self, out: &mut S) {
-        let CountLine(needs_look, words, count) = self;
+        let CountLine {
+            needs_look,
+            words,
+            count,
+        } = self;
         say(
             out,
             (

@@ -20,7 +20,7 @@ use crate::words::Data;
 use direction::Dir;
 use text_parts::{Part, say};
 use trace_io::TextSink;
-use trace_text::say::say_text;
+use trace_text::values::say_text;
 
 /// Says the chart of the rows around the item of this number, where the items of both sessions differ so.
 pub(crate) fn say_contrast_chart<S: TextSink>(
@@ -154,7 +154,7 @@ fn say_contrast_row<S: TextSink>(number: u64, how: Contrast, origin: u64, row: R
             dir,
             reason,
             ..
-        } => say_dropped_row(origin, place, dir, true, reason, out),
+        } => say_dropped_row(false, origin, place, dir, reason, out),
         Row::Ended { place, ended } => say_ended_row(false, origin, place, ended, out),
         Row::Unfinished { dir, line, len } => say_unfinished_row(false, dir, line, len, out),
     }
@@ -175,7 +175,12 @@ fn say_contrast_message<S: TextSink>(
     say(
         out,
         (
-            MessageFront(false, origin, role, place),
+            MessageFront {
+                linked: false,
+                origin,
+                role,
+                place,
+            },
             CellFront(dir),
             RoleWords(role, dir, message),
             ContrastData(mark, message),

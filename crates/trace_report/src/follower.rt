@@ -15,11 +15,11 @@ ghost use Rattle.trace_report.specs.proving.Following.{Follows, IsSilent, IsWait
 ghost use Rattle.trace_report.specs.proving.Pages.{row_of};
 
 use crate::events::role_of_step;
-use crate::places::{Extent, Places};
+use crate::places::{MessageExtent, Places};
 use crate::row::{MessagePlace, Row};
 use direction::Dir;
 use isotp_receive::{Ended, Event, Pair, Verdict};
-use trace_canon::begun::FramePlace;
+use trace_canon::reception_starts::FramePlace;
 use trace_run::Seen;
 use uds_exchange::{Judged, Step};
 use uds_message::is_suppressing;
@@ -57,7 +57,7 @@ impl Follower {
         }
     }
 
-    /// Takes what a frame did, and answers its rows. Most frames add none: laid in line, so that no room is cleared for rows
+    /// Takes what a frame did, and answers its rows. Most frames add none: inlined, so that no room is cleared for rows
     /// then.
     #[inline(always)]
     pub(crate) fn take<'a>(&mut self, seen: Seen<'a>) -> NewRows<'a>
@@ -91,15 +91,15 @@ impl Follower {
         &mut self,
         here: FramePlace,
         message: Judged<'a>,
-        extent: Extent,
+        extent: MessageExtent,
     ) -> (Option<Row<'a>>, Row<'a>)
         ensures places { self.new.places ≡ self.old.places }
-        ensures next { (M : List Message) → IsJudgedAfter M message.entry → message.entry.item ≡ number_after M (sent message.entry)
+        ensures next { (M : List Message) → IsJudgedAfter M message.entry → message.entry.item_number ≡ number_after M (sent message.entry)
             → IsWaiting M self.old.waits → IsSilent M self.old.silent
             → MeetsMessage M (sent message.entry) here self.old.asked self.new }
         ensures closing { (M : List Message) → IsJudgedAfter M message.entry → IsWaiting M self.old.waits → IsSilent M self.old.silent
             → row_if result.0 ≡ rows_before M (step_after M (sent message.entry)) }
-        ensures row { (M : List Message) → IsJudgedAfter M message.entry → message.entry.item ≡ number_after M (sent message.entry)
+        ensures row { (M : List Message) → IsJudgedAfter M message.entry → message.entry.item_number ≡ number_after M (sent message.entry)
             → row_of result.1 ≡ message_row (role_by self.old.asked (step_after M (sent message.entry)) message.entry.dir message.entry.bytes.now) message.entry.dir
             (record { item = number_after M (sent message.entry); first = extent.first; last = here; frames = extent.frames }) message.entry.bytes.now }
     {
@@ -108,7 +108,7 @@ impl Follower {
             role: role_of_step(self.asked, message.step, message.dir, message.bytes),
             dir: message.dir,
             place: MessagePlace {
-                item: message.item,
+                item: message.item_number,
                 first: extent.first,
                 last: here,
                 frames: extent.frames,
@@ -117,7 +117,7 @@ impl Follower {
         };
         match message.step {
             Step::Request(_) => {
-                self.waits = Some(message.item);
+                self.waits = Some(message.item_number);
                 self.asked = here.micros;
                 self.silent = is_suppressing(message.bytes);
                 (waiting, row)
@@ -170,7 +170,7 @@ fn dropped_row<'a>(here: FramePlace, dir: Dir, event: Event<'_>) -> Option<Row<'
         Verdict::Dropped(reason) => Some(Row::Dropped {
             place: here,
             dir,
-            named: event.ended.is_some(),
+            linked: event.ended.is_none(),
             reason,
         }),
         Verdict::Message(_) | Verdict::Began | Verdict::Stored | Verdict::Flow => None,

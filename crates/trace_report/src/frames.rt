@@ -6,7 +6,7 @@ ghost use Rattle.trace_report.specs.proving.Following.{counted_by, frames_with, 
 
 use direction::Dir;
 use isotp_receive::Verdict;
-use trace_canon::begun::FramePlace;
+use trace_canon::reception_starts::FramePlace;
 
 /// Of each direction how many consecutive frames the reception took that stands, if one does.
 #[derive(Clone, Copy, Debug)]

@@ -11,7 +11,7 @@ use crate::pair_page::{PairTitle, write_pair_page};
 use crate::reporter::report;
 use crate::two::Two;
 use std::alloc::Global;
-use trace_canon::counted::{CountedComparison, CountedText, counted};
+use trace_canon::in_memory::{CountedComparison, CountedText, counted_text};
 use trace_io::{Bytes, Writing};
 use trace_log::{CompareFault, Config, Fault};
 
@@ -48,7 +48,7 @@ pub fn page(
         &mut Bytes::new(log),
         &mut writer,
     );
-    counted(answer, writer.into_inner())
+    counted_text(answer, writer.into_inner())
 }
 
 /// The page of two logs, as [`write_pair_page`](crate::write_pair_page) writes it with this style and these names, how they

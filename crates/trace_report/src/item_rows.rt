@@ -18,7 +18,7 @@ use crate::two::Two;
 use crate::words::{Data, Seconds};
 use text_parts::{Part, say};
 use trace_io::TextSink;
-use trace_text::say::{say_number, say_text};
+use trace_text::values::{say_number, say_text};
 use uds_message::is_suppressing;
 
 /// Says the rows of what two sessions have of the numbers from one place to another, counted from 0, in tables of which

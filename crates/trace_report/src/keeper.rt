@@ -17,7 +17,7 @@ use crate::follower::{Follower, NewRows};
 use crate::kept_rows::KeptRows;
 use crate::row::Row;
 use crate::session::Session;
-use crate::span::{Span, span_with};
+use crate::times::{Times, times_with};
 use crate::two::Two;
 use isotp_receive::Pair;
 use std::alloc::{AllocError, Global};
@@ -84,7 +84,7 @@ fn keep<R: Source>(alloc: Global, config: &Config, reader: &mut R) -> Result<Ses
     ensures never_write { IfErr result (λ fault. fault ≢ Fault.Write) }
 {
     let machine = Keeper {
-        span: None,
+        times: None,
         follower: Follower::start(),
         rows: KeptRows::new(alloc),
     };
@@ -104,7 +104,7 @@ pub(crate) struct Heard {
     /// The rows of the end.
     pub last: NewRows<'static>,
     pub summary: Summary,
-    pub span: Option<Span>,
+    pub times: Option<Times>,
 }
 
 /// What a log says of which this was heard.
@@ -116,10 +116,10 @@ fn finished(heard: Heard) -> Result<Session, AllocError>
         mut rows,
         last,
         summary,
-        span,
+        times,
     } = heard;
     keep_rows(&mut rows, last)?;
-    Ok(Session::of(rows, summary, span))
+    Ok(Session::of(rows, summary, times))
 }
 
 /// Keeps new rows behind those before.
@@ -149,7 +149,7 @@ fn keep_row_if(rows: &mut KeptRows, row: Option<Row<'_>>) -> Result<(), AllocErr
 #[derive(Drop)]
 pub(crate) struct Keeper {
     /// Of the frames so far, if there are any.
-    pub span: Option<Span>,
+    pub times: Option<Times>,
     pub follower: Follower,
     pub rows: KeptRows,
 }
@@ -157,15 +157,12 @@ pub(crate) struct Keeper {
 impl Machine for Keeper {
     ghost use Rattle.std.specs.Prelude.{⊤};
     ghost use Rattle.trace_report.specs.proving.Heard.{Keeps, answers_heard, quiet_script};
-    ghost use Rattle.trace_run.specs.Told.{tells_no_refusal};
 
     type Answer = Heard;
 
     ghost stands = { λ start T now. Keeps T now };
 
     ghost script = { λ start. quiet_script };
-
-    ghost refusal = { λ start. tells_no_refusal };
 
     ghost answers = { λ start. answers_heard };
 
@@ -178,7 +175,7 @@ impl Machine for Keeper {
 
     #[inline(always)]
     fn event<S: TextSink>(&mut self, seen: Seen<'_>, _out: &mut S) -> Result<(), AllocError> {
-        self.span = Some(span_with(self.span, seen.micros));
+        self.times = Some(times_with(self.times, seen.micros));
         let rows = self.follower.take(seen);
         keep_rows(&mut self.rows, rows)?;
         Ok(())
@@ -186,7 +183,7 @@ impl Machine for Keeper {
 
     fn end<S: TextSink>(self, pair: &Pair, summary: &Summary, _out: &mut S) -> Result<Heard, Stop> {
         let Keeper {
-            span,
+            times,
             follower,
             rows,
         } = self;
@@ -194,7 +191,7 @@ impl Machine for Keeper {
             rows,
             last: follower.end(pair),
             summary: *summary,
-            span,
+            times,
         })
     }
 

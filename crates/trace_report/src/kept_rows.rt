@@ -1,15 +1,15 @@
 //! The rows of a session, kept as they come, and where its items stand among them.
-ghost use Rattle.std.specs.Prelude.{◌≡◌, ◌<◌, ◌^◌, ◌∷◌, ◌++◌, [], None, IfOk, IfSome, OnErr, OnOk, length, option_map, slice_get};
-ghost use Rattle.std.specs.Vec.{vec_capacity, vec_len};
+ghost use Rattle.std.specs.Prelude.{◌≡◌, ◌<◌, ◌^◌, ◌∷◌, ◌++◌, [], IfOk, OnErr, OnOk, length, option_map, slice_get};
 ghost use Rattle.uds_exchange.specs.Blocks.{GoesOn};
 ghost use Rattle.trace_report.specs.Items.{items_in, message_in};
 ghost use Rattle.trace_report.specs.Sorts.{counts_in};
-ghost use Rattle.trace_report.specs.proving.Keeping.{AreLaid, IsLaid, places_answered, places_by, places_next, rows_at, waiting_by, waiting_next};
+ghost use Rattle.trace_report.specs.proving.Keeping.{AreLaid, IsLaid, rows_at};
 ghost use Rattle.trace_report.specs.proving.Keeping as Keeping;
 ghost use Rattle.trace_report.specs.proving.Lending.{item_of, message_of};
 ghost use Rattle.trace_report.specs.proving.Pages.{row_of};
 
 use crate::counts::SortCounts;
+use crate::item_places::{ItemPlace, note_row};
 use crate::items::{LentItem, LentMessage};
 use crate::row::{MessagePlace, MessageRole, Row};
 use crate::sorts::sort_of;
@@ -18,7 +18,7 @@ use isotp_receive::{Ended, Reason};
 use std::alloc::{AllocError, Global};
 use std::fmt::{self, Debug, Formatter, Write};
 use std::marker::Model;
-use trace_canon::begun::FramePlace;
+use trace_canon::reception_starts::FramePlace;
 use uds_exchange::Messages;
 
 /// A message that is kept: what a row tells of it, and where its bytes lie.
@@ -41,7 +41,7 @@ pub(crate) enum KeptRow {
     Dropped {
         place: FramePlace,
         dir: Dir,
-        named: bool,
+        linked: bool,
         reason: Reason,
     },
     Ended {
@@ -55,20 +55,13 @@ pub(crate) enum KeptRow {
     },
 }
 
-/// Where an item stands among the rows: the message that begins it, and its answer, if it has one.
-#[derive(Clone, Copy)]
-pub(crate) struct KeptItem {
-    pub begin: usize,
-    pub answer: Option<usize>,
-}
-
 /// The rows of a session, seen as their list. What they tell of items and of sorts is kept as they come, and not looked
 /// for.
 #[derive(Drop)]
 pub(crate) struct KeptRows {
     messages: Messages,
     rows: Vec<KeptRow>,
-    items: Vec<KeptItem>,
+    items: Vec<ItemPlace>,
     /// The item, counted from 0, whose request has no answer so far, if one waits.
     waiting: Option<usize>,
     counts: SortCounts,
@@ -189,90 +182,17 @@ fn laid(messages: &mut Messages, row: Row<'_>) -> Result<KeptRow, AllocError>
         Row::Dropped {
             place,
             dir,
-            named,
+            linked,
             reason,
         } => Ok(KeptRow::Dropped {
             place,
             dir,
-            named,
+            linked,
             reason,
         }),
         Row::Ended { place, ended } => Ok(KeptRow::Ended { place, ended }),
         Row::Unfinished { dir, line, len } => Ok(KeptRow::Unfinished { dir, line, len }),
     }
-}
-
-/// Notes what the row at this place is to items.
-#[inline(always)]
-fn note_row(items: &mut Vec<KeptItem>, waiting: &mut Option<usize>, at: usize, row: Row<'_>)
-    requires room { vec_len items.old < vec_capacity items.old }
-    requires there { IfSome waiting.old (λ number. number < length items.old.items) }
-    ensures items { items.new.items ≡ places_next (row_of row.entry) items.old.items waiting.old at }
-    ensures waiting { waiting.new ≡ waiting_next (row_of row.entry) items.old.items waiting.old }
-{
-    match row {
-        Row::Message { role, .. } => note_message(items, waiting, at, role),
-        Row::NoAnswer { .. } | Row::Dropped { .. } | Row::Ended { .. } | Row::Unfinished { .. } =>
-            {}
-    }
-}
-
-/// Notes what a message of this role is to items, which the row at this place tells.
-#[inline(always)]
-fn note_message(
-    items: &mut Vec<KeptItem>,
-    waiting: &mut Option<usize>,
-    at: usize,
-    role: MessageRole,
-)
-    requires room { vec_len items.old < vec_capacity items.old }
-    requires there { IfSome waiting.old (λ number. number < length items.old.items) }
-    ensures items { items.new.items ≡ places_by role items.old.items waiting.old at }
-    ensures waiting { waiting.new ≡ waiting_by role items.old.items waiting.old }
-{
-    match role {
-        MessageRole::Request => {
-            *waiting = Some(items.len());
-            begin_item(items, at);
-        }
-        MessageRole::KeepAlive | MessageRole::Stray => begin_item(items, at),
-        MessageRole::Positive { .. } | MessageRole::Negative { .. } => {
-            answer_waiting(items, *waiting, at);
-            *waiting = None;
-        }
-        MessageRole::Pending { .. } => {}
-    }
-}
-
-/// Notes that an item begins in the row at this place.
-#[inline(always)]
-fn begin_item(items: &mut Vec<KeptItem>, at: usize)
-    requires { vec_len items.old < vec_capacity items.old }
-    ensures { items.new.items ≡ items.old.items ++ record { begin = at; answer = None } ∷ [] }
-{
-    items.push_reserved(KeptItem {
-        begin: at,
-        answer: None,
-    });
-}
-
-/// Notes that the row at this place answers the request that waits, if one does.
-#[inline(always)]
-fn answer_waiting(items: &mut Vec<KeptItem>, waiting: Option<usize>, at: usize)
-    requires { IfSome waiting (λ number. number < length items.old.items) }
-    ensures { items.new.items ≡ places_answered items.old.items waiting at }
-{
-    if let Some(number) = waiting {
-        answer_with(&mut items[number], at);
-    }
-}
-
-/// Notes where the answer of an item stands.
-#[inline(always)]
-fn answer_with(item: &mut KeptItem, at: usize)
-    ensures { item.new ≡ Keeping.answered_at item.old at }
-{
-    item.answer = Some(at);
 }
 
 /// A row that is kept, lent.
@@ -292,12 +212,12 @@ fn row_at<'a>(messages: &'a Messages, row: KeptRow) -> Row<'a>
         KeptRow::Dropped {
             place,
             dir,
-            named,
+            linked,
             reason,
         } => Row::Dropped {
             place,
             dir,
-            named,
+            linked,
             reason,
         },
         KeptRow::Ended { place, ended } => Row::Ended { place, ended },
@@ -307,7 +227,7 @@ fn row_at<'a>(messages: &'a Messages, row: KeptRow) -> Row<'a>
 
 /// The item that stands there among the rows, lent.
 #[inline(always)]
-fn item_at<'a>(messages: &'a Messages, rows: &'a [KeptRow], item: KeptItem) -> Option<LentItem<'a>>
+fn item_at<'a>(messages: &'a Messages, rows: &'a [KeptRow], item: ItemPlace) -> Option<LentItem<'a>>
     requires { AreLaid messages.now rows.now }
     ensures { option_map item_of result ≡ Keeping.placed_at (rows_at messages.now rows.now) item }
 {

@@ -1,6 +1,7 @@
 //! What holds of a page, whatever log it is of. A law is its contract; a call does nothing.
 
-ghost use Rattle.trace_report.specs.Laws.{AfterIsFromTheLastFrame, AfterIsToTheFirstFrame, AgreesWithCompare, ComparisonIsOfItems, IdentifiersStandOnce, ItemsAreTheMeaning, LettersAreHarmless, LinksHaveTargets, NameIsHarmless, NegativeIsNegative, RowsAroundHaveTheItem, TimeIsOfTheLastFrame, UnansweredHasNone};
+ghost use Rattle.trace_report.specs.Laws.{AfterIsFromTheLastFrame, AfterIsToTheFirstFrame, AgreesWithCompare, ComparisonIsOfItems, IdentifiersStandOnce, ItemsAreTheMeaning, LettersAreHarmless, LinksHaveTargets, NameIsHarmless, NegativeIsNegative, RowsAroundHaveTheItem, StyleHoldsNoTag, TimeIsOfTheLastFrame, UnansweredHasNone};
+ghost use Rattle.trace_report.specs.Numbers.{LineNumbersArePlaces, RowNumbersArePlaces};
 
 /// The name of a log opens and closes nothing on its page.
 pub fn name_is_harmless()
@@ -10,6 +11,11 @@ pub fn name_is_harmless()
 /// Nor do the letters that are shown for bytes of a message.
 pub fn letters_are_harmless()
     ensures { LettersAreHarmless }
+{}
+
+/// Nor does the style of a page.
+pub fn style_holds_no_tag()
+    ensures { StyleHoldsNoTag }
 {}
 
 /// No two identifiers of a page are the same.
@@ -30,6 +36,12 @@ pub fn comparison_is_of_items()
 /// The items of a page are those of `list` and `compare`.
 pub fn items_are_the_meaning()
     ensures { ItemsAreTheMeaning }
+{}
+
+/// The number that a row gives an item is the place of that item among these, and so is that of a line of `messages`.
+pub fn numbers_are_places()
+    ensures rows { RowNumbersArePlaces }
+    ensures lines { LineNumbersArePlaces }
 {}
 
 /// A page says of two logs what `compare` answers.

@@ -13,8 +13,9 @@
 //! the verdict.
 //!
 //! The text of a page is in pieces: its `front`; the rows of messages (`message_rows`, `brief_rows`) and of what is
-//! missing (`lost_rows`), by `cells` and `words`; the `verdict`, with `reasons`, `links` and `counts`; of a refused log
-//! the `refusal`, with its `cause`, by what it `looks` like; and the `help`. The style is no part of what is proved.
+//! missing (`lost_rows`), by `cells`, `words` and `letters`; the `verdict`, with `reasons`, `links` and `counts`; of a
+//! refused log the `refusal`, with its `cause`, by what it `looks` like; and the `help`. Of the style it is proved that it
+//! holds no tag.
 //!
 //! Of two logs a page says first whether they are the same. So both are kept: [`keep_two`] keeps the rows of each
 //! (`keeper`), and [`write_pair_page`] writes the page of both.
@@ -23,10 +24,10 @@
 //! event -> Follower -> rows -> Keeper -> Session -> Two -> page
 //! ```
 //!
-//! The rows of a [`Session`] are `kept_rows`, which know where the `items` stand among them. [`Two`] has both sessions,
-//! whose items stand side by side, and their comparison. The first `contrast` of a pair is the difference that the page
-//! tells (`pair_verdict`) and shows by the rows around it (`difference`), with a mark at the byte (`marks`). The items
-//! before and behind it are rows of a table (`item_rows`, `pair_items`).
+//! The rows of a [`Session`] are `kept_rows`, which note the `item_places` among them, and lend `items`. [`Two`] has both
+//! sessions, whose items stand side by side, and their comparison. The first `contrast` of a pair is the difference that
+//! the page tells (`pair_verdict`) and shows by the rows around it (`difference`), with a mark at the byte (`marks`). The
+//! items before and behind it are rows of a table (`item_rows`, `pair_items`).
 //!
 //! [`in_memory`] answers of logs in memory with their page and the counts.
 #![tactic(auto)]
@@ -45,11 +46,13 @@ mod frames;
 mod front;
 mod help;
 pub mod in_memory;
+mod item_places;
 mod item_rows;
 mod items;
 mod keeper;
 mod kept_rows;
 pub mod laws;
+mod letters;
 mod links;
 mod log_names;
 mod looks;
@@ -67,14 +70,14 @@ mod row;
 mod rows;
 mod session;
 mod sorts;
-mod span;
 mod style;
 mod tally;
+mod times;
 mod two;
 mod verdict;
 mod words;
 
-pub use cause::{Cause, CauseOf, CauseRow, cause_of, row_of_cause};
+pub use cause::{CauseOf, CauseRow, RefusalCause, cause_of, row_of_cause};
 pub use keeper::keep_two;
 pub use looks::{Look, look_told};
 pub use pair_page::{PairTitle, write_pair_page};

@@ -1,11 +1,8 @@
 //! The links of a report to what needs a look.
-use arrayvec::ArrayVec;
+use crate::tally::{MOST_LINKS, Targets};
 use text_parts::{Part, say};
 use trace_io::TextSink;
 use trace_text::Number;
-
-/// So many rows of a sort are linked to.
-const MOST_LINKS: u64 = 10;
 
 /// Where a link leads.
 #[derive(Clone, Copy, Debug)]
@@ -24,7 +21,7 @@ pub(crate) struct LookLine<'a> {
     pub words: &'static str,
     pub link: Link,
     pub count: u64,
-    pub first: &'a ArrayVec<u64, 10>,
+    pub first: &'a Targets,
 }
 
 impl<'a> Part for LookLine<'a> {

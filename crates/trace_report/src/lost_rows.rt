@@ -8,7 +8,7 @@ use direction::Dir;
 use isotp_pdu::PduFault;
 use isotp_receive::{Cause, Ended, Reason};
 use text_parts::{Part, When, say};
-use trace_canon::begun::FramePlace;
+use trace_canon::reception_starts::FramePlace;
 use trace_io::TextSink;
 use trace_text::{DropReason, EndCause, Length, Number, Sender};
 
@@ -48,23 +48,23 @@ pub(crate) fn say_no_answer_row<S: TextSink>(number: u64, silent: bool, out: &mu
     }
 }
 
-/// Where a frame stands: links lead to its line, unless they lead to the row before.
+/// Where a frame stands, in a row to which links lead or not.
 #[derive(Clone, Copy)]
 struct FrameFront {
+    linked: bool,
     origin: u64,
-    named: bool,
     place: FramePlace,
 }
 
 impl Part for FrameFront {
     ghost use Rattle.trace_report.specs.Rows.{frame_front};
 
-    ghost text = { λ front. frame_front front.origin front.named front.place };
+    ghost text = { λ front. frame_front front.linked front.origin front.place };
 
     fn say<S: TextSink>(self, out: &mut S) {
         let FrameFront {
+            linked,
             origin,
-            named,
             place,
         } = self;
         let line = Number(place.line);
@@ -72,7 +72,7 @@ impl Part for FrameFront {
             out,
             (
                 "<tr class=\"x\"",
-                When(!named, (" id=\"l", line, "\"")),
+                When(linked, (" id=\"l", line, "\"")),
                 "><td><td>",
                 line,
                 "<td>",
@@ -82,23 +82,23 @@ impl Part for FrameFront {
     }
 }
 
-/// Says the row of a frame that was dropped.
+/// Says the row of a frame that was dropped, to which links lead or not.
 pub(crate) fn say_dropped_row<S: TextSink>(
+    linked: bool,
     origin: u64,
     place: FramePlace,
     dir: Dir,
-    named: bool,
     reason: Reason,
     out: &mut S,
 )
-    ensures { S.says out.old (dropped_row origin place dir named reason) out.new }
+    ensures { S.says out.old (dropped_row linked origin place dir reason) out.new }
 {
     say(
         out,
         (
             FrameFront {
+                linked,
                 origin,
-                named,
                 place,
             },
             CellFront(dir),
@@ -219,8 +219,8 @@ pub(crate) fn say_ended_row<S: TextSink>(
         out,
         (
             FrameFront {
+                linked,
                 origin,
-                named: !linked,
                 place,
             },
             CellFront(ended.dir),

@@ -5,7 +5,7 @@ ghost use Rattle.trace_report.specs.Marks as Spec;
 
 use crate::words::{MOST_SHOWN, SHOWN_FIRST, say_bytes_behind};
 use trace_io::TextSink;
-use trace_text::say::{say_byte, say_number, say_text};
+use trace_text::values::{say_byte, say_number, say_text};
 
 /// So many bytes are shown before a place that is not among the first ones.
 const SHOWN_BEFORE: usize = 16;

@@ -9,7 +9,7 @@ use crate::words::{Data, Milliseconds, Seconds};
 use direction::Dir;
 use text_parts::{Either, Part, say};
 use trace_io::TextSink;
-use trace_text::{Code, Number, Sender, Service};
+use trace_text::{Number, ResponseCode, Sender, Service};
 use uds_message::{response_code, sid};
 
 /// Says the row of a message, in a page whose first frame has the time `origin`.
@@ -26,7 +26,12 @@ pub(crate) fn say_message_row<S: TextSink>(
     say(
         out,
         (
-            MessageFront(true, origin, role, place),
+            MessageFront {
+                linked: true,
+                origin,
+                role,
+                place,
+            },
             CellFront(dir),
             RoleWords(role, dir, message),
             Data(message),
@@ -38,15 +43,25 @@ pub(crate) fn say_message_row<S: TextSink>(
 
 /// Where a message stands, as a row to which links lead or not.
 #[derive(Clone, Copy)]
-pub(crate) struct MessageFront(pub bool, pub u64, pub MessageRole, pub MessagePlace);
+pub(crate) struct MessageFront {
+    pub linked: bool,
+    pub origin: u64,
+    pub role: MessageRole,
+    pub place: MessagePlace,
+}
 
 impl Part for MessageFront {
     ghost use Rattle.trace_report.specs.Rows.{message_front};
 
-    ghost text = { λ front. message_front front.0 front.1 front.2 front.3 };
+    ghost text = { λ front. message_front front.linked front.origin front.role front.place };
 
     fn say<S: TextSink>(self, out: &mut S) {
-        let MessageFront(linked, origin, role, place) = self;
+        let MessageFront {
+            linked,
+            origin,
+            role,
+            place,
+        } = self;
         let item = ItemCell {
             linked,
             role,
@@ -67,7 +82,16 @@ impl Part for MessageFront {
     }
 }
 
-/// How a message looks.
+/// How a message looks, a class of the style. The other rows have some, too:
+///
+/// | Class | Rows | Look |
+/// |---|---|---|
+/// | `q` | a request | the tester's colour |
+/// | `ok` | a positive answer | the unit's colour |
+/// | `p` | a pending reply, a keep-alive; an item that asked for no positive answer | grey |
+/// | `n` | a negative answer | red |
+/// | `m`, `x` | no answer; what was dropped, ended or stands unfinished | red, with a dashed arrow |
+/// | `s` | a stray | the colour of a warning |
 #[derive(Clone, Copy)]
 struct RoleClass(MessageRole);
 
@@ -181,7 +205,7 @@ impl<'a> Part for RoleWords<'a> {
                 out,
                 (
                     "<b>negative</b> <em>",
-                    Code(response_code(message)),
+                    ResponseCode(response_code(message)),
                     "</em> ",
                 ),
             ),

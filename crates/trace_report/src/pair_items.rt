@@ -14,7 +14,7 @@ use crate::pair_page::{PairTitle, say_lettered_name};
 use crate::session::Session;
 use crate::two::{Difference, Two};
 use trace_io::TextSink;
-use trace_text::say::{say_place, say_text};
+use trace_text::values::{say_place, say_text};
 
 /// Says all items of two sessions, with their first difference, if they differ.
 pub(crate) fn say_items<S: TextSink>(

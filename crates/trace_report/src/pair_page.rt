@@ -8,7 +8,7 @@ ghost use Rattle.trace_report.specs.PairPage.{both_names, held_page, letter_mark
 ghost use Rattle.trace_report.specs.PairPage as Spec;
 ghost use Rattle.trace_report.specs.PairPage.{pair_title_of};
 
-use crate::cause::{Cause, CauseLine};
+use crate::cause::{CauseLine, RefusalCause};
 use crate::contrast::{LogName, say_log_letter};
 use crate::front::{Identifiers, Notice, PageStart, Shapes};
 use crate::help::PairHelp;
@@ -22,7 +22,7 @@ use text_parts::{Part, say};
 use trace_io::{Target, TextSink};
 use trace_log::{CompareFault, Fault};
 use trace_run::print;
-use trace_text::say::say_text;
+use trace_text::values::say_text;
 
 /// What a page of two logs is made for: its style, the names of the logs, and the identifiers.
 #[derive(Clone, Copy)]
@@ -41,7 +41,7 @@ pub struct PairTitle<'a> {
 pub fn write_pair_page<W: Target>(
     title: &PairTitle<'_>,
     answer: &Result<Two, CompareFault>,
-    cause: Option<Cause>,
+    cause: Option<RefusalCause>,
     target: &mut W,
 ) -> Result<(), Fault>
     requires { IsLowCount (W.failures target.old) }
@@ -62,7 +62,7 @@ pub fn write_pair_page<W: Target>(
 struct PairPage<'a> {
     title: &'a PairTitle<'a>,
     answer: &'a Result<Two, CompareFault>,
-    cause: Option<Cause>,
+    cause: Option<RefusalCause>,
 }
 
 impl<'a> Part for PairPage<'a> {
@@ -181,7 +181,7 @@ fn say_unread_page<S: TextSink>(
     title: &PairTitle<'_>,
     log: LogName,
     why: Fault,
-    cause: Option<Cause>,
+    cause: Option<RefusalCause>,
     out: &mut S,
 )
     ensures { S.says out.old (unread_page (pair_title_of title.now) log why cause) out.new }
@@ -207,7 +207,7 @@ fn say_refused_pair<S: TextSink>(
     title: &PairTitle<'_>,
     log: LogName,
     why: Fault,
-    cause: Option<Cause>,
+    cause: Option<RefusalCause>,
     out: &mut S,
 )
     ensures { S.says out.old (refused_pair (pair_title_of title.now) log why cause) out.new }

@@ -18,7 +18,7 @@ use crate::verdict::{SpanOf, is_called_clean};
 use text_parts::{Either, say};
 use trace_io::TextSink;
 use trace_log::Summary;
-use trace_text::say::{say_number, say_place, say_text};
+use trace_text::values::{say_number, say_place, say_text};
 
 /// Says whether two sessions with items of so many numbers are the same, if they have items, by whether tester and unit
 /// look exchanged in one of them.
@@ -200,6 +200,10 @@ fn say_span_of_session<S: TextSink>(session: &Session, out: &mut S)
 {
     say(
         out,
-        SpanOf(session.summary().frames, session.first(), session.last()),
+        SpanOf {
+            frames: session.summary().frames,
+            first: session.first(),
+            last: session.last(),
+        },
     );
 }

@@ -12,18 +12,18 @@ ghost use Rattle.trace_report.specs.proving.Following.{KnowsPlaces};
 use crate::frames::{FrameCounts, frames_carrying};
 use direction::Dir;
 use isotp_receive::Event;
-use trace_canon::begun::{Begun, FramePlace, still_begun};
+use trace_canon::reception_starts::{FramePlace, ReceptionStarts, still_begun};
 
 /// Of the receptions that stand: where they began, and how many frames they took.
 #[derive(Clone, Copy, Debug)]
 pub(crate) struct Places {
-    pub begun: Begun,
+    pub begun: ReceptionStarts,
     pub frames: FrameCounts,
 }
 
 /// Where a message begins, and how many frames carry it.
 #[derive(Clone, Copy, Debug)]
-pub(crate) struct Extent {
+pub(crate) struct MessageExtent {
     pub first: FramePlace,
     pub frames: u64,
 }
@@ -34,7 +34,7 @@ impl Places {
         ensures { KnowsPlaces [] result }
     {
         Places {
-            begun: Begun::start(),
+            begun: ReceptionStarts::start(),
             frames: FrameCounts::start(),
         }
     }
@@ -42,7 +42,7 @@ impl Places {
     /// Takes what a frame in this place did, and answers the extent of the message that it completed. Where it completed none,
     /// the answer says nothing.
     #[inline(always)]
-    pub(crate) fn take(&mut self, here: FramePlace, dir: Dir, event: Event<'_>) -> Extent
+    pub(crate) fn take(&mut self, here: FramePlace, dir: Dir, event: Event<'_>) -> MessageExtent
         ensures next { (T : List Entry) (e : Entry) → e.line ≡ here.line → e.micros ≡ here.micros → e.dir ≡ dir → length T < 2 ^ 62
             → seen_event event.entry ≡ verdict MESSAGE_LIMIT T e → KnowsPlaces T self.old → KnowsPlaces (T ++ e ∷ []) self.new }
         ensures first { (T : List Entry) (e : Entry) (bytes : List ℕ) → e.line ≡ here.line → e.micros ≡ here.micros → e.dir ≡ dir
@@ -56,6 +56,6 @@ impl Places {
         let frames = frames_carrying(begun, self.frames.of(dir));
         let first = self.begun.take(here, dir, event);
         self.frames.take(dir, event.verdict);
-        Extent { first, frames }
+        MessageExtent { first, frames }
     }
 }

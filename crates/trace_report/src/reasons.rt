@@ -56,7 +56,7 @@ impl<'a> Part for StrictWords<'a> {
                 (
                     When(summary.tester_frames == 0, ", no frame of the tester"),
                     When(summary.unit_frames == 0, ", no frame of the unit"),
-                    When(lacks_line_feed(summary), ", no line feed at the end"),
+                    When(summary.lacks_line_feed(), ", no line feed at the end"),
                     ".</em>",
                 ),
             ),
@@ -83,7 +83,7 @@ impl<'a> Part for MeaningWords<'a> {
                     " Frames are missing, late, out of order or of no legal form. Messages that they belonged to are not below.",
                 ),
                 When(
-                    lacks_line_feed(summary),
+                    summary.lacks_line_feed(),
                     " The log ends inside its last line: it may be cut.",
                 ),
                 When(
@@ -111,11 +111,4 @@ fn is_partial(summary: &Summary) -> bool
     ensures { result ≡ Spec.is_partial summary.now }
 {
     summary.dropped != 0 || summary.ended != 0 || summary.unfinished != 0
-}
-
-/// Whether the log has bytes, the last of which is no line feed.
-fn lacks_line_feed(summary: &Summary) -> bool
-    ensures { result ≡ Spec.lacks_line_feed summary.now }
-{
-    summary.lines > 0 && !summary.ends_in_line_feed
 }

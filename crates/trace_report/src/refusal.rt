@@ -1,5 +1,5 @@
 //! Why a log is refused.
-use crate::cause::{Cause, CauseLine};
+use crate::cause::{CauseLine, RefusalCause};
 use text_parts::{Part, say};
 use trace_io::TextSink;
 use trace_log::Fault;
@@ -28,7 +28,7 @@ impl Part for StopLine {
 
 /// The heading of a log that is refused, its sentences, and the cause, if one is known.
 #[derive(Clone, Copy)]
-pub(crate) struct RefusedHeading(pub Fault, pub Option<Cause>);
+pub(crate) struct RefusedHeading(pub Fault, pub Option<RefusalCause>);
 
 impl Part for RefusedHeading {
     ghost use Rattle.trace_report.specs.Verdict.{refused_heading};

@@ -5,20 +5,20 @@ ghost use Rattle.isotp_receive.specs.Trace.{Entry};
 ghost use Rattle.trace_run.specs.Told.{RanLenient, answers_counts, command, glimpse_of, needs_none};
 ghost use Rattle.trace_io.specs.Counted.{IsLowCount};
 ghost use Rattle.trace_report.specs.Front.{page_title};
-ghost use Rattle.trace_report.specs.Page.{first_time, front_before, report_script};
+ghost use Rattle.trace_report.specs.Page.{first_time, front_before, refused_text, report_script};
 ghost use Rattle.trace_report.specs.proving.Following.{times_of};
 ghost use Rattle.trace_report.specs.proving.Pages.{title_of};
 ghost use Rattle.trace_log.specs.Devices.{HasLowCounts};
 
 use crate::blocks::BlockEnd;
-use crate::cause::{Cause, cause_of};
+use crate::cause::{RefusalCause, cause_of};
 use crate::chart::Chart;
 use crate::follower::Follower;
 use crate::front::{Front, Title};
 use crate::help::Help;
 use crate::refusal::StopLine;
-use crate::span::Span;
-use crate::verdict::{RefusedVerdict, Verdict};
+use crate::times::Times;
+use crate::verdict::{RefusedVerdict, VerdictSection};
 use isotp_receive::Pair;
 use std::alloc::{AllocError, Global};
 use text_parts::{Part, say};
@@ -42,7 +42,11 @@ pub fn report<R: Source, W: Target>(
     requires writer { IsLowCount (W.failures writer.old) }
 
     // What is answered and written; that it is written before more is read; and what was done with the devices.
-    ensures ran { RanLenient R.Source W.Target (command (report_script (page_title style.now name.now config.now) MESSAGE_LIMIT (glimpse_of R.Source reader.new)) answers_counts needs_none) config.now reader.old writer.old result reader.new writer.new }
+    ensures ran { RanLenient R.Source W.Target
+        (command (report_script (page_title style.now name.now config.now) MESSAGE_LIMIT)
+        (refused_text (page_title style.now name.now config.now) MESSAGE_LIMIT (glimpse_of R.Source reader.new))
+        answers_counts needs_none)
+        config.now reader.old writer.old result reader.new writer.new }
 {
     let machine = Reporter {
         title: Title {
@@ -52,7 +56,7 @@ pub fn report<R: Source, W: Target>(
             unit: config.unit(),
             most: config.max_bytes(),
         },
-        span: None,
+        times: None,
         follower: Follower::start(),
         chart: Chart::start(),
     };
@@ -64,7 +68,7 @@ pub fn report<R: Source, W: Target>(
 pub(crate) struct Reporter<'a> {
     pub title: Title<'a>,
     /// Of the frames so far, if there are any.
-    pub span: Option<Span>,
+    pub times: Option<Times>,
     pub follower: Follower,
     pub chart: Chart,
 }
@@ -72,7 +76,7 @@ pub(crate) struct Reporter<'a> {
 impl<'a> Machine for Reporter<'a> {
     ghost use Rattle.isotp_receive.specs.declared.TheConstants.{MESSAGE_LIMIT};
     ghost use Rattle.trace_run.specs.Told.{answers_counts};
-    ghost use Rattle.trace_report.specs.Page.{nothing_seen, refused_text, report_script};
+    ghost use Rattle.trace_report.specs.Page.{refused_text, report_script};
     ghost use Rattle.trace_report.specs.proving.Following.{Reports};
     ghost use Rattle.trace_report.specs.proving.Pages.{title_of};
 
@@ -80,7 +84,7 @@ impl<'a> Machine for Reporter<'a> {
 
     ghost stands = { λ start T now. Reports (title_of start.title) T now };
 
-    ghost script = { λ start. report_script (title_of start.title) MESSAGE_LIMIT nothing_seen };
+    ghost script = { λ start. report_script (title_of start.title) MESSAGE_LIMIT };
 
     ghost refusal = { λ start. refused_text (title_of start.title) MESSAGE_LIMIT };
 
@@ -95,8 +99,8 @@ impl<'a> Machine for Reporter<'a> {
 
     #[inline(always)]
     fn event<S: TextSink>(&mut self, seen: Seen<'_>, out: &mut S) -> Result<(), AllocError> {
-        let origin = say_front_before(&self.title, self.span, seen.micros, out);
-        self.span = Some(Span {
+        let origin = say_front_before(&self.title, self.times, seen.micros, out);
+        self.times = Some(Times {
             first: origin,
             last: seen.micros,
         });
@@ -113,16 +117,16 @@ impl<'a> Machine for Reporter<'a> {
     ) -> Result<Summary, Stop> {
         let Reporter {
             title,
-            span,
+            times,
             follower,
             mut chart,
         } = self;
-        let origin = say_front_before(&title, span, 0, out);
+        let origin = say_front_before(&title, times, 0, out);
         chart.say_rows(origin, follower.end(pair), out);
         let closing = PageEnd {
             chart: &chart,
             summary,
-            span,
+            times,
         };
         say(out, closing);
         Ok(*summary)
@@ -131,17 +135,17 @@ impl<'a> Machine for Reporter<'a> {
     fn refused<S: TextSink>(self, summary: &Summary, why: Fault, source: Glimpse<'_>, out: &mut S) {
         let Reporter {
             title,
-            span,
+            times,
             follower: _,
             chart,
         } = self;
-        say_front_before(&title, span, 0, out);
+        say_front_before(&title, times, 0, out);
         let closing = RefusedEnd {
             why,
             cause: cause_of(why, title.most, source),
             chart: &chart,
             summary,
-            span,
+            times,
         };
         say(out, closing);
     }
@@ -150,16 +154,16 @@ impl<'a> Machine for Reporter<'a> {
 /// Says the front of the page, where no frame came before. Answers the time of the first frame, which is this where none did.
 fn say_front_before<S: TextSink>(
     title: &Title<'_>,
-    span: Option<Span>,
+    times: Option<Times>,
     micros: u64,
     out: &mut S,
 ) -> u64
-    ensures says { (T : List Entry) → span ≡ times_of T → S.says out.old (front_before (title_of title.now) T) out.new }
-    ensures origin { (T : List Entry) (e : Entry) → span ≡ times_of T → e.micros ≡ micros → result ≡ first_time (T ++ e ∷ []) }
-    ensures first { (T : List Entry) → span ≡ times_of T → micros ≡ 0 → result ≡ first_time T }
+    ensures says { (T : List Entry) → times ≡ times_of T → S.says out.old (front_before (title_of title.now) T) out.new }
+    ensures origin { (T : List Entry) (e : Entry) → times ≡ times_of T → e.micros ≡ micros → result ≡ first_time (T ++ e ∷ []) }
+    ensures first { (T : List Entry) → times ≡ times_of T → micros ≡ 0 → result ≡ first_time T }
 {
-    match span {
-        Some(span) => span.first,
+    match times {
+        Some(times) => times.first,
         None => {
             say(out, Front(*title));
             micros
@@ -172,20 +176,20 @@ fn say_front_before<S: TextSink>(
 struct PageEnd<'a> {
     chart: &'a Chart,
     summary: &'a Summary,
-    span: Option<Span>,
+    times: Option<Times>,
 }
 
 impl<'a> Part for PageEnd<'a> {
     ghost use Rattle.trace_report.specs.Page.{page_end};
-    ghost use Rattle.trace_report.specs.proving.Lending.{first_of_span, last_of_span};
+    ghost use Rattle.trace_report.specs.proving.Lending.{first_of_times, last_of_times};
 
-    ghost text = { λ end. page_end end.chart.now.blocks end.chart.now.tally end.summary.now (first_of_span end.span) (last_of_span end.span) };
+    ghost text = { λ end. page_end end.chart.now.blocks end.chart.now.tally end.summary.now (first_of_times end.times) (last_of_times end.times) };
 
     fn say<S: TextSink>(self, out: &mut S) {
-        let verdict = Verdict {
+        let verdict = VerdictSection {
             tally: &self.chart.tally,
             summary: self.summary,
-            span: self.span,
+            times: self.times,
         };
         say(
             out,
@@ -203,17 +207,17 @@ impl<'a> Part for PageEnd<'a> {
 #[derive(Clone, Copy)]
 struct RefusedEnd<'a> {
     why: Fault,
-    cause: Option<Cause>,
+    cause: Option<RefusalCause>,
     chart: &'a Chart,
     summary: &'a Summary,
-    span: Option<Span>,
+    times: Option<Times>,
 }
 
 impl<'a> Part for RefusedEnd<'a> {
     ghost use Rattle.trace_report.specs.Page.{refused_end};
-    ghost use Rattle.trace_report.specs.proving.Lending.{first_of_span, last_of_span};
+    ghost use Rattle.trace_report.specs.proving.Lending.{first_of_times, last_of_times};
 
-    ghost text = { λ end. refused_end end.why end.cause end.chart.now.blocks end.chart.now.tally end.summary.now (first_of_span end.span) (last_of_span end.span) };
+    ghost text = { λ end. refused_end end.why end.cause end.chart.now.blocks end.chart.now.tally end.summary.now (first_of_times end.times) (last_of_times end.times) };
 
     fn say<S: TextSink>(self, out: &mut S) {
         let verdict = RefusedVerdict {
@@ -221,7 +225,7 @@ impl<'a> Part for RefusedEnd<'a> {
             cause: self.cause,
             tally: &self.chart.tally,
             summary: self.summary,
-            span: self.span,
+            times: self.times,
         };
         say(
             out,

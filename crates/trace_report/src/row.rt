@@ -2,7 +2,7 @@
 
 use direction::Dir;
 use isotp_receive::{Ended, Reason};
-use trace_canon::begun::FramePlace;
+use trace_canon::reception_starts::FramePlace;
 
 /// What a message is to its item. A reply has the time of the last frame of its request.
 #[derive(Clone, Copy, Debug)]
@@ -50,11 +50,12 @@ pub(crate) enum Row<'a> {
         number: u64,
         silent: bool,
     },
-    /// The frame in this place, which this side sent, was dropped. The row before is of the same frame, or is not.
+    /// The frame in this place, which this side sent, was dropped. Links lead to this row, or the row before is of the same
+    /// frame, and they lead there.
     Dropped {
         place: FramePlace,
         dir: Dir,
-        named: bool,
+        linked: bool,
         reason: Reason,
     },
     /// The frame in this place ended a reception.

@@ -1,13 +1,15 @@
 //! The rows of a report.
 ghost use Rattle.std.specs.Prelude.{◌≡◌, ◌<◌, ◌^◌, ◌-◌, [], ◌∷◌};
 ghost use Rattle.trace_report.specs.Blocks.{blocks_behind, rows_text};
-ghost use Rattle.trace_report.specs.Rows.{row_text};
+ghost use Rattle.trace_report.specs.Rows.{message_text, row_text};
 ghost use Rattle.trace_report.specs.proving.Pages.{row_of};
 
 use crate::blocks::{Blocks, Opening, begins_exchange, is_brief, one_more_row};
-use crate::brief_rows::say_message;
+use crate::brief_rows::say_brief_message;
 use crate::lost_rows::{say_dropped_row, say_ended_row, say_no_answer_row, say_unfinished_row};
-use crate::row::Row;
+use crate::message_rows::say_message_row;
+use crate::row::{MessagePlace, MessageRole, Row};
+use direction::Dir;
 use text_parts::say;
 use trace_io::TextSink;
 
@@ -41,10 +43,29 @@ fn say_row<S: TextSink>(brief: bool, origin: u64, row: Row<'_>, out: &mut S)
         Row::Dropped {
             place,
             dir,
-            named,
+            linked,
             reason,
-        } => { say_dropped_row(origin, place, dir, named, reason, out) }
+        } => { say_dropped_row(linked, origin, place, dir, reason, out) }
         Row::Ended { place, ended } => say_ended_row(true, origin, place, ended, out),
         Row::Unfinished { dir, line, len } => say_unfinished_row(true, dir, line, len, out),
+    }
+}
+
+/// Says the row of a message, in a block of brief rows or in another.
+fn say_message<S: TextSink>(
+    brief: bool,
+    origin: u64,
+    role: MessageRole,
+    dir: Dir,
+    place: MessagePlace,
+    message: &[u8],
+    out: &mut S,
+)
+    ensures { S.says out.old (message_text brief origin role dir place message.now) out.new }
+{
+    if brief {
+        say_brief_message(origin, role, dir, place, message, out);
+    } else {
+        say_message_row(origin, role, dir, place, message, out);
     }
 }

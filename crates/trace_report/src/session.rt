@@ -1,9 +1,9 @@
 //! A session that is kept as a whole.
 ghost use Rattle.std.specs.Prelude.{◌≡◌};
-ghost use Rattle.trace_report.specs.proving.Lending.{first_of_span, last_of_span};
+ghost use Rattle.trace_report.specs.proving.Lending.{first_of_times, last_of_times};
 
 use crate::kept_rows::KeptRows;
-use crate::span::{Span, first_of, last_of};
+use crate::times::{Times, first_of, last_of};
 use std::marker::Model;
 use trace_log::Summary;
 
@@ -12,30 +12,30 @@ use trace_log::Summary;
 pub struct Session {
     rows: KeptRows,
     summary: Summary,
-    span: Option<Span>,
+    times: Option<Times>,
 }
 
 impl Model for Session {
     ghost use Rattle.trace_report.specs.Session.{SessionValue};
-    ghost use Rattle.trace_report.specs.proving.Lending.{first_of_span, last_of_span};
+    ghost use Rattle.trace_report.specs.proving.Lending.{first_of_times, last_of_times};
 
     ghost Value = { SessionValue };
 
-    ghost view = { λ s. record { rows = s.rows; summary = s.summary; first = first_of_span s.span; last = last_of_span s.span } };
+    ghost view = { λ s. record { rows = s.rows; summary = s.summary; first = first_of_times s.times; last = last_of_times s.times } };
 }
 
 impl Session {
     /// What is kept of a log: its rows, its counts, and the times of its first frame and its last one, if it has frames.
-    pub(crate) fn of(rows: KeptRows, summary: Summary, span: Option<Span>) -> Session
+    pub(crate) fn of(rows: KeptRows, summary: Summary, times: Option<Times>) -> Session
         ensures rows { result.rows ≡ rows }
         ensures summary { result.summary ≡ summary }
-        ensures first { result.first ≡ first_of_span span }
-        ensures last { result.last ≡ last_of_span span }
+        ensures first { result.first ≡ first_of_times times }
+        ensures last { result.last ≡ last_of_times times }
     {
         Session {
             rows,
             summary,
-            span,
+            times,
         }
     }
 
@@ -57,13 +57,13 @@ impl Session {
     pub(crate) fn first(&self) -> u64
         ensures { result ≡ self.now.first }
     {
-        first_of(self.span)
+        first_of(self.times)
     }
 
     /// The time of its last frame; 0 where it has none.
     pub(crate) fn last(&self) -> u64
         ensures { result ≡ self.now.last }
     {
-        last_of(self.span)
+        last_of(self.times)
     }
 }

@@ -17,9 +17,9 @@ pub(crate) enum Sort {
     Strays,
     Unanswered,
     Silent,
-    Drops,
-    Ends,
-    Partials,
+    Dropped,
+    Ended,
+    Unfinished,
 }
 
 /// The sort of a row.
@@ -29,9 +29,9 @@ pub(crate) fn sort_of(row: Row<'_>) -> Sort
     match row {
         Row::Message { role, .. } => sort_of_role(role),
         Row::NoAnswer { silent, .. } => sort_of_silence(silent),
-        Row::Dropped { .. } => Sort::Drops,
-        Row::Ended { .. } => Sort::Ends,
-        Row::Unfinished { .. } => Sort::Partials,
+        Row::Dropped { .. } => Sort::Dropped,
+        Row::Ended { .. } => Sort::Ended,
+        Row::Unfinished { .. } => Sort::Unfinished,
     }
 }
 

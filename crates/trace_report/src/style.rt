@@ -1,8 +1,9 @@
 //! The style of a report. This file is written by `scripts/report-style`, of `style/report.css`.
+ghost use Rattle.std.specs.Prelude.{◌≡◌};
+ghost use Rattle.trace_report.specs.Style.{page_style};
 
-/// The style of a report. No contract tells it, so that no proof opens it.
-pub fn report_style() -> &'static str {
-    "\
+/// The style of all pages.
+const STYLE: &str = "\
 :root { color-scheme: light dark; --bg: #fff; --soft: #f4f6f8; --ink: #181b20; --dim: #59616d; --rule: #d8dde3; --t: #1757b0; --u: #0d6a3a; --bad: #b3231b; --warn: #8a5700; --badbg: #fdecea; --warnbg: #fdf3df; --goodbg: #e6f5ec; }
 @media (prefers-color-scheme: dark) { :root { --bg: #15181d; --soft: #1e2228; --ink: #e7e9ec; --dim: #a3abb6; --rule: #373e48; --t: #7fb3ff; --u: #6ed29b; --bad: #ff9b92; --warn: #f2bd60; --badbg: #3a1f1d; --warnbg: #372a12; --goodbg: #173025; } }
 * { box-sizing: border-box; }
@@ -65,5 +66,12 @@ td > div > div { overflow-wrap: anywhere; }
 @media (max-width: 40rem) { .two thead th:nth-child(1) { width: 1.5rem; } .two thead th:nth-child(2) { width: 2.4rem; } .two thead th:nth-child(3) { width: 4.2rem; } .two td, .two tbody th { font-size: .72rem; } table.pair thead th:nth-child(1) { width: 3.4rem; } .ab i, .pair td > i { line-height: 1.15rem; } table.pair td:nth-child(n) { font-size: .8rem; } #difference { padding: 0 .5rem .6rem; } }
 @media print { :root { color-scheme: light; --bg: #fff; --ink: #000; --dim: #444; --rule: #999; --t: #0b3f86; --u: #064d28; --bad: #8c1610; --warn: #6b4300; --badbg: #fff; --warnbg: #fff; --goodbg: #fff; } html { font-size: 12px; } body { font-size: 12px; } .page { max-width: none; padding: 0; } .skip, .filter { display: none !important; } .b + .b { content-visibility: visible; } details::details-content { content-visibility: visible; block-size: auto; }
  td, tbody th, td code { line-height: 1.2rem; padding-top: .15rem; padding-bottom: .15rem; } td code { padding: 0; } thead th { position: static; } thead th:nth-child(1) { width: 2.6rem; } thead th:nth-child(2) { width: 4.4rem; } thead th:nth-child(3) { width: 5.6rem; } tr { break-inside: avoid; } tr.q { break-after: avoid; } #verdict, #difference, .two > section, footer { break-inside: avoid; } @page { margin: 14mm; } }
-"
+";
+
+/// The style of a report: one for all logs. Only the proof of a law opens it.
+#[tactic(auto, unfolding(crate::specs::Style::page_style))]
+pub fn report_style() -> &'static str
+    ensures { result.now ≡ page_style }
+{
+    STYLE
 }

@@ -10,15 +10,21 @@ use crate::row::Row;
 use crate::sorts::{Sort, sort_of, target_of};
 use arrayvec::ArrayVec;
 
+/// So many rows of a sort are linked to.
+pub(crate) const MOST_LINKS: u64 = 10;
+
+/// Where links to rows of a sort lead, to the first [`MOST_LINKS`] of them.
+pub(crate) type Targets = ArrayVec<u64, 10>;
+
 /// Of each sort that needs a look, where links to its first rows lead.
 #[derive(Debug, Drop)]
 pub(crate) struct FirstTargets {
-    pub drops: ArrayVec<u64, 10>,
-    pub ends: ArrayVec<u64, 10>,
-    pub partials: ArrayVec<u64, 10>,
-    pub negatives: ArrayVec<u64, 10>,
-    pub unanswered: ArrayVec<u64, 10>,
-    pub strays: ArrayVec<u64, 10>,
+    pub dropped: Targets,
+    pub ended: Targets,
+    pub unfinished: Targets,
+    pub negatives: Targets,
+    pub unanswered: Targets,
+    pub strays: Targets,
 }
 
 impl FirstTargets {
@@ -27,9 +33,9 @@ impl FirstTargets {
         ensures { result ≡ first_targets [] }
     {
         FirstTargets {
-            drops: ArrayVec::new(),
-            ends: ArrayVec::new(),
-            partials: ArrayVec::new(),
+            dropped: ArrayVec::new(),
+            ended: ArrayVec::new(),
+            unfinished: ArrayVec::new(),
             negatives: ArrayVec::new(),
             unanswered: ArrayVec::new(),
             strays: ArrayVec::new(),
@@ -41,9 +47,9 @@ impl FirstTargets {
         ensures { self.new ≡ first_with sort target self.old }
     {
         match sort {
-            Sort::Drops => keep(&mut self.drops, target),
-            Sort::Ends => keep(&mut self.ends, target),
-            Sort::Partials => keep(&mut self.partials, target),
+            Sort::Dropped => keep(&mut self.dropped, target),
+            Sort::Ended => keep(&mut self.ended, target),
+            Sort::Unfinished => keep(&mut self.unfinished, target),
             Sort::Negatives => keep(&mut self.negatives, target),
             Sort::Unanswered => keep(&mut self.unanswered, target),
             Sort::Strays => keep(&mut self.strays, target),
@@ -54,7 +60,7 @@ impl FirstTargets {
 }
 
 /// Keeps a target behind those before it, if there is room.
-fn keep(first: &mut ArrayVec<u64, 10>, target: u64)
+fn keep(first: &mut Targets, target: u64)
     ensures { first.new.items ≡ take most_links (first.old.items ++ target ∷ []) }
 {
     if !first.is_full() {

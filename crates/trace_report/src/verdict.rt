@@ -4,37 +4,38 @@ ghost use Rattle.std.specs.Prelude.{◌≡◌};
 ghost use Rattle.trace_report.specs.Links as Links;
 ghost use Rattle.trace_report.specs.Verdict as Spec;
 
-use crate::cause::Cause;
+use crate::cause::RefusalCause;
 use crate::counts::{AnswersOf, Counts, SortCounts};
 use crate::links::{Link, LookLine};
 use crate::reasons::UncleanReasons;
 use crate::refusal::RefusedHeading;
-use crate::span::{Span, first_of, last_of};
 use crate::tally::Tally;
-use crate::words::{Seconds, Stamp};
+use crate::times::{Times, first_of, last_of};
+use crate::words::Seconds;
 use text_parts::{Either, Part, say};
 use trace_io::TextSink;
 use trace_log::{Fault, Summary};
+use trace_text::Stamp;
 
 /// The verdict of a log.
 #[derive(Clone, Copy)]
-pub(crate) struct Verdict<'a> {
+pub(crate) struct VerdictSection<'a> {
     pub tally: &'a Tally,
     pub summary: &'a Summary,
-    pub span: Option<Span>,
+    pub times: Option<Times>,
 }
 
-impl<'a> Part for Verdict<'a> {
+impl<'a> Part for VerdictSection<'a> {
     ghost use Rattle.trace_report.specs.Verdict.{verdict_text};
-    ghost use Rattle.trace_report.specs.proving.Lending.{first_of_span, last_of_span};
+    ghost use Rattle.trace_report.specs.proving.Lending.{first_of_times, last_of_times};
 
-    ghost text = { λ verdict. verdict_text verdict.tally.now verdict.summary.now (first_of_span verdict.span) (last_of_span verdict.span) };
+    ghost text = { λ verdict. verdict_text verdict.tally.now verdict.summary.now (first_of_times verdict.times) (last_of_times verdict.times) };
 
     fn say<S: TextSink>(self, out: &mut S) {
-        let Verdict {
+        let VerdictSection {
             tally,
             summary,
-            span,
+            times,
         } = self;
         say(
             out,
@@ -45,7 +46,7 @@ impl<'a> Part for Verdict<'a> {
                 Findings {
                     tally,
                     summary,
-                    span,
+                    times,
                 },
             ),
         );
@@ -56,23 +57,23 @@ impl<'a> Part for Verdict<'a> {
 #[derive(Clone, Copy)]
 pub(crate) struct RefusedVerdict<'a> {
     pub why: Fault,
-    pub cause: Option<Cause>,
+    pub cause: Option<RefusalCause>,
     pub tally: &'a Tally,
     pub summary: &'a Summary,
-    pub span: Option<Span>,
+    pub times: Option<Times>,
 }
 
 impl<'a> Part for RefusedVerdict<'a> {
     ghost use Rattle.trace_report.specs.Verdict.{refused_verdict};
-    ghost use Rattle.trace_report.specs.proving.Lending.{first_of_span, last_of_span};
+    ghost use Rattle.trace_report.specs.proving.Lending.{first_of_times, last_of_times};
 
-    ghost text = { λ verdict. refused_verdict verdict.why verdict.cause verdict.tally.now verdict.summary.now (first_of_span verdict.span) (last_of_span verdict.span) };
+    ghost text = { λ verdict. refused_verdict verdict.why verdict.cause verdict.tally.now verdict.summary.now (first_of_times verdict.times) (last_of_times verdict.times) };
 
     fn say<S: TextSink>(self, out: &mut S) {
         let findings = Findings {
             tally: self.tally,
             summary: self.summary,
-            span: self.span,
+            times: self.times,
         };
         say(out, (RefusedHeading(self.why, self.cause), findings));
     }
@@ -83,27 +84,31 @@ impl<'a> Part for RefusedVerdict<'a> {
 struct Findings<'a> {
     tally: &'a Tally,
     summary: &'a Summary,
-    span: Option<Span>,
+    times: Option<Times>,
 }
 
 impl<'a> Part for Findings<'a> {
     ghost use Rattle.trace_report.specs.Verdict.{findings_text};
-    ghost use Rattle.trace_report.specs.proving.Lending.{first_of_span, last_of_span};
+    ghost use Rattle.trace_report.specs.proving.Lending.{first_of_times, last_of_times};
 
-    ghost text = { λ found. findings_text found.tally.now found.summary.now (first_of_span found.span) (last_of_span found.span) };
+    ghost text = { λ found. findings_text found.tally.now found.summary.now (first_of_times found.times) (last_of_times found.times) };
 
     fn say<S: TextSink>(self, out: &mut S) {
         let Findings {
             tally,
             summary,
-            span,
+            times,
         } = self;
         say(
             out,
             (
                 Looks(tally),
                 Counts(&tally.counts, summary),
-                SpanOf(summary.frames, first_of(span), last_of(span)),
+                SpanOf {
+                    frames: summary.frames,
+                    first: first_of(times),
+                    last: last_of(times),
+                },
                 "</section>\n",
             ),
         );
@@ -128,20 +133,20 @@ impl<'a> Part for Looks<'a> {
         let dropped = LookLine {
             words: "dropped frames",
             link: Link::Line,
-            count: counts.drops,
-            first: &first.drops,
+            count: counts.dropped,
+            first: &first.dropped,
         };
         let ended = LookLine {
             words: "ended early",
             link: Link::Line,
-            count: counts.ends,
-            first: &first.ends,
+            count: counts.ended,
+            first: &first.ended,
         };
         let unfinished = LookLine {
             words: "unfinished",
             link: Link::Side,
-            count: counts.partials,
-            first: &first.partials,
+            count: counts.unfinished,
+            first: &first.unfinished,
         };
         let negative = LookLine {
             words: "negative answers",
@@ -176,9 +181,9 @@ impl<'a> Part for Looks<'a> {
 fn needs_no_look(counts: &SortCounts) -> bool
     ensures { result ≡ Links.needs_no_look counts.now }
 {
-    counts.drops == 0
-        && counts.ends == 0
-        && counts.partials == 0
+    counts.dropped == 0
+        && counts.ended == 0
+        && counts.unfinished == 0
         && counts.negatives == 0
         && counts.unanswered == 0
         && counts.strays == 0
@@ -248,15 +253,23 @@ impl<'a> Part for StartOf<'a> {
 
 /// From when to when a log of so many frames goes, where it has some.
 #[derive(Clone, Copy)]
-pub(crate) struct SpanOf(pub u64, pub u64, pub u64);
+pub(crate) struct SpanOf {
+    pub frames: u64,
+    pub first: u64,
+    pub last: u64,
+}
 
 impl Part for SpanOf {
     ghost use Rattle.trace_report.specs.Verdict.{span_of};
 
-    ghost text = { λ span. span_of span.0 span.1 span.2 };
+    ghost text = { λ span. span_of span.frames span.first span.last };
 
     fn say<S: TextSink>(self, out: &mut S) {
-        let SpanOf(frames, first, last) = self;
+        let SpanOf {
+            frames,
+            first,
+            last,
+        } = self;
         if frames > 0 {
             say(
                 out,

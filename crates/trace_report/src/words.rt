@@ -1,13 +1,13 @@
 //! The words of a report: times, and the bytes of messages.
 ghost use Rattle.std.specs.Prelude.{◌≡◌, ◌<◌, ◌≤◌, length, take};
-ghost use Rattle.trace_report.specs.Words.{bytes_behind, letter_text, letters};
-ghost use Rattle.trace_report.specs.Words as Spec;
+ghost use Rattle.trace_report.specs.Words.{bytes_behind};
 
+use crate::letters::LettersText;
 use can_log::digits_of_bytes;
 use std::simd::prelude::*;
 use text_parts::{Either, Part, When, say};
 use trace_io::TextSink;
-use trace_text::{Byte, Number, SixDecimals, ThreeDecimals};
+use trace_text::{Byte, Number, Stamp, ThreeDecimals};
 
 /// Up to so many bytes, all of a message are shown.
 pub(crate) const MOST_SHOWN: usize = 64;
@@ -17,20 +17,6 @@ const MOST_FOLDED: usize = 512;
 
 /// So many are the first ones.
 pub(crate) const SHOWN_FIRST: usize = 32;
-
-/// A time in seconds.
-#[derive(Clone, Copy)]
-pub(crate) struct Stamp(pub u64);
-
-impl Part for Stamp {
-    ghost use Rattle.trace_canon.specs.MessageLines.{stamp_text};
-
-    ghost text = { λ stamp. stamp_text stamp.0 };
-
-    fn say<S: TextSink>(self, out: &mut S) {
-        say(out, (Number(self.0 / 1_000_000), ".", SixDecimals(self.0)));
-    }
-}
 
 /// The seconds from one time to another: a minus, where one is before another.
 #[derive(Clone, Copy)]
@@ -130,129 +116,6 @@ fn eight_behind(bytes: &[u8; 8]) -> [u8; 24]
     front.copy_to_slice(&mut text[..16]);
     back.copy_to_slice(&mut text[16..]);
     text
-}
-
-/// Whether a byte is a digit or a letter of ASCII.
-fn is_letter(byte: u8) -> bool
-    ensures { result ≡ Spec.is_letter byte }
-{
-    matches!(byte, b'0'..=b'9' | b'A'..=b'Z' | b'a'..=b'z')
-}
-
-/// Whether it is one of the signs that are shown.
-fn is_sign(byte: u8) -> bool
-    ensures { result ≡ Spec.is_sign byte }
-{
-    matches!(byte, b'-' | b'.' | b'/' | b':' | b'_')
-}
-
-/// Whether it is shown as it is, and is no blank.
-fn is_mark(byte: u8) -> bool
-    ensures { result ≡ Spec.is_mark byte }
-{
-    is_letter(byte) || is_sign(byte)
-}
-
-/// Whether four bytes in a row are.
-fn has_word(bytes: &[u8]) -> bool
-    ensures { result ≡ Spec.has_word bytes.now }
-{
-    let mut rest = bytes;
-    'places: while let [a, b, c, d, ..] = rest {
-        // No four in a row go over a byte that is none, so the last of four is looked at first.
-        rest = if !is_mark(*d) {
-            &rest[4..]
-        } else if !is_mark(*c) {
-            &rest[3..]
-        } else if !is_mark(*b) {
-            &rest[2..]
-        } else if !is_mark(*a) {
-            &rest[1..]
-        } else {
-            return true;
-        };
-    }
-    false
-}
-
-/// What is shown for a byte among others that may be text.
-fn shown_byte(byte: u8) -> u8
-    ensures { result ≡ Spec.shown_byte byte }
-{
-    if is_mark(byte) || byte == b' ' {
-        byte
-    } else {
-        b'.'
-    }
-}
-
-/// Says what is shown for a byte.
-fn say_letter<S: TextSink>(byte: u8, out: &mut S)
-    ensures { S.says out.old (letter_text byte) out.new }
-{
-    out.put(&[shown_byte(byte)]);
-}
-
-/// Says what is shown for each byte, byte by byte.
-fn say_few_letters<S: TextSink>(bytes: &[u8], out: &mut S)
-    ensures { S.says out.old (letters bytes.now) out.new }
-{
-    'bytes: for byte in bytes {
-        say_letter(*byte, out);
-    }
-}
-
-/// What is shown for eight bytes.
-#[inline(always)]
-fn eight_letters(bytes: &[u8; 8]) -> [u8; 8]
-    ensures { result ≡ letters bytes.now }
-{
-    let [a, b, c, d, e, f, g, h] = *bytes;
-    [
-        shown_byte(a),
-        shown_byte(b),
-        shown_byte(c),
-        shown_byte(d),
-        shown_byte(e),
-        shown_byte(f),
-        shown_byte(g),
-        shown_byte(h),
-    ]
-}
-
-/// Bytes as letters, in grey, where they may be text.
-#[derive(Clone, Copy)]
-struct LettersText<'a>(&'a [u8]);
-
-impl<'a> Part for LettersText<'a> {
-    ghost use Rattle.trace_report.specs.Words.{letters_text};
-
-    ghost text = { λ bytes. letters_text bytes.0.now };
-
-    fn say<S: TextSink>(self, out: &mut S) {
-        if has_word(self.0) {
-            say(out, (" <samp>", Letters(self.0), "</samp>"));
-        }
-    }
-}
-
-/// What is shown for each byte: for eight bytes at once, as long as there are eight.
-#[derive(Clone, Copy)]
-struct Letters<'a>(&'a [u8]);
-
-impl<'a> Part for Letters<'a> {
-    ghost use Rattle.trace_report.specs.Words.{letters};
-
-    ghost text = { λ bytes. letters bytes.0.now };
-
-    fn say<S: TextSink>(self, out: &mut S) {
-        let mut rest = self.0;
-        'eights: while let Some((eight, behind)) = rest.split_first_chunk::<8>() {
-            out.put(&eight_letters(eight));
-            rest = behind;
-        }
-        say_few_letters(rest, out);
-    }
 }
 
 /// Two digits for each byte, and a blank between.

@@ -7,7 +7,7 @@ use Rattle.trace_log.specs.Laws.{Certifies}
 use Rattle.trace_log.specs.Needing.{HasFrame, IsKeptForMessage, NeedsMemoryToReceive}
 use Rattle.trace_log.specs.Settings.{Settings}
 use Rattle.trace_log.specs.Summing.{summary_of}
-use Rattle.trace_run.specs.Told.{Script, Answering, AnswersTold, IsUnreadFor, StopsNothingWithin, answers_counts}
+use Rattle.trace_run.specs.Told.{Script, Refusal, Answering, AnswersTold, IsUnreadFor, StopsNothingWithin, answers_counts}
 use Rattle.trace_log.specs.Answers.{ReadsWhile}
 use Rattle.trace_log.specs.Refusal.{HasNoBadPlaceWithin}
 use Rattle.trace_log.specs.declared.fault.Fault.{Fault}
@@ -17,14 +17,14 @@ use Rattle.trace_log.specs.declared.summary.Summary.{Summary}
 use Rattle.trace_log.specs.Trace.{trace}
 use Rattle.trace_log.proofs.Promises.{lines_certify}
 
-module _ (word : List Entry → Entry → List ℕ) (last : List Entry → Summary → List ℕ) (refused : List Entry → Summary → Fault → List ℕ) where
-  -- a script that tells this of each frame, at the end, and of a refusal
-  abbrev pub lenient : Script
-  lenient = record { strict = false; word = word; last = last; refused = refused }
+-- a script that tells this of each frame, and at the end
+abbrev pub lenient : (List Entry → Entry → List ℕ) → (List Entry → Summary → List ℕ) → Script
+lenient word last = record { strict = false; word = word; last = last }
 
+module _ (word : List Entry → Entry → List ℕ) (last : List Entry → Summary → List ℕ) (refusal : Refusal) where
   -- where a fault tells why the log can't be read, that is so
   pub unread_for : (limit : ℕ) (settings : Settings) (log : List ℕ) (given : ℕ) (fault : Fault) (old new : List ℕ)
-      → AnswersTold lenient answers_counts limit settings log given (Err fault) old new → IsUnreadFor false limit settings log fault
+      → AnswersTold (lenient word last) refusal answers_counts limit settings log given (Err fault) old new → IsUnreadFor false limit settings log fault
   unread_for limit settings log given (BadLine line column) old new (is, wrote) = is
   unread_for limit settings log given (Oversize line announced) old new (is, wrote) = is
   unread_for limit settings log given LogLimit old new (is, wrote) = is
@@ -35,7 +35,7 @@ module _ (word : List Entry → Entry → List ℕ) (last : List Entry → Summa
 
   -- its counts certify what those of the lines do
   pub certifies : (settings : Settings) (log : List ℕ) (given : ℕ) (result : Result Summary Fault) (old new : List ℕ)
-      → AnswersTold lenient answers_counts MESSAGE_LIMIT settings log given result old new → IfOk result (Certifies MESSAGE_LIMIT settings log)
+      → AnswersTold (lenient word last) refusal answers_counts MESSAGE_LIMIT settings log given result old new → IfOk result (Certifies MESSAGE_LIMIT settings log)
   certifies settings log given (Ok summary) old new (all, meanings, is, counted, wrote) =
       let same : summary_of MESSAGE_LIMIT settings log meanings ≡ summary = cc counted in
       subst (Certifies MESSAGE_LIMIT settings log) same (lines_certify MESSAGE_LIMIT settings log meanings (omega arith) is.1)
@@ -43,10 +43,10 @@ module _ (word : List Entry → Entry → List ℕ) (last : List Entry → Summa
 
 -- the same of any script that is not strict, and of what is answered at the end, if that is never that the output is
 -- too long
-module _ {A : Type 0} (script : Script) (answers : Answering A) (is_lenient : script.strict ≡ false)
+module _ {A : Type 0} (script : Script) (refusal : Refusal) (answers : Answering A) (is_lenient : script.strict ≡ false)
     (has_answer : (T : List Entry) (summary : Summary) → answers T summary (Err stop.OutputLimit) → ⊥) where
   unread : (settings : Settings) (log : List ℕ) (given : ℕ) (fault : Fault) (old new : List ℕ)
-      → AnswersTold script answers MESSAGE_LIMIT settings log given (Err fault) old new → IsUnreadFor false MESSAGE_LIMIT settings log fault
+      → AnswersTold script refusal answers MESSAGE_LIMIT settings log given (Err fault) old new → IsUnreadFor false MESSAGE_LIMIT settings log fault
   unread settings log given (BadLine line column) old new (is, wrote) = subst (λ strict. IsUnreadFor strict MESSAGE_LIMIT settings log (BadLine line column)) is_lenient is
   unread settings log given (Oversize line announced) old new (is, wrote) = subst (λ strict. IsUnreadFor strict MESSAGE_LIMIT settings log (Oversize line announced)) is_lenient is
   unread settings log given LogLimit old new (is, wrote) = subst (λ strict. IsUnreadFor strict MESSAGE_LIMIT settings log LogLimit) is_lenient is
@@ -56,13 +56,13 @@ module _ {A : Type 0} (script : Script) (answers : Answering A) (is_lenient : sc
   unread settings log given Memory old new is = tt
 
   pub no_oversize : (settings : Settings) (log : List ℕ) (given : ℕ) (result : Result A Fault) (old new : List ℕ)
-      → AnswersTold script answers MESSAGE_LIMIT settings log given result old new → IfErr result (λ why. (line announced : ℕ) → why ≢ Oversize line announced)
+      → AnswersTold script refusal answers MESSAGE_LIMIT settings log given result old new → IfErr result (λ why. (line announced : ℕ) → why ≢ Oversize line announced)
   no_oversize settings log given (Ok value) old new told = tt
   no_oversize settings log given (Err why) old new told = λ line announced is.
       subst (IsUnreadFor false MESSAGE_LIMIT settings log) is (unread settings log given why old new told)
 
   pub no_output_limit : (settings : Settings) (log : List ℕ) (given : ℕ) (result : Result A Fault) (old new : List ℕ)
-      → AnswersTold script answers MESSAGE_LIMIT settings log given result old new → IfErr result (λ why. why ≢ OutputLimit)
+      → AnswersTold script refusal answers MESSAGE_LIMIT settings log given result old new → IfErr result (λ why. why ≢ OutputLimit)
   no_output_limit settings log given (Ok value) old new told = tt
   no_output_limit settings log given (Err why) old new told = λ is.
       subst (IsUnreadFor false MESSAGE_LIMIT settings log) is (unread settings log given why old new told)

@@ -2,7 +2,11 @@ pub mod WrittenFronts
 pub mod Runs
 pub mod Carryings
 pub mod SeenMessages
-pub mod Tellings
+pub mod ToldFrames
+pub mod StoppedLines
+pub mod ToldFronts
+pub mod ToldRuns
+pub mod EndedRuns
 pub mod LenientRuns
 pub mod Printings
 mod QuietRuns

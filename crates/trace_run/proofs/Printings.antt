@@ -6,14 +6,15 @@ use Rattle.trace_run.specs.declared.page.Page.{Page}
 use Rattle.trace_log.specs.declared.fault.Fault.TheVariants.{Write}
 use Rattle.trace_log.specs.Failing.{FailedIf}
 use Rattle.trace_run.specs.Printed.{Prints}
-use Rattle.trace_run.specs.proving.Carrying.{Carries, Speaks, Settles}
+use Rattle.trace_run.specs.proving.Carrying.{Carries, Says, Settles}
 use Rattle.trace_run.proofs.Carryings.{wrote_all, wrote_front}
-use Rattle.trace_run.proofs.Tellings.{blank_page, left_alone_so}
+use Rattle.trace_run.proofs.ToldRuns.{blank_page}
+use Rattle.trace_run.proofs.EndedRuns.{left_alone_so}
 
 module _ {W : Type 0} (target : Ghosts W) (text : List ℕ) (old new : W) where
   -- said to a page that was blank, and settled
-  pub settled_text : (mid : W) (page : Page) (failed : Bool) (held : List ℕ) (settled : Bool) → target.failures old ≤ 2 ^ 62 → page.failed ≡ false → page.block ≡ []
-      → Speaks target page.failed page.block old text failed held mid → Settles target failed held mid settled new → Carries target old text (not settled) [] new
+  pub settled_text : (mid : W) (page : Page) (failed : Bool) (held : List ℕ) (settled : Bool) → target.failures old ≤ 2 ^ 62 → page.failed ≡ false → page.held ≡ []
+      → Says target page.failed page.held old text failed held mid → Settles target failed held mid settled new → Carries target old text (not settled) [] new
   settled_text mid page failed held settled low well blank speaks settles =
       settles old text (speaks old [] (rw (well, blank) (blank_page target old low)))
 

@@ -1,4 +1,4 @@
--- A run over a script that tells nothing writes nothing.
+-- A run over a script that tells nothing, nor of a refusal, writes nothing.
 use Rattle.std.proofs.Common.{◌≡◌, ◌≢◌, ℕ, List, [], ◌∷◌, ◌++◌, length, arith, ap, refl, ◌∙◌, Result, Ok, Err, inl, inr}
 use Rattle.std.specs.Result.{IfErr}
 use Rattle.isotp_receive.specs.Trace.{Entry}
@@ -6,7 +6,7 @@ use Rattle.trace_log.specs.declared.fault.Fault.{Fault}
 use Rattle.trace_log.specs.declared.fault.Fault.TheVariants.{BadLine, Oversize, LogLimit, OutputLimit, Read, Write, Memory}
 use Rattle.trace_log.specs.Settings.{Settings}
 use Rattle.trace_log.specs.Summing.{summary_of}
-use Rattle.trace_run.specs.Told.{Script, Answering, AnswersTold, TellsNothing, told_after}
+use Rattle.trace_run.specs.Told.{Script, Answering, AnswersTold, TellsNothing, tells_no_refusal, told_after}
 use Rattle.trace_log.specs.Trace.{trace}
 
 -- of no frame anything is told
@@ -17,7 +17,7 @@ told_nothing word none past (e ∷ rest) =
 
 module _ {A : Type 0} (script : Script) (none : TellsNothing script) (answers : Answering A) (limit : ℕ) (settings : Settings) (log : List ℕ) (given : ℕ) (old new : List ℕ) where
   -- so writing does not fail
-  pub never_write : (result : Result A Fault) → AnswersTold script answers limit settings log given result old new → IfErr result (λ why. why ≢ Write)
+  pub never_write : (result : Result A Fault) → AnswersTold script tells_no_refusal answers limit settings log given result old new → IfErr result (λ why. why ≢ Write)
   never_write (Ok value) answered = tt
   never_write (Err (BadLine line column)) answered = λ is. absurd (cc is)
   never_write (Err (Oversize line announced)) answered = λ is. absurd (cc is)
@@ -37,4 +37,4 @@ module _ {A : Type 0} (script : Script) (none : TellsNothing script) (answers : 
         ap length last,
       ))
   never_write (Err Write) (inr refuses) =
-      absurd (omega (arith, refuses.some, ap length (none.of_refusals (trace settings refuses.meanings) (summary_of limit settings [] refuses.meanings) refuses.why)))
+      absurd (omega (arith, refuses.some))

@@ -6,7 +6,7 @@ use Rattle.isotp_receive.specs.declared.TheConstants.{MESSAGE_LIMIT}
 use Rattle.isotp_receive.specs.EventSeen.{seen_event}
 use Rattle.isotp_receive.specs.Trace.{Entry}
 use Rattle.isotp_receive.specs.Verdict.{EventValue, VerdictValue, message, began, stored, flowed, dropped, messages, told_message, verdict}
-use Rattle.uds_exchange.specs.Judging.{IsJudgedOf, number_after, sent, step_after}
+use Rattle.uds_exchange.specs.Judging.{IsJudgmentOf, number_after, sent, step_after}
 use Rattle.uds_exchange.specs.declared.judge.Judged.{Judged}
 use Rattle.trace_log.proofs.Promises.{messages_more}
 use Rattle.trace_run.specs.Seen.{IsEventOf, IsSeen}
@@ -18,7 +18,7 @@ pub record CompletesJudged (T : List Entry) (e : Entry) (judged : Judged) : Type
   pub dir : e.dir ≡ judged.dir
   pub did : (verdict MESSAGE_LIMIT T e).verdict ≡ message judged.bytes.now
   pub step : judged.step ≡ step_after (messages MESSAGE_LIMIT T) (sent judged)
-  pub item : judged.item ≡ number_after (messages MESSAGE_LIMIT T) (sent judged)
+  pub item : judged.item_number ≡ number_after (messages MESSAGE_LIMIT T) (sent judged)
 
 -- a frame told no other message than it completed
 completed : (d : Dir) (did : VerdictValue) (m : Message) → told_message d did ≡ m ∷ [] → (d ≡ m.0) × (did ≡ message m.1)
@@ -41,7 +41,7 @@ pub completes_judged : (T : List Entry) (e : Entry) (seen : Seen) (judged : Judg
 completes_judged T e seen judged is some =
     let M = messages MESSAGE_LIMIT T in
     let event = is.event in
-    let by = subst (IsJudgedOf M (told_message seen.dir (seen_event seen.event).verdict)) some is.message in
+    let by = subst (IsJudgmentOf M (told_message seen.dir (seen_event seen.event).verdict)) some is.message in
     let told = completed seen.dir (seen_event seen.event).verdict (sent judged) by.0 in
     record {
       next = next T e seen (sent judged ∷ []) event by.0;
@@ -55,10 +55,10 @@ completes_judged T e seen judged is some =
 pub completes_none : (T : List Entry) (e : Entry) (seen : Seen) → IsSeen T e seen → seen.message ≡ None → messages MESSAGE_LIMIT (T ++ e ∷ []) ≡ messages MESSAGE_LIMIT T
 completes_none T e seen is none =
     let M = messages MESSAGE_LIMIT T in
-    next T e seen [] is.event (subst (IsJudgedOf M (told_message seen.dir (seen_event seen.event).verdict)) none is.message) ∙ append-nil M
+    next T e seen [] is.event (subst (IsJudgmentOf M (told_message seen.dir (seen_event seen.event).verdict)) none is.message) ∙ append-nil M
 
 pub tells_no_message : (T : List Entry) (e : Entry) (seen : Seen) → IsSeen T e seen → seen.message ≡ None → told_message e.dir (verdict MESSAGE_LIMIT T e).verdict ≡ []
 tells_no_message T e seen is none =
     ap (λ d. told_message d (verdict MESSAGE_LIMIT T e).verdict) is.event.dir
     ∙ ap (λ (x : EventValue). told_message seen.dir x.verdict) (sym is.event.did)
-    ∙ subst (IsJudgedOf (messages MESSAGE_LIMIT T) (told_message seen.dir (seen_event seen.event).verdict)) none is.message
+    ∙ subst (IsJudgmentOf (messages MESSAGE_LIMIT T) (told_message seen.dir (seen_event seen.event).verdict)) none is.message

@@ -9,8 +9,8 @@ written_all old text new rest is none =
     is.wrote ∙ ap (λ x. old ++ x) (sym (is.parts ∙ ap (λ x. is.front ++ x) none ∙ append-nil is.front))
 
 -- a front of the rest was written
-pub front_more : (old text mid block later new : List ℕ) → IsWritten old text mid (block ++ later) → HasFront mid block new → HasFront old text new
-front_more old text mid block later new is more = record {
+pub front_more : (old text mid held later new : List ℕ) → IsWritten old text mid (held ++ later) → HasFront mid held new → HasFront old text new
+front_more old text mid held later new is more = record {
   front = is.front ++ more.front;
   rest = more.rest ++ later;
   parts = is.parts ∙ ap (λ x. is.front ++ (x ++ later)) more.parts ∙ ap (λ x. is.front ++ x) (append_assoc more.front more.rest later)
@@ -18,18 +18,18 @@ front_more old text mid block later new is more = record {
   wrote = more.wrote ∙ ap (λ x. x ++ more.front) is.wrote ∙ append_assoc old is.front more.front;
 }
 
--- the block before the rest was written
-pub block_written : (old text mid block later new : List ℕ) → IsWritten old text mid (block ++ later) → new ≡ mid ++ block → IsWritten old text new later
-block_written old text mid block later new is more = record {
-  front = is.front ++ block;
-  parts = is.parts ∙ sym (append_assoc is.front block later);
-  wrote = more ∙ ap (λ x. x ++ block) is.wrote ∙ append_assoc old is.front block;
+-- what was held before the rest was written
+pub held_written : (old text mid held later new : List ℕ) → IsWritten old text mid (held ++ later) → new ≡ mid ++ held → IsWritten old text new later
+held_written old text mid held later new is more = record {
+  front = is.front ++ held;
+  parts = is.parts ∙ sym (append_assoc is.front held later);
+  wrote = more ∙ ap (λ x. x ++ held) is.wrote ∙ append_assoc old is.front held;
 }
 
-pub block_ended : {A E : Type 0} (result : Result A E) (old text mid block new : List ℕ) → IsWritten old text mid (block ++ [])
-    → HasWritten result mid block new → HasWritten result old text new
-block_ended (Ok value) old text mid block new is wrote = written_all old text new [] (block_written old text mid block [] new is wrote) refl
-block_ended (Err fault) old text mid block new is wrote = front_more old text mid block [] new is wrote
+pub held_ended : {A E : Type 0} (result : Result A E) (old text mid held new : List ℕ) → IsWritten old text mid (held ++ [])
+    → HasWritten result mid held new → HasWritten result old text new
+held_ended (Ok value) old text mid held new is wrote = written_all old text new [] (held_written old text mid held [] new is wrote) refl
+held_ended (Err fault) old text mid held new is wrote = front_more old text mid held [] new is wrote
 
 -- the rest in other words
 pub rest_along : (old text new rest other : List ℕ) → IsWritten old text new rest → rest ≡ other → IsWritten old text new other
@@ -67,7 +67,7 @@ written_behind old a b mid held new rest is more = record {
 pub gathered_written : {A E : Type 0} (result : Result A E) (old text mid held new : List ℕ) → IsWritten old text mid held
     → HasWritten result mid held new → HasWritten result old text new
 gathered_written result old text mid held new is wrote =
-    block_ended result old text mid held new (rest_along old text mid held (held ++ []) is (sym (append-nil held))) wrote
+    held_ended result old text mid held new (rest_along old text mid held (held ++ []) is (sym (append-nil held))) wrote
 
 -- what was held was written, and then the text at once
 pub gathered_at_once : {A E : Type 0} (result : Result A E) (old held mid text new rest : List ℕ) → mid ≡ old ++ held → rest ≡ []

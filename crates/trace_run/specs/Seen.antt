@@ -6,8 +6,8 @@ use Rattle.isotp_receive.specs.declared.event.Event.{Event}
 use Rattle.isotp_receive.specs.EventSeen.{seen_event}
 use Rattle.isotp_receive.specs.Trace.{Entry}
 use Rattle.isotp_receive.specs.Verdict.{messages, told_message, verdict}
-use Rattle.uds_exchange.specs.Judging.{IsJudgedOf}
-use Rattle.trace_run.specs.Told.{Glimpse as GlimpseValue}
+use Rattle.uds_exchange.specs.Judging.{IsJudgmentOf}
+use Rattle.trace_run.specs.Told.{GlimpseValue}
 use Rattle.trace_run.specs.declared.machine.Glimpse.{Glimpse}
 use Rattle.trace_run.specs.declared.machine.Seen.{Seen}
 
@@ -22,7 +22,7 @@ pub record IsEventOf (T : List Entry) (e : Entry) (at_line at_micros : ℕ) (sen
 -- This was seen of it: what it did, and the message that it completed, if it completed one, as it is judged behind those before.
 pub record IsSeen (T : List Entry) (e : Entry) (seen : Seen) : Type 0 where
   pub event : IsEventOf T e seen.line seen.micros seen.dir seen.event
-  pub message : IsJudgedOf (messages MESSAGE_LIMIT T) (told_message seen.dir (seen_event seen.event).verdict) seen.message
+  pub message : IsJudgmentOf (messages MESSAGE_LIMIT T) (told_message seen.dir (seen_event seen.event).verdict) seen.message
 
 -- what is seen of a source, without where its bytes lie in memory
 abbrev pub glimpse_value : Glimpse → GlimpseValue

@@ -1,5 +1,9 @@
 -- What is answered and written by a run that tells something of each frame of a log as it comes, and something at the end:
--- one statement over any script. A command says which script is its own.
+-- one statement over any script. A command says which script is its own. Of lines that were read
+--   `told_of_lines` is what is told of their frames,
+--   `whole_of_lines` that, and what is told at the end,
+--   `refusal_of_lines` what is told where behind them something refuses the log,
+--   `told_and_refusal_of_lines` that, behind what is told of their frames.
 use Rattle.std.specs.Prelude.{◌≡◌, ◌≢◌, ℕ, ◌-◌, ◌≤◌, List, [], ◌∷◌, ◌++◌, Option, Result, Ok, Err, IfErr, length, true, ◌⊎◌, ◌<◌, Bool, false, ⊤}
 use Rattle.can_log.specs.declared.frame.Stamped.{Stamped}
 use Rattle.isotp_receive.specs.Trace.{Entry}
@@ -23,41 +27,35 @@ use Rattle.trace_log.specs.Devices.{AgreesWith, bytes_given, ReadFrom, WroteTo}
 use Rattle.trace_log.specs.Needing.{HasFrame, IsKeptForMessage, NeedsMemoryToReceive}
 use Rattle.trace_log.specs.Refusal.{announces_within, HasNoBadPlaceWithin, IsNotRefusedWithin}
 
--- What a command tells: of a frame, by the frames before it; at the end, by all frames and the counts; and where a line
--- or the limit refuses the log, by the frames and the counts of the lines before, and by the reason. A strict one
+-- What a command tells: of a frame, by the frames before it; and at the end, by all frames and the counts. A strict one
 -- refuses a log for a first frame that announces a message above the limit.
 pub record Script : Type 0 where
   pub strict : Bool
   pub word : List Entry → Entry → List ℕ
   pub last : List Entry → Summary → List ℕ
-  pub refused : List Entry → Summary → Fault → List ℕ
+
+-- what it tells where a line or the limit refuses the log: by the frames and the counts of the lines before, and by the
+-- reason
+abbrev pub Refusal : Type 0
+Refusal = List Entry → Summary → Fault → List ℕ
+
+-- nothing
+abbrev pub tells_no_refusal : Refusal
+tells_no_refusal T summary why = []
 
 -- What is seen of a source where a log is refused: its first bytes, as many as it keeps, and whether it is over.
-pub record Glimpse : Type 0 where
+pub record GlimpseValue : Type 0 where
   pub first : List ℕ
   pub is_over : Bool
 
 -- of this source
-abbrev pub glimpse_of : {R : Type 0} → SourceGhosts R → R → Glimpse
+abbrev pub glimpse_of : {R : Type 0} → SourceGhosts R → R → GlimpseValue
 glimpse_of source after = record { first = source.first after; is_over = source.is_over after }
-
--- what is told of a refusal, by that too
-abbrev pub Refusal : Type 0
-Refusal = List Entry → Summary → Fault → Glimpse → List ℕ
-
--- nothing
-abbrev pub tells_no_refusal : Refusal
-tells_no_refusal T summary why glimpse = []
-
--- the script with that of a refusal
-abbrev pub told_with : Script → Refusal → Glimpse → Script
-told_with script refusal glimpse = record script { refused = λ T summary why. refusal T summary why glimpse }
 
 -- A script that tells nothing.
 pub record TellsNothing (script : Script) : Type 0 where
   pub of_frames : (T : List Entry) (e : Entry) → script.word T e ≡ []
   pub at_the_end : (T : List Entry) (summary : Summary) → script.last T summary ≡ []
-  pub of_refusals : (T : List Entry) (summary : Summary) (why : Fault) → script.refused T summary why ≡ []
 
 -- what is told of these frames, where the frames `past` came before them
 abbrev pub told_after : (List Entry → Entry → List ℕ) → List Entry → List Entry → List ℕ
@@ -79,12 +77,13 @@ whole_of_lines script limit settings log meanings =
 
 -- what is told of a refusal for this reason, after lines that mean this; the counts are those of a log without a last
 -- line feed
-abbrev pub refusal_of_lines : Script → ℕ → Settings → Fault → List (Option Stamped) → List ℕ
-refusal_of_lines script limit settings why meanings = script.refused (trace settings meanings) (summary_of limit settings [] meanings) why
+abbrev pub refusal_of_lines : Refusal → ℕ → Settings → Fault → List (Option Stamped) → List ℕ
+refusal_of_lines refusal limit settings why meanings = refusal (trace settings meanings) (summary_of limit settings [] meanings) why
 
 -- and all that is told then
-abbrev pub refused_of_lines : Script → ℕ → Settings → Fault → List (Option Stamped) → List ℕ
-refused_of_lines script limit settings why meanings = told_of_lines script settings meanings ++ refusal_of_lines script limit settings why meanings
+abbrev pub told_and_refusal_of_lines : Script → Refusal → ℕ → Settings → Fault → List (Option Stamped) → List ℕ
+told_and_refusal_of_lines script refusal limit settings why meanings =
+    told_of_lines script settings meanings ++ refusal_of_lines refusal limit settings why meanings
 
 -- whether the fault is a refusal that is told: for a line, or for the limit of the log
 abbrev pub is_told : Fault → Bool
@@ -127,17 +126,17 @@ abbrev pub WritesTold : Script → ℕ → Settings → List ℕ → ℕ → Fau
 WritesTold script limit settings = WritesTextOfRead (passing script.strict limit settings) (told_of_lines script settings) settings
 
 -- and what is told of the refusal
-abbrev pub WritesRefused : Script → ℕ → Settings → List ℕ → ℕ → Fault → List ℕ → List ℕ → Type 0
-WritesRefused script limit settings log given why =
-    WritesTextOfRead (passing script.strict limit settings) (refused_of_lines script limit settings why) settings log given why
+abbrev pub WritesToldAndRefusal : Script → Refusal → ℕ → Settings → List ℕ → ℕ → Fault → List ℕ → List ℕ → Type 0
+WritesToldAndRefusal script refusal limit settings log given why =
+    WritesTextOfRead (passing script.strict limit settings) (told_and_refusal_of_lines script refusal limit settings why) settings log given why
 
 -- a front of what is told of these lines was
-abbrev pub WritesFrontOfFrames : Script → ℕ → Settings → List ℕ → ℕ → Fault → List ℕ → List ℕ → Type 0
-WritesFrontOfFrames script limit settings = WritesFrontOfRead (passing script.strict limit settings) (told_of_lines script settings) settings
-
--- a front of all that is told of them was
 abbrev pub WritesFrontOfTold : Script → ℕ → Settings → List ℕ → ℕ → Fault → List ℕ → List ℕ → Type 0
-WritesFrontOfTold script limit settings log = WritesFrontOfRead (passing script.strict limit settings) (whole_of_lines script limit settings log) settings log
+WritesFrontOfTold script limit settings = WritesFrontOfRead (passing script.strict limit settings) (told_of_lines script settings) settings
+
+-- a front of that and of what is told at the end was
+abbrev pub WritesFrontOfWhole : Script → ℕ → Settings → List ℕ → ℕ → Fault → List ℕ → List ℕ → Type 0
+WritesFrontOfWhole script limit settings log = WritesFrontOfRead (passing script.strict limit settings) (whole_of_lines script limit settings log) settings log
 
 -- what may be answered at the end of a trace with these counts
 abbrev pub Answering : Type 0 → Type 1
@@ -155,15 +154,17 @@ Needing = List Entry → Entry → Type 0
 abbrev pub needs_none : Needing
 needs_none T e = ⊥
 
--- What a run knows of a command: what it tells, what it may answer, and for which frames it may be refused memory.
+-- What a run knows of a command: what it tells, of a refusal too, what it may answer, and for which frames it may be
+-- refused memory.
 pub record Command (A : Type 0) : Type 1 where
   pub script : Script
+  pub refusal : Refusal
   pub answers : Answering A
   pub needs : Needing
 
--- the command of this script, these answers and these needs
-abbrev pub command : {A : Type 0} → Script → Answering A → Needing → Command A
-command script answers needs = record { script = script; answers = answers; needs = needs }
+-- the command of this script, this text of a refusal, these answers and these needs
+abbrev pub command : {A : Type 0} → Script → Refusal → Answering A → Needing → Command A
+command script refusal answers needs = record { script = script; refusal = refusal; answers = answers; needs = needs }
 
 -- the log can be read to its end, this is answered there, and all that is told of it was written
 abbrev pub EndsWith : {A : Type 0} → Script → Answering A → ℕ → Settings → List ℕ → ℕ → Result A Stop → List ℕ → List ℕ → Type 0
@@ -185,37 +186,37 @@ pub record EndsUnwritten (script : Script) (limit : ℕ) (settings : Settings) (
   pub front : HasFront old (whole_of_lines script limit settings log meanings) new
 
 -- A refusal that is told refuses the log, and something is told of it: of all that is told then, a front was written.
-pub record RefusesUnwritten (script : Script) (limit : ℕ) (settings : Settings) (log : List ℕ) (given : ℕ) (old new : List ℕ) : Type 0 where
+pub record RefusesUnwritten (script : Script) (refusal : Refusal) (limit : ℕ) (settings : Settings) (log : List ℕ) (given : ℕ) (old new : List ℕ) : Type 0 where
   pub why : Fault
   pub tells : is_told why ≡ true
   pub refused : IsUnreadFor script.strict limit settings log why
   pub meanings : List (Option Stamped)
   pub read : AreReadBefore (passing script.strict limit settings) settings log given why meanings
-  pub some : 0 < length (refusal_of_lines script limit settings why meanings)
-  pub front : HasFront old (refused_of_lines script limit settings why meanings) new
+  pub some : 0 < length (refusal_of_lines refusal limit settings why meanings)
+  pub front : HasFront old (told_and_refusal_of_lines script refusal limit settings why meanings) new
 
 -- writing failed: while the log was read, where something was told of it, or at its end; or where it is refused
-abbrev pub FailsToTell : Script → ℕ → Settings → List ℕ → ℕ → List ℕ → List ℕ → Type 0
-FailsToTell script limit settings log given old new =
-    (WritesFrontOfTold script limit settings log given Write old new × (HasToldSome script limit settings log given ⊎ EndsUnwritten script limit settings log old new))
-    ⊎ RefusesUnwritten script limit settings log given old new
+abbrev pub FailsToTell : Script → Refusal → ℕ → Settings → List ℕ → ℕ → List ℕ → List ℕ → Type 0
+FailsToTell script refusal limit settings log given old new =
+    (WritesFrontOfWhole script limit settings log given Write old new × (HasToldSome script limit settings log given ⊎ EndsUnwritten script limit settings log old new))
+    ⊎ RefusesUnwritten script refusal limit settings log given old new
 
 -- What is answered on a log, of which `given` bytes were given, and what is then written where `old` was before: all
 -- that is told of one that can be read, and an answer or that it is too long; what is told of the lines read before,
 -- where it can't be, or reading failed, and behind it what is told of a refusal for a line or the limit; and a front of
 -- what is told where writing failed or memory was refused.
-abbrev pub AnswersTold : {A : Type 0} → Script → Answering A → ℕ → Settings → List ℕ → ℕ → Result A Fault → List ℕ → List ℕ → Type 0
-AnswersTold script answers limit settings log given (Ok value) old new = EndsWith script answers limit settings log given (Ok value) old new
-AnswersTold script answers limit settings log given (Err OutputLimit) old new = EndsWith script answers limit settings log given (Err stop.OutputLimit) old new
-AnswersTold script answers limit settings log given (Err (BadLine line column)) old new =
-    IsUnreadFor script.strict limit settings log (BadLine line column) × WritesRefused script limit settings log given (BadLine line column) old new
-AnswersTold script answers limit settings log given (Err (Oversize line announced)) old new =
+abbrev pub AnswersTold : {A : Type 0} → Script → Refusal → Answering A → ℕ → Settings → List ℕ → ℕ → Result A Fault → List ℕ → List ℕ → Type 0
+AnswersTold script refusal answers limit settings log given (Ok value) old new = EndsWith script answers limit settings log given (Ok value) old new
+AnswersTold script refusal answers limit settings log given (Err OutputLimit) old new = EndsWith script answers limit settings log given (Err stop.OutputLimit) old new
+AnswersTold script refusal answers limit settings log given (Err (BadLine line column)) old new =
+    IsUnreadFor script.strict limit settings log (BadLine line column) × WritesToldAndRefusal script refusal limit settings log given (BadLine line column) old new
+AnswersTold script refusal answers limit settings log given (Err (Oversize line announced)) old new =
     IsUnreadFor script.strict limit settings log (Oversize line announced) × WritesTold script limit settings log given (Oversize line announced) old new
-AnswersTold script answers limit settings log given (Err LogLimit) old new =
-    IsUnreadFor script.strict limit settings log LogLimit × WritesRefused script limit settings log given LogLimit old new
-AnswersTold script answers limit settings log given (Err Read) old new = WritesTold script limit settings log given Read old new
-AnswersTold script answers limit settings log given (Err Write) old new = FailsToTell script limit settings log given old new
-AnswersTold script answers limit settings log given (Err Memory) old new = WritesFrontOfFrames script limit settings log given Memory old new
+AnswersTold script refusal answers limit settings log given (Err LogLimit) old new =
+    IsUnreadFor script.strict limit settings log LogLimit × WritesToldAndRefusal script refusal limit settings log given LogLimit old new
+AnswersTold script refusal answers limit settings log given (Err Read) old new = WritesTold script limit settings log given Read old new
+AnswersTold script refusal answers limit settings log given (Err Write) old new = FailsToTell script refusal limit settings log given old new
+AnswersTold script refusal answers limit settings log given (Err Memory) old new = WritesFrontOfTold script limit settings log given Memory old new
 
 -- What was written begins with what is told of the lines that had ended among all bytes given but the last 4,096.
 pub record TellsEagerly (script : Script) (limit : ℕ) (settings : Settings) (log : List ℕ) (given : ℕ) (old new : List ℕ) : Type 0 where
@@ -229,7 +230,7 @@ pub record Ran {R W A : Type 0} (source : SourceGhosts R) (target : TargetGhosts
     (before : R) (old : W) (result : Result A Fault) (after : R) (new : W) : Type 0 where
   -- what is answered and written, for each log with which the bytes that were read agree
   pub answer : (log : List ℕ) → AgreesWith source before after log
-      → AnswersTold of.script of.answers MESSAGE_LIMIT settings log (bytes_given source before after) result (target.taken old) (target.taken new)
+      → AnswersTold of.script of.refusal of.answers MESSAGE_LIMIT settings log (bytes_given source before after) result (target.taken old) (target.taken new)
   -- before each read what was told was written
   pub eager : (log : List ℕ) → AgreesWith source before after log
       → TellsEagerly of.script MESSAGE_LIMIT settings log (bytes_given source before after) (target.taken old) (target.taken new)

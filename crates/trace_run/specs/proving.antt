@@ -1,5 +1,6 @@
 -- Devices of proof, apart from the definitions that the promises are made of.
 pub mod Gathering
 pub mod Carrying
+pub mod PageSinks
 pub mod Telling
-pub mod Drains
+pub mod Ending

@@ -1,15 +1,16 @@
 //! A log told by a machine: where a run reads, writes and fails.
-ghost use Rattle.std.specs.Prelude.{◌≡◌, ℕ, List, [], length, Err, Option, false};
+ghost use Rattle.std.specs.Prelude.{◌≡◌, ℕ, List, [], Err, Option, false};
 ghost use Rattle.can_log.specs.declared.frame.Stamped.{Stamped as StampedValue};
 ghost use Rattle.isotp_receive.specs.Trace.{Entry};
 ghost use Rattle.trace_io.specs.Counted.{IsLowCount};
-ghost use Rattle.trace_run.specs.proving.Carrying.{Begins, CarriesPage, SettlesPageAs, EndsTelling, GivesUp, RefusesTelling};
+ghost use Rattle.trace_run.specs.proving.Carrying.{CarriesPage};
+ghost use Rattle.trace_run.specs.proving.Ending.{Begins, SettlesPageAs, EndsTelling, GivesUp, RefusesTelling};
 ghost use Rattle.trace_run.specs.proving.Telling.{HasTold};
 ghost use Rattle.trace_log.specs.proving.Receiving.{Receives};
 ghost use Rattle.trace_log.specs.Settings.{Settings};
-ghost use Rattle.trace_log.specs.Summing.{ends_in_line_feed};
+ghost use Rattle.trace_log.specs.Summing as Spec;
 ghost use Rattle.trace_run.specs.Seen.{glimpse_value};
-ghost use Rattle.trace_run.specs.Told.{Ran, RanLenient, command, glimpse_of, told_with};
+ghost use Rattle.trace_run.specs.Told.{Ran, RanLenient, command, glimpse_of};
 ghost use Rattle.trace_log.specs.Trace.{trace};
 ghost use Rattle.trace_run.specs.declared.machine.Stop.TheVariants.{OutputLimit};
 ghost use Rattle.trace_log.specs.declared.summary.Summary.{Summary as SummaryValue};
@@ -18,7 +19,6 @@ ghost use Rattle.trace_log.specs.Devices.{HasLowCounts};
 use crate::machine::{Glimpse, Machine};
 use crate::page::Page;
 use crate::receiver::Receiver;
-use crate::summing::sum_up;
 use crate::telling::{Telling, tell_end, tell_refusal};
 use isotp_receive::Pair;
 use std::alloc::Global;
@@ -39,13 +39,14 @@ pub fn run<M: Machine + Drop, R: Source, W: Target>(
     requires reader { HasLowCounts R.Source reader.old }
     requires writer { IsLowCount (W.failures writer.old) }
     ensures ran { Ran R.Source W.Target
-        (command (told_with (M.script machine) (M.refusal machine) (glimpse_of R.Source reader.new)) (M.answers machine) (M.needs machine))
+        (command (M.script machine) (M.refusal machine (glimpse_of R.Source reader.new))
+        (M.answers machine) (M.needs machine))
         config.now reader.old writer.old result reader.new writer.new }
 {
     let pair = Pair::new(alloc);
     let mut receiver = Receiver::start(config, pair, Telling::start(machine));
     match feed_lines(config.max_bytes(), reader, &mut receiver, writer) {
-        Ok(ended) => finish(receiver, ended, writer),
+        Ok(ends_in_line_feed) => finish(receiver, ends_in_line_feed, writer),
         Err(fault) => Err(give_up(fault, Glimpse::of(reader), receiver, writer)),
     }
 }
@@ -64,21 +65,24 @@ pub fn run_lenient<M: Machine + Drop, R: Source, W: Target>(
     requires reader { HasLowCounts R.Source reader.old }
     requires writer { IsLowCount (W.failures writer.old) }
     ensures ran { RanLenient R.Source W.Target
-        (command (told_with (M.script machine) (M.refusal machine) (glimpse_of R.Source reader.new)) (M.answers machine) (M.needs machine))
+        (command (M.script machine) (M.refusal machine (glimpse_of R.Source reader.new))
+        (M.answers machine) (M.needs machine))
         config.now reader.old writer.old result reader.new writer.new }
 {
     run(alloc, config, machine, reader, writer)
 }
 
-/// Ends a run on a fault, and answers what that is called: the machine is told of a line or a limit that refuses the log, and
-/// what was said is written. A fault of a device stands as it is, and nothing is written.
+/// Ends a run on a fault, and answers what that is called: the machine is told of a line or a limit that refuses the log,
+/// and what was said is written. A fault of a device stands as it is, and nothing is written.
 fn give_up<M: Machine + Drop, W: Target>(
     fault: Fault,
     source: Glimpse<'_>,
     receiver: Receiver<M, W>,
     target: &mut W,
 ) -> Fault
-    ensures { GivesUp M.stands (λ start. told_with (M.script start) (M.refusal start) (glimpse_value source.entry)) W.Target fault receiver target.old result target.new }
+    ensures { GivesUp M.stands
+        (λ machine_start. M.refusal machine_start (glimpse_value source.entry))
+        W.Target fault receiver target.old result target.new }
 {
     match fault {
         Fault::BadLine { .. } | Fault::LogLimit => refuse(fault, source, receiver, target),
@@ -109,22 +113,17 @@ fn refuse<M: Machine, W: Target>(
     receiver: Receiver<M, W>,
     target: &mut W,
 ) -> Fault
-    ensures { RefusesTelling M.stands (λ start. told_with (M.script start) (M.refusal start) (glimpse_value source.entry)) W.Target why receiver target.old result target.new }
+    ensures { RefusesTelling M.stands
+        (λ machine_start. M.refusal machine_start (glimpse_value source.entry))
+        W.Target why receiver target.old result target.new }
 {
-    let Receiver {
-        pair,
-        lines,
-        counts,
-        telling,
-        ..
-    } = receiver;
+    let summary = receiver.summary(false);
+    let Receiver { telling, .. } = receiver;
     let Telling {
         machine,
-        judge,
         mut page,
         ..
     } = telling;
-    let summary = sum_up(&pair, lines, counts, &judge, false);
     tell_refusal(machine, target, &mut page, &summary, why, source);
     settle_before(why, target, &mut page)
 }
@@ -143,31 +142,29 @@ fn settle_before<W: Target>(fault: Fault, target: &mut W, page: &mut Page) -> Fa
 /// Writes what is said at the end, and answers. The log ended in a line feed, or not.
 fn finish<M: Machine, W: Target>(
     receiver: Receiver<M, W>,
-    ended: bool,
+    ends_in_line_feed: bool,
     target: &mut W,
 ) -> Result<M::Answer, Fault>
-    ensures ends { (start : W) (first : M) (settings : Settings) (log : List ℕ) (meanings : List (Option StampedValue))
-        → Receives settings meanings receiver.pair receiver.lines receiver.counts → ended ≡ ends_in_line_feed log
-        → HasTold M.stands M.script W.Target start first (trace settings meanings) receiver.telling target.old
-        → EndsTelling W.Target (M.script first) (M.answers first) start settings log meanings result target.new }
-    ensures more { (mid : W) (said : List ℕ) (first : M) (settings : Settings) (meanings : List (Option StampedValue))
-        → Receives settings meanings receiver.pair receiver.lines receiver.counts → M.stands first (trace settings meanings) receiver.telling.machine
+    ensures ends { (target_start : W) (machine_start : M)
+        (settings : Settings) (log : List ℕ) (meanings : List (Option StampedValue))
+        → Receives settings meanings receiver.pair receiver.lines receiver.counts
+        → ends_in_line_feed ≡ Spec.ends_in_line_feed log
+        → HasTold M.stands M.script W.Target target_start machine_start (trace settings meanings) receiver.telling target.old
+        → EndsTelling W.Target (M.script machine_start) (M.answers machine_start) target_start
+        settings log meanings result target.new }
+    ensures more { (mid : W) (said : List ℕ) (machine_start : M)
+        (settings : Settings) (meanings : List (Option StampedValue))
+        → Receives settings meanings receiver.pair receiver.lines receiver.counts
+        → M.stands machine_start (trace settings meanings) receiver.telling.machine
         → CarriesPage W.Target mid said receiver.telling.page target.old → Begins (W.taken mid) (W.taken target.new) }
 {
-    let Receiver {
-        pair,
-        lines,
-        counts,
-        telling,
-        ..
-    } = receiver;
+    let summary = receiver.summary(ends_in_line_feed);
+    let Receiver { pair, telling, .. } = receiver;
     let Telling {
         machine,
-        judge,
         mut page,
         ..
     } = telling;
-    let summary = sum_up(&pair, lines, counts, &judge, ended);
     let answer = tell_end(machine, target, &mut page, &pair, &summary);
     if !page.settle(target) {
         return Err(Fault::Write);

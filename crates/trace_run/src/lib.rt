@@ -4,11 +4,20 @@
 //! bytes -> Source -> feed -> lines -> receiver -> telling -> machine -> page -> Target
 //! ```
 //!
-//! `feed` and `lines` (of `trace_log`) hand on what each line means. `receiver` knows the two directions, receives
-//! their frames, counts, and hands on what each frame did. `telling` has the message judged that a frame completed, and
-//! hands the [`Machine`] both, as one [`Seen`]. The machine says text. The text goes onto a `page`, which is written where
-//! it is full and before more is read. The machine sees no device: [`run`] (`driver`) joins the two ends, and makes each
-//! fault of theirs one of [`Fault`](trace_log::Fault).
+//! A frame goes this way, and each call hands on what it found:
+//!
+//! - `feed` and `lines` (of `trace_log`): what each line means;
+//! - `Receiver::take`: of which side the frame is, if it is of one;
+//! - `Receiver::receive`: what it did to the receptions;
+//! - `hand_on`: the same, by ways of their own for what most frames do;
+//! - `count_and_tell`: it is counted;
+//! - `Telling::take`: the message that it completed is judged, and a run may stop for its length;
+//! - `tell`: the [`Machine`] is handed all of it as one [`Seen`], beside the page as its sink;
+//! - `Machine::event`: the command says text;
+//! - `Page::put`: the text goes onto a page, which is written where it is full and before more is read.
+//!
+//! The machine sees no device: [`run`] (`driver`) joins the two ends, and makes each fault of theirs one of
+//! [`Fault`](trace_log::Fault).
 //!
 //! Contracts keep these words apart: a frame is *told* to a machine, which *says* text; a page *carries* what was said
 //! and is not written; and where a page is *settled*, that is written, or writing failed.
@@ -17,8 +26,8 @@
 //! nothing.
 #![tactic(auto)]
 
-mod block;
 mod driver;
+mod held_text;
 mod machine;
 mod nowhere;
 mod page;

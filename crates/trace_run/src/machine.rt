@@ -5,7 +5,7 @@ ghost use Rattle.isotp_receive.specs.Capacities.{KeepsWithin};
 ghost use Rattle.isotp_receive.specs.StandingReception.{receptions_after};
 ghost use Rattle.isotp_receive.specs.Trace.{Entry};
 ghost use Rattle.trace_run.specs.Seen.{IsSeen, glimpse_value};
-ghost use Rattle.trace_run.specs.Told.{Refusal, Script};
+ghost use Rattle.trace_run.specs.Told.{GlimpseValue, Refusal, Script, tells_no_refusal};
 ghost use Rattle.trace_run.specs.declared.machine.Stop.{Stop as StopValue};
 ghost use Rattle.trace_log.specs.declared.fault.Fault.TheVariants.{OutputLimit};
 ghost use Rattle.trace_log.specs.declared.summary.Summary.{Summary as SummaryValue};
@@ -72,8 +72,8 @@ impl<'a> Glimpse<'a> {
     }
 }
 
-/// A command's machine. It is handed what each frame did ([`Seen`]), in order, and the end or why the log is refused, and says its
-/// text. It sees no source and no target.
+/// A command's machine. It is handed what each frame did ([`Seen`]), in order, and the end or why the log is refused, and
+/// says its text. It sees no source and no target.
 pub trait Machine {
     /// What it answers at the end.
     type Answer: Drop;
@@ -81,12 +81,11 @@ pub trait Machine {
     /// What it is after a trace, by what it was at the start.
     ghost stands: { Self → List Entry → Self → Type 0 };
 
-    /// What it says, by what it was at the start. Of a refusal a run takes what `refusal` says, and not what this has of
-    /// one.
+    /// What it says, by what it was at the start.
     ghost script: { Self → Script };
 
-    /// What it says where the log is refused, by what it was at the start.
-    ghost refusal: { Self → Refusal };
+    /// What it says where the log is refused, by what it was at the start, and by what is then seen of the source.
+    ghost refusal: { Self → GlimpseValue → Refusal } = { λ _ _. tells_no_refusal };
 
     /// What it may answer at the end of a trace with these counts, by what it was at the start.
     ghost answers: { Self → List Entry → SummaryValue → Result Self.Answer StopValue → Type 0 };
@@ -96,14 +95,18 @@ pub trait Machine {
 
     /// Whether a first frame that announces a message above the limit refuses the log, and is not handed to it.
     fn is_strict(&self) -> bool
-        ensures { (start : Self) (T : List Entry) → stands start T self.now → result ≡ (script start).strict };
+        ensures { (machine_start : Self) (T : List Entry) → stands machine_start T self.now
+            → result ≡ (script machine_start).strict };
 
     /// Takes what the next frame of the trace did. Where memory is refused, nothing is said.
     fn event<S: TextSink>(&mut self, seen: Seen<'_>, out: &mut S) -> Result<(), AllocError>
-        ensures ok { OnOk result ((start : Self) (T : List Entry) (e : Entry) → IsSeen T e seen.entry → stands start T self.old
-            → stands start (T ++ e ∷ []) self.new × S.says out.old ((script start).word T e) out.new) }
-        ensures err { OnErr result ((start : Self) (T : List Entry) → stands start T self.old → S.says out.old [] out.new) }
-        ensures needs { OnErr result ((start : Self) (T : List Entry) (e : Entry) → IsSeen T e seen.entry → stands start T self.old → needs start T e) };
+        ensures ok { OnOk result ((machine_start : Self) (T : List Entry) (e : Entry) → IsSeen T e seen.entry
+            → stands machine_start T self.old
+            → stands machine_start (T ++ e ∷ []) self.new × S.says out.old ((script machine_start).word T e) out.new) }
+        ensures err { OnErr result ((machine_start : Self) (T : List Entry) → stands machine_start T self.old
+            → S.says out.old [] out.new) }
+        ensures needs { OnErr result ((machine_start : Self) (T : List Entry) (e : Entry) → IsSeen T e seen.entry
+            → stands machine_start T self.old → needs machine_start T e) };
 
     /// Takes the end of the log: the receptions that stand, in no more memory than they may keep, and the counts.
     fn end<S: TextSink>(
@@ -112,14 +115,16 @@ pub trait Machine {
         summary: &Summary,
         out: &mut S,
     ) -> Result<Self::Answer, Stop>
-        ensures says { (start : Self) (T : List Entry) → stands start T self → pair.now.receptions ≡ receptions_after MESSAGE_LIMIT T
-            → KeepsWithin MESSAGE_LIMIT T pair.now
-            → S.says out.old ((script start).last T summary.now) out.new }
-        ensures answered { (start : Self) (T : List Entry) → stands start T self → pair.now.receptions ≡ receptions_after MESSAGE_LIMIT T
-            → answers start T summary.now result };
+        ensures says { (machine_start : Self) (T : List Entry) → stands machine_start T self
+            → pair.now.receptions ≡ receptions_after MESSAGE_LIMIT T → KeepsWithin MESSAGE_LIMIT T pair.now
+            → S.says out.old ((script machine_start).last T summary.now) out.new }
+        ensures answered { (machine_start : Self) (T : List Entry) → stands machine_start T self
+            → pair.now.receptions ≡ receptions_after MESSAGE_LIMIT T
+            → answers machine_start T summary.now result };
 
     /// Takes why the log is refused, where a line or the limit of the log refuses it, the counts of the lines before, and
     /// what is seen of the source. No event and no end follows. The counts are those of a log that ends in no line feed.
     fn refused<S: TextSink>(self, summary: &Summary, why: Fault, source: Glimpse<'_>, out: &mut S)
-        ensures says { (start : Self) (T : List Entry) → stands start T self → S.says out.old (refusal start T summary.now why (glimpse_value source.entry)) out.new };
+        ensures says { (machine_start : Self) (T : List Entry) → stands machine_start T self
+            → S.says out.old (refusal machine_start (glimpse_value source.entry) T summary.now why) out.new };
 }

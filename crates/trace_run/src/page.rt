@@ -1,51 +1,51 @@
 //! The page that text is gathered on, between a machine and the target.
-use crate::block::{Block, gather};
+use crate::held_text::{HeldText, gather};
 use trace_io::{MOST_FAILURES, Target, TextSink, write_all};
 
 /// Text that is still to be written, and whether writing has failed: nothing is written from then on.
 #[derive(Drop)]
 pub(crate) struct Page {
-    pub block: Block,
+    pub held: HeldText,
     pub failed: bool,
 }
 
 impl Page {
     ghost use Rattle.std.specs.Prelude.{◌≡◌, ◌<◌, [], ◌++◌, length, true, false};
-    ghost use Rattle.trace_run.specs.proving.Carrying.{SaysToPage, WritesPage, KeepsPage};
+    ghost use Rattle.trace_run.specs.proving.Carrying.{SaysToPage, SettlesPage, SaysNoMoreToPage};
 
     /// A page with nothing on it.
     pub(crate) fn new() -> Page
         ensures well { result.failed ≡ false }
-        ensures blank { result.block ≡ [] }
+        ensures blank { result.held ≡ [] }
     {
         Page {
-            block: Block::new(),
+            held: HeldText::new(),
             failed: false,
         }
     }
 
-    /// Puts a text on the page. Most texts find room there: so much stands where a text is said, and what else there is to do
-    /// stands apart.
+    /// Puts a text on the page. Most texts find room there: so much is inlined where a text is said, and what else there is
+    /// to do stands apart.
     #[inline(always)]
     fn put<W: Target>(&mut self, target: &mut W, text: &[u8])
         ensures { SaysToPage W.Target self.old target.old text.now self.new target.new }
     {
-        if !self.block.take(text) {
-            self.put_anew(target, text);
+        if !self.held.try_append(text) {
+            self.put_where_full(target, text);
         }
     }
 
-    /// Puts a text on a page that has no room for it: the page is filled with the front of it and written. So what this writes is
-    /// a whole page, or all that stood before a text that is longer than one.
+    /// Puts a text on a page that has no room for it: the page is filled with the front of it and written. So what this
+    /// writes is a whole page, or all that stood before a text that is longer than one.
     #[inline(never)]
-    fn put_anew<W: Target>(&mut self, target: &mut W, text: &[u8])
+    fn put_where_full<W: Target>(&mut self, target: &mut W, text: &[u8])
         requires { 0 < length text.now }
         ensures { SaysToPage W.Target self.old target.old text.now self.new target.new }
     {
         if self.failed || target.failures() > MOST_FAILURES {
             return;
         }
-        if let Err(_fault) = gather(target, &mut self.block, text) {
+        if let Err(_fault) = gather(target, &mut self.held, text) {
             self.failed = true;
         }
     }
@@ -55,14 +55,14 @@ impl Page {
     fn put_whole<W: Target>(&mut self, target: &mut W, text: &[u8])
         ensures { SaysToPage W.Target self.old target.old text.now self.new target.new }
     {
-        if !self.block.take(text) {
-            self.put_whole_anew(target, text);
+        if !self.held.try_append(text) {
+            self.put_whole_where_full(target, text);
         }
     }
 
     /// Puts such a text on a page that has no room for it: what is on the page is written first.
     #[inline(never)]
-    fn put_whole_anew<W: Target>(&mut self, target: &mut W, text: &[u8])
+    fn put_whole_where_full<W: Target>(&mut self, target: &mut W, text: &[u8])
         ensures { SaysToPage W.Target self.old target.old text.now self.new target.new }
     {
         // Where this fails, the page knows that, and writes no text.
@@ -71,20 +71,20 @@ impl Page {
     }
 
     /// Puts three texts on the page, one after another. Each is laid where it is to lie: put together first, they would be
-    /// stored in pieces and loaded at once, where store-to-load forwarding fails.
+    /// stored in pieces and loaded at once, by a covering load.
     #[inline(always)]
     fn put_three<W: Target>(&mut self, target: &mut W, first: &[u8], second: &[u8], third: &[u8])
         ensures { SaysToPage W.Target self.old target.old (first.now ++ second.now ++ third.now) self.new target.new }
     {
-        if !self.block.take_three(first, second, third) {
-            self.put_three_anew(target, first, second, third);
+        if !self.held.try_append_three(first, second, third) {
+            self.put_three_where_full(target, first, second, third);
         }
     }
 
-    /// Puts three texts on a page that has no room for them all: what is on the page is written first, so that the writes end
-    /// where they would if the three were one text. Texts that no page has room for are put one by one.
+    /// Puts three texts on a page that has no room for them all: what is on the page is written first, so that the writes
+    /// end where they would if the three were one text. Texts that no page has room for are put one by one.
     #[inline(never)]
-    fn put_three_anew<W: Target>(
+    fn put_three_where_full<W: Target>(
         &mut self,
         target: &mut W,
         first: &[u8],
@@ -95,7 +95,7 @@ impl Page {
     {
         // Where this fails, the page knows that, and writes no text.
         let _ = self.settle(target);
-        if self.block.take_three(first, second, third) {
+        if self.held.try_append_three(first, second, third) {
             return;
         }
         self.put(target, first);
@@ -105,48 +105,49 @@ impl Page {
 
     /// Writes what is on the page. Answers whether all that was said is written.
     pub(crate) fn settle<W: Target>(&mut self, target: &mut W) -> bool
-        ensures settled { WritesPage W.Target self.old target.old result target.new }
+        ensures settled { SettlesPage W.Target self.old target.old result target.new }
         ensures well { result ≡ true → self.new.failed ≡ false }
-        ensures blank { result ≡ true → self.new.block ≡ [] }
-        ensures no_more { KeepsPage W.Target self.old target.old self.new target.new }
+        ensures blank { result ≡ true → self.new.held ≡ [] }
+        ensures no_more { SaysNoMoreToPage W.Target self.old target.old self.new target.new }
     {
         if self.failed || target.failures() > MOST_FAILURES {
             return false;
         }
-        if self.block.is_empty() {
+        if self.held.is_empty() {
             return true;
         }
-        if let Err(_fault) = write_all(target, self.block.as_slice()) {
+        if let Err(_fault) = write_all(target, self.held.as_slice()) {
             self.failed = true;
             return false;
         }
-        self.block.clear();
+        self.held.clear();
         true
     }
 }
 
 /// A page beside the target that it is written to.
 #[derive(Drop)]
-pub(crate) struct Drain<'a, W> {
+pub(crate) struct PageSink<'a, W> {
     pub target: &'a mut W,
     pub page: &'a mut Page,
 }
 
-impl<'a, W: Target> TextSink for Drain<'a, W> {
+impl<'a, W: Target> TextSink for PageSink<'a, W> {
     ghost use Rattle.std.specs.Prelude.{◌≡◌};
     ghost use Rattle.std.proofs.Common.{refl, ◌∙◌};
     ghost use Rattle.trace_run.specs.proving.Carrying.{SaysToPage};
-    ghost use Rattle.trace_run.specs.proving.Drains.{speaks_nothing, speaks_onward};
+    ghost use Rattle.trace_run.specs.proving.PageSinks.{says_nothing, says_onward};
 
     ghost says = { λ s text t. (t.target.ghost_name ≡ s.target.ghost_name) × (t.page.ghost_name ≡ s.page.ghost_name)
         × SaysToPage W.Target s.page.now s.target.now text t.page.now t.target.now };
 
-    ghost nothing = { λ s. (refl, refl, speaks_nothing W.Target s.page.now.failed s.page.now.block s.target.now) };
+    ghost nothing = { λ s. (refl, refl, says_nothing W.Target s.page.now.failed s.page.now.held s.target.now) };
 
     ghost onward = { λ s m t a b one two. (
       two.0 ∙ one.0,
       two.1 ∙ one.1,
-      speaks_onward W.Target s.page.now.failed m.page.now.failed t.page.now.failed s.page.now.block m.page.now.block t.page.now.block s.target.now m.target.now t.target.now a b one.2 two.2,
+      says_onward W.Target s.page.now.failed m.page.now.failed t.page.now.failed s.page.now.held m.page.now.held
+          t.page.now.held s.target.now m.target.now t.target.now a b one.2 two.2,
     ) };
 
     #[inline(always)]

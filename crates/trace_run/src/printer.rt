@@ -3,7 +3,7 @@ ghost use Rattle.trace_run.specs.Printed.{Prints};
 ghost use Rattle.trace_run.specs.proving.Carrying.{SaysToPage};
 ghost use Rattle.trace_io.specs.Counted.{IsLowCount};
 
-use crate::page::{Drain, Page};
+use crate::page::{Page, PageSink};
 use text_parts::Part;
 use trace_io::Target;
 use trace_log::Fault;
@@ -26,6 +26,6 @@ pub fn print<P: Part, W: Target>(part: P, target: &mut W) -> Result<(), Fault>
 fn put<P: Part, W: Target>(part: P, target: &mut W, page: &mut Page)
     ensures { SaysToPage W.Target page.old target.old (P.text part) page.new target.new }
 {
-    let mut out = Drain { target, page };
+    let mut out = PageSink { target, page };
     part.say(&mut out);
 }

@@ -7,6 +7,7 @@ ghost use Rattle.trace_log.specs.Summing.{counted_more};
 ghost use Rattle.trace_log.specs.Feeding.{IsOfTaker};
 
 use crate::machine::Machine;
+use crate::summing::sum_up;
 use crate::telling::{FrameEvent, Telling};
 use can_log::{Stamped, Wanted};
 use direction::Dir;
@@ -25,10 +26,16 @@ pub(crate) struct Receiver<M, W> {
 }
 
 impl<M, W> Receiver<M, W> {
-    ghost use Rattle.std.specs.Prelude.{◌≡◌};
+    ghost use Rattle.std.specs.Prelude.{◌≡◌, ℕ, List, Option};
+    ghost use Rattle.can_log.specs.declared.frame.Stamped.{Stamped as StampedValue};
     ghost use Rattle.isotp_receive.specs.Capacities.{new_pair};
     ghost use Rattle.isotp_receive.specs.declared.TheConstants.{MESSAGE_LIMIT};
-    ghost use Rattle.trace_log.specs.proving.Receiving.{IsReceiverStart};
+    ghost use Rattle.trace_log.specs.Messages.{messages_of_lines};
+    ghost use Rattle.trace_log.specs.Settings.{Settings};
+    ghost use Rattle.trace_log.specs.Summing.{summary_of};
+    ghost use Rattle.trace_log.specs.Summing as Spec;
+    ghost use Rattle.trace_log.specs.proving.Receiving.{IsReceiverStart, Receives};
+    ghost use Rattle.uds_exchange.specs.Judging.{IsJudgeOf};
 
     /// Before the first line, with a pair that has received no frame and keeps no memory.
     pub(crate) fn start(config: &Config, pair: Pair, telling: Telling<M, W>) -> Receiver<M, W>
@@ -42,6 +49,23 @@ impl<M, W> Receiver<M, W> {
             counts: Summary::nothing(),
             telling,
         }
+    }
+
+    /// The summary of a log that was received to its end, and ended in a line feed or not.
+    pub(crate) fn summary(&self, ends_in_line_feed: bool) -> Summary
+        ensures { (settings : Settings) (log : List ℕ) (meanings : List (Option StampedValue))
+            → Receives settings meanings self.now.pair self.now.lines self.now.counts
+            → ends_in_line_feed ≡ Spec.ends_in_line_feed log
+            → IsJudgeOf (messages_of_lines MESSAGE_LIMIT settings meanings) self.now.telling.judge
+            → result ≡ summary_of MESSAGE_LIMIT settings log meanings }
+    {
+        sum_up(
+            &self.pair,
+            self.lines,
+            self.counts,
+            &self.telling.judge,
+            ends_in_line_feed,
+        )
     }
 }
 
@@ -87,7 +111,7 @@ impl<M: Machine, W: Target> LineTaker for Receiver<M, W> {
     }
 
     fn rest(&mut self, device: &mut W) -> bool {
-        self.telling.rest(device)
+        self.telling.settle(device)
     }
 
     fn take(&mut self, device: &mut W, line: u64, what: &Option<Stamped>) -> Result<(), Fault> {
@@ -145,9 +169,8 @@ impl<M: Machine, W: Target> Receiver<M, W> {
     }
 }
 
-/// Has what a frame did counted and told. Most frames complete a message or are stored for one. They go ways of their own: there
-/// the verdict is known when it is compiled, so that no reason is stored in pieces and loaded at once, where store-to-load
-/// forwarding fails.
+/// Has what a frame did counted and told. Most frames complete a message or are stored for one. They go ways of their own:
+/// there the verdict is known when it is compiled, so that no reason is stored in pieces, for a covering load.
 #[inline(always)]
 fn hand_on<M: Machine, W: Target>(
     counts: &mut Summary,

@@ -8,7 +8,8 @@ ghost use Rattle.uds_exchange.specs.Judging.{IsJudgeOf};
 ghost use Rattle.trace_log.specs.Settings.{Settings};
 ghost use Rattle.trace_log.specs.Messages.{messages_of_lines};
 ghost use Rattle.isotp_receive.specs.Events.{unfinished_in};
-ghost use Rattle.trace_log.specs.Summing.{ends_in_line_feed, summary_of};
+ghost use Rattle.trace_log.specs.Summing.{summary_of};
+ghost use Rattle.trace_log.specs.Summing as Spec;
 ghost use Rattle.trace_log.specs.proving.Receiving.{Receives};
 
 use direction::Dir;
@@ -23,18 +24,20 @@ pub(crate) fn sum_up(
     lines: u64,
     counts: Summary,
     judge: &Judge,
-    ended: bool,
+    ends_in_line_feed: bool,
 ) -> Summary
-    ensures { (settings : Settings) (log : List ℕ) (meanings : List (Option Stamped)) → Receives settings meanings pair.now lines counts
-        → ended ≡ ends_in_line_feed log
-        → IsJudgeOf (messages_of_lines MESSAGE_LIMIT settings meanings) judge.now → result ≡ summary_of MESSAGE_LIMIT settings log meanings }
+    ensures { (settings : Settings) (log : List ℕ) (meanings : List (Option Stamped))
+        → Receives settings meanings pair.now lines counts
+        → ends_in_line_feed ≡ Spec.ends_in_line_feed log
+        → IsJudgeOf (messages_of_lines MESSAGE_LIMIT settings meanings) judge.now
+        → result ≡ summary_of MESSAGE_LIMIT settings log meanings }
 {
     Summary {
         lines,
         frames: counts.tester_frames.saturating_add(counts.unit_frames),
         unfinished: unfinished(pair),
         pending: judge.removed(),
-        ends_in_line_feed: ended,
+        ends_in_line_feed,
         looks_exchanged: judge.sides().look_exchanged(),
         ..counts
     }
@@ -42,7 +45,8 @@ pub(crate) fn sum_up(
 
 /// How many receptions stand.
 fn unfinished(pair: &Pair) -> u64
-    ensures { (T : List Entry) → pair.now.receptions ≡ receptions_after MESSAGE_LIMIT T → result ≡ unfinished_in MESSAGE_LIMIT T }
+    ensures { (T : List Entry) → pair.now.receptions ≡ receptions_after MESSAGE_LIMIT T
+        → result ≡ unfinished_in MESSAGE_LIMIT T }
 {
     u64::from(pair.open(Dir::Tester).is_some()) + u64::from(pair.open(Dir::Unit).is_some())
 }

@@ -8,12 +8,13 @@ ghost use Rattle.isotp_receive.specs.Events.{announced_by};
 ghost use Rattle.isotp_receive.specs.StandingReception.{receptions_after};
 ghost use Rattle.isotp_receive.specs.Trace.{Entry};
 ghost use Rattle.isotp_receive.specs.Verdict.{told_message};
-ghost use Rattle.uds_exchange.specs.Judging.{HasJudged, IsJudgeOf, IsJudgedOf};
+ghost use Rattle.uds_exchange.specs.Judging.{HasCounted, IsJudgeOf, IsJudgmentOf};
 ghost use Rattle.trace_run.specs.Seen.{IsSeen, glimpse_value};
-ghost use Rattle.trace_run.specs.proving.Carrying.{SaysToPage, stops_for};
+ghost use Rattle.trace_run.specs.proving.Carrying.{SaysToPage};
+ghost use Rattle.trace_run.specs.proving.Telling.{stops_for};
 
 use crate::machine::{Glimpse, Machine, Seen, Stop};
-use crate::page::{Drain, Page};
+use crate::page::{Page, PageSink};
 use direction::Dir;
 use isotp_receive::{Event, Pair, Reason, Verdict};
 use std::alloc::AllocError;
@@ -37,7 +38,7 @@ pub(crate) struct Telling<M, W> {
     pub machine: M,
     pub judge: Judge,
     pub page: Page,
-    /// It has no target: each call is handed the same one.
+    /// It names the type of the target, which is `LineTaker::Device` of a receiver: each call is handed the target itself.
     pub target: PhantomData<W>,
 }
 
@@ -50,7 +51,7 @@ impl<M, W> Telling<M, W> {
         ensures machine { result.machine ≡ machine }
         ensures judged { IsJudgeOf [] result.judge }
         ensures well { result.page.failed ≡ false }
-        ensures blank { result.page.block ≡ [] }
+        ensures blank { result.page.held ≡ [] }
     {
         Telling {
             machine,
@@ -68,18 +69,20 @@ impl<M: Machine, W: Target> Telling<M, W> {
     ghost use Rattle.trace_log.specs.Feeding.{IsOfTaker};
 
     /// Writes what is due, before more is read. Answers whether it could.
-    pub(crate) fn rest(&mut self, target: &mut W) -> bool
-        ensures well { result ≡ true → (start : W) (first : M) (T : List Entry)
-            → HasTold M.stands M.script W.Target start first T self.old target.old
-            → HasWritten M.stands M.script W.Target start first T self.new false target.new × HasTold M.stands M.script W.Target start first T self.new target.new }
-        ensures wrong { result ≡ false → (start : W) (first : M) (T : List Entry)
-            → HasTold M.stands M.script W.Target start first T self.old target.old
-            → HasWritten M.stands M.script W.Target start first T self.new true target.new }
-        ensures sure { result ≡ true → (start : W) (first : M) (T : List Entry)
-            → HasTold M.stands M.script W.Target start first T self.old target.old
-            → HasWrittenAtLeast M.script W.Target start first T self.new target.new }
-        ensures kept { (start : W) (first : M) (earlier : List Entry) → HasWrittenAtLeast M.script W.Target start first earlier self.old target.old
-            → HasWrittenAtLeast M.script W.Target start first earlier self.new target.new }
+    pub(crate) fn settle(&mut self, target: &mut W) -> bool
+        ensures well { result ≡ true → (target_start : W) (machine_start : M) (T : List Entry)
+            → HasTold M.stands M.script W.Target target_start machine_start T self.old target.old
+            → HasWritten M.stands M.script W.Target target_start machine_start T self.new false target.new
+            × HasTold M.stands M.script W.Target target_start machine_start T self.new target.new }
+        ensures wrong { result ≡ false → (target_start : W) (machine_start : M) (T : List Entry)
+            → HasTold M.stands M.script W.Target target_start machine_start T self.old target.old
+            → HasWritten M.stands M.script W.Target target_start machine_start T self.new true target.new }
+        ensures sure { result ≡ true → (target_start : W) (machine_start : M) (T : List Entry)
+            → HasTold M.stands M.script W.Target target_start machine_start T self.old target.old
+            → HasWrittenAtLeast M.script W.Target target_start machine_start T self.new target.new }
+        ensures kept { (target_start : W) (machine_start : M) (earlier : List Entry)
+            → HasWrittenAtLeast M.script W.Target target_start machine_start earlier self.old target.old
+            → HasWrittenAtLeast M.script W.Target target_start machine_start earlier self.new target.new }
     {
         self.page.settle(target)
     }
@@ -98,7 +101,7 @@ impl<M: Machine, W: Target> Telling<M, W> {
             event,
         } = frame;
         let message = judged_message(&mut self.judge, dir, event.verdict);
-        match refusal(self.machine.is_strict(), event.verdict) {
+        match stops_for(self.machine.is_strict(), event.verdict) {
             Some(announced) => Err(Fault::Oversize { line, announced }),
             None => {
                 let seen = Seen {
@@ -114,13 +117,13 @@ impl<M: Machine, W: Target> Telling<M, W> {
     }
 }
 
-/// The message that a frame of this direction completed, judged. Laid in line, since most frames complete none.
+/// The message that a frame of this direction completed, judged. Inlined, since most frames complete none.
 #[inline(always)]
 fn judged_message<'a>(judge: &mut Judge, dir: Dir, verdict: Verdict<'a>) -> Option<Judged<'a>>
-    ensures next { (M : List Message) → length M < 2 ^ 62 → IsJudgeOf M judge.old
-        → IsJudgeOf (M ++ told_message dir (seen_verdict verdict.entry)) judge.new }
-    ensures judged { (M : List Message) → length M < 2 ^ 62 → HasJudged M judge.old
-        → IsJudgedOf M (told_message dir (seen_verdict verdict.entry)) result }
+    ensures next { (messages : List Message) → length messages < 2 ^ 62 → IsJudgeOf messages judge.old
+        → IsJudgeOf (messages ++ told_message dir (seen_verdict verdict.entry)) judge.new }
+    ensures judged { (messages : List Message) → length messages < 2 ^ 62 → HasCounted messages judge.old
+        → IsJudgmentOf messages (told_message dir (seen_verdict verdict.entry)) result }
 {
     match verdict {
         Verdict::Message(message) => Some(judge.take(dir, message)),
@@ -130,20 +133,20 @@ fn judged_message<'a>(judge: &mut Judge, dir: Dir, verdict: Verdict<'a>) -> Opti
 
 /// The length that a frame announced, where a run stops for that.
 #[inline(always)]
-fn refusal(strict: bool, verdict: Verdict<'_>) -> Option<u32>
+fn stops_for(strict: bool, verdict: Verdict<'_>) -> Option<u32>
     ensures { result ≡ stops_for strict (seen_verdict verdict.entry) }
 {
     if !strict {
         return None;
     }
     match verdict {
-        Verdict::Dropped(reason) => announced(reason),
+        Verdict::Dropped(reason) => announced_by(reason),
         Verdict::Message(_) | Verdict::Began | Verdict::Stored | Verdict::Flow => None,
     }
 }
 
 /// The length that a dropped frame announced, where it was dropped for that.
-fn announced(reason: Reason) -> Option<u32>
+fn announced_by(reason: Reason) -> Option<u32>
     ensures { result ≡ announced_by reason }
 {
     match reason {
@@ -165,14 +168,16 @@ fn tell<M: Machine, W: Target>(
     page: &mut Page,
     seen: Seen<'_>,
 ) -> Result<(), AllocError>
-    ensures ok { OnOk result ((start : M) (T : List Entry) (e : Entry) → IsSeen T e seen.entry → M.stands start T machine.old
-        → M.stands start (T ++ e ∷ []) machine.new
-        × SaysToPage W.Target page.old target.old ((M.script start).word T e) page.new target.new) }
-    ensures err { OnErr result ((start : M) (T : List Entry) → M.stands start T machine.old
+    ensures ok { OnOk result ((machine_start : M) (T : List Entry) (e : Entry) → IsSeen T e seen.entry
+        → M.stands machine_start T machine.old
+        → M.stands machine_start (T ++ e ∷ []) machine.new
+        × SaysToPage W.Target page.old target.old ((M.script machine_start).word T e) page.new target.new) }
+    ensures err { OnErr result ((machine_start : M) (T : List Entry) → M.stands machine_start T machine.old
         → SaysToPage W.Target page.old target.old [] page.new target.new) }
-    ensures needs { OnErr result ((start : M) (T : List Entry) (e : Entry) → IsSeen T e seen.entry → M.stands start T machine.old → M.needs start T e) }
+    ensures needs { OnErr result ((machine_start : M) (T : List Entry) (e : Entry) → IsSeen T e seen.entry
+        → M.stands machine_start T machine.old → M.needs machine_start T e) }
 {
-    let mut out = Drain { target, page };
+    let mut out = PageSink { target, page };
     machine.event(seen, &mut out)
 }
 
@@ -184,13 +189,14 @@ pub(crate) fn tell_end<M: Machine, W: Target>(
     pair: &Pair,
     summary: &Summary,
 ) -> Result<M::Answer, Stop>
-    ensures says { (start : M) (T : List Entry) → M.stands start T machine → pair.now.receptions ≡ receptions_after MESSAGE_LIMIT T
-        → KeepsWithin MESSAGE_LIMIT T pair.now
-        → SaysToPage W.Target page.old target.old ((M.script start).last T summary.now) page.new target.new }
-    ensures answered { (start : M) (T : List Entry) → M.stands start T machine → pair.now.receptions ≡ receptions_after MESSAGE_LIMIT T
-        → M.answers start T summary.now result }
+    ensures says { (machine_start : M) (T : List Entry) → M.stands machine_start T machine
+        → pair.now.receptions ≡ receptions_after MESSAGE_LIMIT T → KeepsWithin MESSAGE_LIMIT T pair.now
+        → SaysToPage W.Target page.old target.old ((M.script machine_start).last T summary.now) page.new target.new }
+    ensures answered { (machine_start : M) (T : List Entry) → M.stands machine_start T machine
+        → pair.now.receptions ≡ receptions_after MESSAGE_LIMIT T
+        → M.answers machine_start T summary.now result }
 {
-    let mut out = Drain { target, page };
+    let mut out = PageSink { target, page };
     machine.end(pair, summary, &mut out)
 }
 
@@ -203,9 +209,10 @@ pub(crate) fn tell_refusal<M: Machine, W: Target>(
     why: Fault,
     source: Glimpse<'_>,
 )
-    ensures says { (start : M) (T : List Entry) → M.stands start T machine
-        → SaysToPage W.Target page.old target.old (M.refusal start T summary.now why (glimpse_value source.entry)) page.new target.new }
+    ensures says { (machine_start : M) (T : List Entry) → M.stands machine_start T machine
+        → SaysToPage W.Target page.old target.old
+        (M.refusal machine_start (glimpse_value source.entry) T summary.now why) page.new target.new }
 {
-    let mut out = Drain { target, page };
+    let mut out = PageSink { target, page };
     machine.refused(summary, why, source, &mut out);
 }

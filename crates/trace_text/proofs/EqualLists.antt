@@ -17,7 +17,7 @@ use Rattle.trace_text.specs.declared.notation.Notation.TheVariants.{Text, Json}
 use Rattle.trace_text.specs.Json.{Value, string, object, Members, nothing, member, value_text}
 use Rattle.trace_text.specs.Json as json
 use Rattle.trace_text.specs.Laws.{IsOfBytes, EqualListsHaveEqualTexts}
-use Rattle.trace_text.specs.ListText.{answer_members, outcome_text, outcome_members, item_text, item_members, item_object, number_text, list_text, list_text_from}
+use Rattle.trace_text.specs.ItemLines.{answer_members, outcome_text, outcome_members, item_text, item_members, item_object, number_text, list_text, list_text_from}
 use Rattle.trace_text.specs.proving.OpenItems.{front_of_object}
 use Rattle.trace_text.specs.proving.Spelling.{later_then, members_then, value_then}
 use Rattle.trace_text.specs.Words.{bytes_text, direction_text, service_text, code_text}

@@ -9,7 +9,7 @@ use Rattle.trace_text.specs.declared.item_style.Numbering.TheVariants.{Hidden}
 use Rattle.trace_text.specs.declared.notation.Notation.{Notation}
 use Rattle.trace_text.specs.declared.notation.Notation.TheVariants.{Text, Json}
 use Rattle.trace_text.specs.Laws.{UnnumberedListsJoin}
-use Rattle.trace_text.specs.ListText.{item_line, written_line, list_text, list_text_from}
+use Rattle.trace_text.specs.ItemLines.{item_line, written_line, list_text, list_text_from}
 
 module _ (style : ItemStyle) where
   -- the lines of two lists of items

@@ -9,7 +9,7 @@ use Rattle.trace_text.specs.declared.item_style.Numbering.TheVariants.{Shown, Hi
 use Rattle.trace_text.specs.Json.{Members, nothing, member, object, object_line, value_text}
 use Rattle.trace_text.specs.Json as json
 use Rattle.trace_text.specs.Words.{bytes_text, direction_text, service_text, code_text}
-use Rattle.trace_text.specs.ListText.{outcome_members, item_members, item_object}
+use Rattle.trace_text.specs.ItemLines.{outcome_members, item_members, item_object}
 use Rattle.trace_text.specs.proving.Spelling.{later_then, members_then}
 use Rattle.trace_text.specs.proving.OpenItems.{open_item, open_object, open_outcome}
 use Rattle.trace_text.proofs.JsonTexts.{members_are, line_is}

@@ -3,7 +3,7 @@ use Rattle.std.proofs.Common.{◌≡◌, ℕ, List, [], ◌∷◌, ◌++◌, ref
 use Rattle.std.specs.Fmt.{decimal}
 use Rattle.std.specs.List.{flat_map}
 use Rattle.trace_log.specs.declared.summary.Count.{Count}
-use Rattle.trace_text.specs.ExplainText.{count_text, counts_text}
+use Rattle.trace_text.specs.RemarkLines.{count_text, counts_text}
 use Rattle.trace_log.specs.Summing.{seen_counts}
 use Rattle.trace_text.specs.Counts.{counts_between}
 

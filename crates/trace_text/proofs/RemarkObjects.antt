@@ -8,7 +8,7 @@ use Rattle.isotp_receive.specs.declared.event.Reason.TheVariants as reason
 use Rattle.trace_text.specs.declared.remark.Remark.TheVariants as remark
 use Rattle.trace_log.specs.declared.summary.Count.{Count}
 use Rattle.trace_log.specs.declared.summary.Summary.{Summary}
-use Rattle.trace_text.specs.ExplainText.{cause_text, count_members, named_reason, reason_members, remark_members}
+use Rattle.trace_text.specs.RemarkLines.{cause_text, count_members, named_reason, reason_members, remark_members}
 use Rattle.trace_text.specs.Json.{later_text, object_line}
 use Rattle.trace_text.specs.Words.{direction_text}
 use Rattle.trace_log.specs.Summing.{named_counts, seen_counts}

@@ -12,7 +12,7 @@ use Rattle.trace_text.specs.Json as json
 use Rattle.trace_text.specs.declared.item_style.ItemStyle.{ItemStyle}
 use Rattle.trace_text.specs.declared.item_style.Numbering.TheVariants.{Hidden}
 use Rattle.trace_text.specs.declared.notation.Notation.{Notation}
-use Rattle.trace_text.specs.ListText.{outcome_text, outcome_members, list_text}
+use Rattle.trace_text.specs.ItemLines.{outcome_text, outcome_members, list_text}
 use Rattle.trace_text.specs.Words.{role_text}
 
 -- Without numbers, the list of some items and others is the list of the ones and then that of the others.

@@ -1,7 +1,7 @@
 pub mod Words
 pub mod Counts
 pub mod Json
-pub mod ListText
-pub mod ExplainText
+pub mod ItemLines
+pub mod RemarkLines
 pub mod Laws
 pub mod proving

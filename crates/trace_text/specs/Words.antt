@@ -1,7 +1,9 @@
--- The words of the texts: bytes, and the names of directions, of roles, of services and of response codes.
-use Rattle.std.specs.Prelude.{ℕ, List, ◌++◌, codes, unwrap_or, option_map}
+-- The words of the texts: bytes, times, and the names of directions, of roles, of services and of response codes.
+use Rattle.std.specs.Prelude.{ℕ, ◌/◌, List, ◌++◌, codes, unwrap_or, option_map}
+use Rattle.std.specs.Fmt.{decimal}
 use Rattle.std.specs.List.{flat_map}
 use Rattle.can_log.specs.Digits.{hexadecimal}
+use Rattle.can_log.specs.Digits as digits
 use Rattle.direction.specs.declared.Dir.{Dir}
 use Rattle.direction.specs.declared.Dir.TheVariants as dir
 use Rattle.uds_exchange.specs.declared.step.Step.{Step}
@@ -11,6 +13,10 @@ use Rattle.uds_message.specs.Tables.{service_row, code_name}
 -- two hexadecimal digits for each byte, in upper case
 abbrev pub bytes_text : List ℕ → List ℕ
 bytes_text bytes = flat_map (hexadecimal 2) bytes
+
+-- the time of a frame: its seconds without leading zeros, a dot, and six digits
+abbrev pub stamp_text : ℕ → List ℕ
+stamp_text micros = decimal (micros / 1000000) ++ codes "." ++ digits.decimal 6 micros
 
 -- who sent a message
 abbrev pub direction_text : Dir → List ℕ

@@ -71,9 +71,9 @@ fn say_front<S: TextSink>(out: &mut S, eight: &[u8; 8], count: usize)
 
 /// Bytes as they are.
 #[derive(Clone, Copy)]
-pub struct Spelled<'a>(pub &'a [u8]);
+pub struct Verbatim<'a>(pub &'a [u8]);
 
-impl<'a> Part for Spelled<'a> {
+impl<'a> Part for Verbatim<'a> {
     ghost text = { λ bytes. bytes.0.now };
 
     #[inline(always)]

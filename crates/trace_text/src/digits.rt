@@ -1,6 +1,7 @@
 //! Numbers as digits.
 ghost use Rattle.std.specs.Prelude.{◌≡◌, ◌<◌, [], ◌∷◌, ◌++◌, ◌%◌, codes};
-ghost use Rattle.can_log.specs.Digits.{decimal, digit, hexadecimal};
+ghost use Rattle.can_log.specs.Digits.{decimal, hexadecimal};
+ghost use Rattle.can_log.specs.Digits as Spec;
 
 /// The hexadecimal digits.
 const DIGITS: [u8; 16] = *b"0123456789ABCDEF";
@@ -32,11 +33,11 @@ pub(crate) fn numbered_code(code: u8) -> [u8; 7]
 pub(crate) fn last_digit(number: u8) -> [u8; 1]
     ensures { result ≡ hexadecimal 1 number }
 {
-    [hexadecimal_digit(number % 16)]
+    [digit(number % 16)]
 }
 
-/// The last six decimal digits of a number, with two zeros behind them: eight bytes are one word, which is laid without
-/// being put together in memory.
+/// The last six decimal digits of a number, with two zeros behind them: eight bytes are one word, so one store, and no covering
+/// load behind it.
 #[tactic(auto, unfolding(can_log::specs::Digits::digits))]
 pub(crate) fn six_decimals(number: u64) -> [u8; 8]
     ensures { result ≡ decimal 6 number ++ 0 ∷ 0 ∷ [] }
@@ -78,7 +79,7 @@ pub(crate) fn three_decimals(number: u64) -> [u8; 3]
 {
     let last = (number % 1_000) as u32;
     let [b, c] = two_decimals(last % 100);
-    [hexadecimal_digit((last / 100) as u8), b, c]
+    [digit((last / 100) as u8), b, c]
 }
 
 /// The two digits of a byte.
@@ -86,13 +87,13 @@ pub(crate) fn three_decimals(number: u64) -> [u8; 3]
 pub(crate) fn hexadecimal_digits(byte: u8) -> [u8; 2]
     ensures { result ≡ hexadecimal 2 byte }
 {
-    [hexadecimal_digit(byte / 16), hexadecimal_digit(byte % 16)]
+    [digit(byte / 16), digit(byte % 16)]
 }
 
-/// The digit of a number below 16, in upper case.
-fn hexadecimal_digit(number: u8) -> u8
+/// The digit of a number below 16, in upper case; below 10 it is a decimal one, too.
+fn digit(number: u8) -> u8
     requires { number < 16 }
-    ensures { result ≡ digit number }
+    ensures { result ≡ Spec.digit number }
 {
     DIGITS[usize::from(number)]
 }

@@ -1,11 +1,11 @@
 //! The text of a meaning, said item by item.
 ghost use Rattle.uds_exchange.specs.ItemSeen.{item_value};
-ghost use Rattle.trace_text.specs.ListText.{item_line, list_text, worded_line};
+ghost use Rattle.trace_text.specs.ItemLines.{item_line, list_text, worded_line};
 
 use crate::bytes::Bytes;
-use crate::item_objects::say_object_line;
+use crate::item_objects::say_item_object_line;
 use crate::item_style::{ItemStyle, Numbering};
-use crate::named::{Code, Sender, Service};
+use crate::name_parts::{ResponseCode, Sender, Service};
 use crate::notation::Notation;
 use crate::numbers::Number;
 use text_parts::{Part, say};
@@ -19,23 +19,23 @@ pub fn say_items<S: TextSink>(meaning: &Meaning, style: ItemStyle, out: &mut S)
 {
     'items: for i in 0..meaning.len() {
         if let Some(item) = meaning.item(i) {
-            say_item(i as u64 + 1, style, item, out);
+            say_item_line(i as u64 + 1, style, item, out);
         }
     }
 }
 
 /// Says the line of an item, which has this number.
-pub fn say_item<S: TextSink>(number: u64, style: ItemStyle, item: Item<'_>, out: &mut S)
+pub fn say_item_line<S: TextSink>(number: u64, style: ItemStyle, item: Item<'_>, out: &mut S)
     ensures { S.says out.old (item_line style number (item_value item.entry)) out.new }
 {
     match style.notation {
-        Notation::Text => say_worded(number, style.numbering, item, out),
-        Notation::Json => say_object_line(number, style.numbering, item, out),
+        Notation::Text => say_worded_line(number, style.numbering, item, out),
+        Notation::Json => say_item_object_line(number, style.numbering, item, out),
     }
 }
 
 /// Says the line of an item in words.
-pub fn say_worded<S: TextSink>(number: u64, numbering: Numbering, item: Item<'_>, out: &mut S)
+pub fn say_worded_line<S: TextSink>(number: u64, numbering: Numbering, item: Item<'_>, out: &mut S)
     ensures { S.says out.old (worded_line numbering number (item_value item.entry)) out.new }
 {
     say(
@@ -52,7 +52,7 @@ struct ItemNumber {
 }
 
 impl Part for ItemNumber {
-    ghost use Rattle.trace_text.specs.ListText.{number_text};
+    ghost use Rattle.trace_text.specs.ItemLines.{number_text};
 
     ghost text = { λ number. number_text number.numbering number.number };
 
@@ -71,7 +71,7 @@ struct ItemWords<'a>(Item<'a>);
 
 impl<'a> Part for ItemWords<'a> {
     ghost use Rattle.uds_exchange.specs.ItemSeen.{item_value};
-    ghost use Rattle.trace_text.specs.ListText.{item_text};
+    ghost use Rattle.trace_text.specs.ItemLines.{item_text};
 
     ghost text = { λ words. item_text (item_value words.0) };
 
@@ -103,7 +103,7 @@ struct Outcome<'a> {
 
 impl<'a> Part for Outcome<'a> {
     ghost use Rattle.std.specs.Prelude.{option_map};
-    ghost use Rattle.trace_text.specs.ListText.{outcome_text};
+    ghost use Rattle.trace_text.specs.ItemLines.{outcome_text};
 
     ghost text = { λ outcome. outcome_text outcome.request.now (option_map (λ reply. reply.now) outcome.answer) };
 
@@ -122,7 +122,7 @@ impl<'a> Part for Outcome<'a> {
 struct Answer<'a>(&'a [u8]);
 
 impl<'a> Part for Answer<'a> {
-    ghost use Rattle.trace_text.specs.ListText.{answer_text};
+    ghost use Rattle.trace_text.specs.ItemLines.{answer_text};
 
     ghost text = { λ answer. answer_text answer.0.now };
 
@@ -132,7 +132,12 @@ impl<'a> Part for Answer<'a> {
         if is_negative_response(reply) {
             say(
                 out,
-                ("negative ", Code(response_code(reply)), " ", Bytes(reply)),
+                (
+                    "negative ",
+                    ResponseCode(response_code(reply)),
+                    " ",
+                    Bytes(reply),
+                ),
             );
         } else {
             say(out, ("positive ", Bytes(reply)));

@@ -1,12 +1,24 @@
 //! The items of a meaning as objects of JSON. What is said at once goes from one value to the next, quotes included, since
 //! each piece more takes longer to say.
+//!
+//! So an object is cut amid its quotes, in `OpenObject`, which has a `Front` and an `OpenItem`, and the quote and the brace that
+//! end each object:
+//!
+//! ```text
+//! {"item":3,"kind":"exchange","service":"..","request":"22F190","outcome":"positive","answer":"62F190"}
+//! <---- Front -----><----------------------------------- OpenItem ---------------------------------->
+//!                                                             <-- OpenOutcome, here an OpenAnswer -->
+//! <------------------------------------------- OpenObject ------------------------------------------>
+//! ```
+ghost use Rattle.std.specs.Prelude.{◌++◌};
 ghost use Rattle.uds_exchange.specs.ItemSeen.{item_value};
 ghost use Rattle.trace_text.specs.Json.{object, object_line, value_text};
-ghost use Rattle.trace_text.specs.ListText.{item_object};
+ghost use Rattle.trace_text.specs.ItemLines.{item_object};
+ghost use Rattle.trace_text.specs.proving.OpenItems.{open_object};
 
 use crate::bytes::Bytes;
 use crate::item_style::Numbering;
-use crate::named::{Code, Sender, Service};
+use crate::name_parts::{ResponseCode, Sender, Service};
 use crate::numbers::Number;
 use text_parts::{Part, say};
 use trace_io::TextSink;
@@ -17,16 +29,11 @@ use uds_message::{is_negative_response, is_suppressing, response_code, sid};
 pub fn say_item_object<S: TextSink>(number: u64, numbering: Numbering, item: Item<'_>, out: &mut S)
     ensures { S.says out.old (value_text (object (item_object numbering number (item_value item.entry)))) out.new }
 {
-    let open = OpenObject {
-        number,
-        numbering,
-        item,
-    };
-    say(out, (open, "\"}"));
+    say_closed(number, numbering, item, "\"}", out);
 }
 
 /// Says the line of the object.
-pub(crate) fn say_object_line<S: TextSink>(
+pub(crate) fn say_item_object_line<S: TextSink>(
     number: u64,
     numbering: Numbering,
     item: Item<'_>,
@@ -34,12 +41,26 @@ pub(crate) fn say_object_line<S: TextSink>(
 )
     ensures { S.says out.old (object_line (item_object numbering number (item_value item.entry))) out.new }
 {
+    say_closed(number, numbering, item, "\"}\n", out);
+}
+
+/// Says the open object and this end.
+#[inline(always)]
+fn say_closed<S: TextSink>(
+    number: u64,
+    numbering: Numbering,
+    item: Item<'_>,
+    end: &str,
+    out: &mut S,
+)
+    ensures { S.says out.old (open_object numbering number (item_value item.entry) ++ end.now) out.new }
+{
     let open = OpenObject {
         number,
         numbering,
         item,
     };
-    say(out, (open, "\"}\n"));
+    say(out, (open, end));
 }
 
 /// The object up to the quote and the brace that end it, whatever the item is.
@@ -163,7 +184,7 @@ impl<'a> Part for OpenAnswer<'a> {
                 out,
                 (
                     "\",\"outcome\":\"negative\",\"code\":\"",
-                    Code(response_code(reply)),
+                    ResponseCode(response_code(reply)),
                     "\",\"answer\":\"",
                     Bytes(reply),
                 ),

@@ -1,33 +1,44 @@
 //! The texts that commands share: names, numbers, the lines of items and of what became of frames, in words and as
 //! JSON.
 //!
-//! All are said to a [`TextSink`](trace_io::TextSink), by parts (`text_parts`), which here are numbers, bytes and names, or
-//! one after another ([`say`]). Which text it is, `specs` says, for JSON by the object that is meant.
+//! ```text
+//! 1 exchange ReadDataByIdentifier 22F190 -> positive 62F1904142
+//! line 7: unit reception from line 3 of 20 bytes ended: late
+//! {"line":9,"event":"dropped","direction":"unit","reason":"consecutive frame unexpected"}
+//! ```
+//!
+//! All are said to a [`TextSink`](trace_io::TextSink), by parts (`text_parts`), which here are numbers, bytes and names;
+//! callers that say one after another have [`values`]. Which text it is, `specs` says, for JSON by the object that is
+//! meant.
 //! [`say_items`] says the list of a meaning, [`say_remark`] a line that explains a log; [`laws`] says that equal lists
 //! have equal texts, and only they.
 #![tactic(auto)]
 
 mod bytes;
+mod counts;
 mod digits;
 mod item_lines;
 mod item_objects;
 mod item_style;
 pub mod laws;
-mod named;
+mod name_parts;
 pub mod names;
 mod notation;
 mod numbers;
 mod remark;
 mod remark_lines;
 mod remark_objects;
-pub mod say;
+pub mod values;
 
-pub use bytes::{Byte, Bytes, Spelled};
-pub use item_lines::{say_item, say_items, say_worded};
+pub use bytes::{Byte, Bytes, Verbatim};
+pub use counts::say_counts;
+pub use item_lines::{say_item_line, say_items, say_worded_line};
 pub use item_objects::say_item_object;
 pub use item_style::{ItemStyle, Numbering};
-pub use named::{Code, DropReason, EndCause, Identifier, LayoutFault, Sender, Service};
+pub use name_parts::{
+    DropReason, EndCause, Identifier, LayoutFault, ResponseCode, Sender, Service,
+};
 pub use notation::Notation;
-pub use numbers::{Digit, Length, Number, Place, SixDecimals, ThreeDecimals};
+pub use numbers::{HexadecimalDigit, Length, Number, Place, SixDecimals, Stamp, ThreeDecimals};
 pub use remark::Remark;
 pub use remark_lines::say_remark;

@@ -1,7 +1,7 @@
 //! Names that lines of text have for what is in them.
 ghost use Rattle.std.specs.Prelude.{◌≡◌};
 ghost use Rattle.trace_text.specs.Words.{direction_text, role_text};
-ghost use Rattle.trace_text.specs.ExplainText.{cause_text, layout_fault_text};
+ghost use Rattle.trace_text.specs.RemarkLines.{cause_text, layout_fault_text};
 
 use direction::Dir;
 use isotp_pdu::PduFault;

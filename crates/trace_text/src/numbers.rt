@@ -1,4 +1,4 @@
-//! Numbers as parts of a text, in decimal or as a hexadecimal digit.
+//! Numbers as parts of a text, in decimal or as a hexadecimal digit, and times.
 ghost use Rattle.std.specs.Prelude.{◌<◌, ◌≤◌, ◌++◌};
 ghost use Rattle.std.specs.Fmt.{decimal};
 
@@ -7,7 +7,7 @@ use itoa::Buffer;
 use text_parts::{Part, say};
 use trace_io::TextSink;
 
-/// A number in decimal, whole. What says it stands apart, as what else is long to say, so that a row of parts is small.
+/// A number in decimal, whole. Not inlined, as other long parts, so that a line of many parts stays small code.
 #[derive(Clone, Copy)]
 pub struct Number(pub u64);
 
@@ -30,7 +30,8 @@ impl Part for Number {
     }
 }
 
-/// Says a number of at most four digits.
+/// Says a number of at most four digits. It is [`say_number_before`] with nothing behind, apart from it since most numbers are as
+/// short: one text is put in place of three.
 #[inline(always)]
 fn say_short_number<S: TextSink>(out: &mut S, number: u32)
     requires { number < 10000 }
@@ -140,11 +141,26 @@ impl Part for ThreeDecimals {
     }
 }
 
+/// The time of a frame, which is so many microseconds: its seconds, a dot, and six digits.
+#[derive(Clone, Copy)]
+pub struct Stamp(pub u64);
+
+impl Part for Stamp {
+    ghost use Rattle.trace_text.specs.Words.{stamp_text};
+
+    ghost text = { λ stamp. stamp_text stamp.0 };
+
+    #[inline(always)]
+    fn say<S: TextSink>(self, out: &mut S) {
+        say(out, (Number(self.0 / 1_000_000), ".", SixDecimals(self.0)));
+    }
+}
+
 /// A number below 16, as one hexadecimal digit.
 #[derive(Clone, Copy)]
-pub struct Digit(pub u8);
+pub struct HexadecimalDigit(pub u8);
 
-impl Part for Digit {
+impl Part for HexadecimalDigit {
     ghost use Rattle.can_log.specs.Digits.{hexadecimal};
 
     ghost text = { λ digit. hexadecimal 1 digit.0 };

@@ -1,37 +1,37 @@
 //! A line that explains a log, in words or as an object.
-ghost use Rattle.trace_text.specs.ExplainText.{counts_text, remark_line, remark_text, summary_line};
+ghost use Rattle.trace_text.specs.RemarkLines.{counts_text, remark_line, remark_text, summary_line};
 ghost use Rattle.trace_log.specs.Summing.{seen_counts};
-ghost use Rattle.trace_text.specs.declared.remark.Remark.TheVariants as remark;
+ghost use Rattle.trace_text.specs.declared.remark.Remark.TheVariants as told;
 
-use crate::named::{DropReason, EndCause, Sender};
+use crate::counts::say_counts;
+use crate::name_parts::{DropReason, EndCause, Sender};
 use crate::notation::Notation;
 use crate::numbers::{Length, Number};
 use crate::remark::Remark;
 use crate::remark_objects::say_remark_object;
-use crate::say::say_counts;
 use direction::Dir;
 use isotp_receive::{Ended, Reason};
 use text_parts::{Part, say};
 use trace_io::TextSink;
 use trace_log::{Count, Summary};
 
-/// Says the line of a remark. Laid in line, since it is known where it is called what kind of remark it is.
+/// Says the line of a remark. Inlined, since it is known where it is called what kind of remark it is.
 #[inline(always)]
-pub fn say_remark<S: TextSink>(notation: Notation, told: Remark, out: &mut S)
-    ensures { S.says out.old (remark_text notation told) out.new }
+pub fn say_remark<S: TextSink>(notation: Notation, remark: Remark, out: &mut S)
+    ensures { S.says out.old (remark_text notation remark) out.new }
 {
     match notation {
-        Notation::Text => say_remark_line(told, out),
-        Notation::Json => say_remark_object(told, out),
+        Notation::Text => say_remark_line(remark, out),
+        Notation::Json => say_remark_object(remark, out),
     }
 }
 
 /// Says it in words.
 #[inline(always)]
-fn say_remark_line<S: TextSink>(told: Remark, out: &mut S)
-    ensures { S.says out.old (remark_line told) out.new }
+fn say_remark_line<S: TextSink>(remark: Remark, out: &mut S)
+    ensures { S.says out.old (remark_line remark) out.new }
 {
-    match told {
+    match remark {
         Remark::Ended { line, ended } => say_ended_line(line, ended, out),
         Remark::Dropped { line, dir, reason } => say_dropped_line(line, dir, reason, out),
         Remark::Unfinished { dir, line, len } => say_unfinished_line(dir, line, len, out),
@@ -42,7 +42,7 @@ fn say_remark_line<S: TextSink>(told: Remark, out: &mut S)
 /// Says the line of a reception that a frame ended.
 #[inline(never)]
 fn say_ended_line<S: TextSink>(line: u64, ended: Ended, out: &mut S)
-    ensures { S.says out.old (remark_line (remark.Ended line ended)) out.new }
+    ensures { S.says out.old (remark_line (told.Ended line ended)) out.new }
 {
     let reception = Reception {
         dir: ended.dir,
@@ -66,7 +66,7 @@ fn say_ended_line<S: TextSink>(line: u64, ended: Ended, out: &mut S)
 /// Says the line of a dropped frame.
 #[inline(never)]
 fn say_dropped_line<S: TextSink>(line: u64, dir: Dir, reason: Reason, out: &mut S)
-    ensures { S.says out.old (remark_line (remark.Dropped line dir reason)) out.new }
+    ensures { S.says out.old (remark_line (told.Dropped line dir reason)) out.new }
 {
     say(
         out,
@@ -76,6 +76,7 @@ fn say_dropped_line<S: TextSink>(line: u64, dir: Dir, reason: Reason, out: &mut 
             ": ",
             Sender(dir),
             " frame dropped: ",
+            // One part, as `reason_line` of the definitions.
             (DropReason(reason), "\n"),
         ),
     );
@@ -84,7 +85,7 @@ fn say_dropped_line<S: TextSink>(line: u64, dir: Dir, reason: Reason, out: &mut 
 /// Says the line of a reception that stands at the end.
 #[inline(never)]
 fn say_unfinished_line<S: TextSink>(dir: Dir, line: u64, len: u32, out: &mut S)
-    ensures { S.says out.old (remark_line (remark.Unfinished dir line len)) out.new }
+    ensures { S.says out.old (remark_line (told.Unfinished dir line len)) out.new }
 {
     say(out, ("end: ", Reception { dir, line, len }, "unfinished\n"));
 }
@@ -98,9 +99,9 @@ struct Reception {
 }
 
 impl Part for Reception {
-    ghost use Rattle.trace_text.specs.ExplainText.{reception_text};
+    ghost use Rattle.trace_text.specs.RemarkLines.{reception_text};
 
-    ghost text = { λ told. reception_text told.dir told.line told.len };
+    ghost text = { λ reception. reception_text reception.dir reception.line reception.len };
 
     fn say<S: TextSink>(self, out: &mut S) {
         say(

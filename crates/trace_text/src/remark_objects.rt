@@ -1,12 +1,12 @@
 //! What explains a log as objects of JSON.
-ghost use Rattle.trace_text.specs.ExplainText.{remark_members};
+ghost use Rattle.trace_text.specs.RemarkLines.{remark_members};
 ghost use Rattle.trace_text.specs.Json.{object_line};
-ghost use Rattle.trace_text.specs.declared.remark.Remark.TheVariants as remark;
+ghost use Rattle.trace_text.specs.declared.remark.Remark.TheVariants as told;
 
-use crate::named::{DropReason, EndCause, Sender};
+use crate::counts::say_counts;
+use crate::name_parts::{DropReason, EndCause, Sender};
 use crate::numbers::{Length, Number};
 use crate::remark::Remark;
-use crate::say::say_counts;
 use direction::Dir;
 use isotp_receive::{Ended, Reason};
 use text_parts::{Part, say};
@@ -15,10 +15,10 @@ use trace_log::Summary;
 
 /// Says the line of a remark as an object.
 #[inline(always)]
-pub(crate) fn say_remark_object<S: TextSink>(told: Remark, out: &mut S)
-    ensures { S.says out.old (object_line (remark_members told)) out.new }
+pub(crate) fn say_remark_object<S: TextSink>(remark: Remark, out: &mut S)
+    ensures { S.says out.old (object_line (remark_members remark)) out.new }
 {
-    match told {
+    match remark {
         Remark::Ended { line, ended } => say_ended_object(line, ended, out),
         Remark::Dropped { line, dir, reason } => say_dropped_object(line, dir, reason, out),
         Remark::Unfinished { dir, line, len } => say_unfinished_object(dir, line, len, out),
@@ -29,7 +29,7 @@ pub(crate) fn say_remark_object<S: TextSink>(told: Remark, out: &mut S)
 /// Says the object of a reception that a frame ended.
 #[inline(never)]
 fn say_ended_object<S: TextSink>(line: u64, ended: Ended, out: &mut S)
-    ensures { S.says out.old (object_line (remark_members (remark.Ended line ended))) out.new }
+    ensures { S.says out.old (object_line (remark_members (told.Ended line ended))) out.new }
 {
     say(
         out,
@@ -48,7 +48,7 @@ fn say_ended_object<S: TextSink>(line: u64, ended: Ended, out: &mut S)
 /// Says the object of a dropped frame.
 #[inline(never)]
 fn say_dropped_object<S: TextSink>(line: u64, dir: Dir, reason: Reason, out: &mut S)
-    ensures { S.says out.old (object_line (remark_members (remark.Dropped line dir reason))) out.new }
+    ensures { S.says out.old (object_line (remark_members (told.Dropped line dir reason))) out.new }
 {
     say(
         out,
@@ -67,7 +67,7 @@ fn say_dropped_object<S: TextSink>(line: u64, dir: Dir, reason: Reason, out: &mu
 struct ReasonMembers(Reason);
 
 impl Part for ReasonMembers {
-    ghost use Rattle.trace_text.specs.ExplainText.{reason_members};
+    ghost use Rattle.trace_text.specs.RemarkLines.{reason_members};
     ghost use Rattle.trace_text.specs.Json.{later_text};
 
     ghost text = { λ why. later_text (reason_members why.0) };
@@ -101,7 +101,7 @@ impl Part for ReasonMembers {
 /// Says the object of a reception that stands at the end.
 #[inline(never)]
 fn say_unfinished_object<S: TextSink>(dir: Dir, line: u64, len: u32, out: &mut S)
-    ensures { S.says out.old (object_line (remark_members (remark.Unfinished dir line len))) out.new }
+    ensures { S.says out.old (object_line (remark_members (told.Unfinished dir line len))) out.new }
 {
     say(
         out,
@@ -118,7 +118,7 @@ fn say_unfinished_object<S: TextSink>(dir: Dir, line: u64, len: u32, out: &mut S
 /// Says the object of the counts.
 #[inline(never)]
 fn say_summary_object<S: TextSink>(summary: &Summary, out: &mut S)
-    ensures { S.says out.old (object_line (remark_members (remark.Counts summary.now))) out.new }
+    ensures { S.says out.old (object_line (remark_members (told.Counts summary.now))) out.new }
 {
     say(out, "{\"event\":\"counts\"");
     say_counts(out, ",\"", "\":", &summary.named());

@@ -7,24 +7,24 @@ use Rattle.std.proofs.lemmas.Option.{same_Some, none-some}
 use Rattle.direction.specs.Dir.{Message}
 use Rattle.direction.specs.declared.Dir.{Dir}
 use Rattle.uds_exchange.specs.Decided.{decided_in, decided, exchange_items}
-use Rattle.uds_exchange.specs.Decider.{DeciderValue, decides_after, AreDecidedBy, IsKept}
+use Rattle.uds_exchange.specs.Decider.{DeciderValue, decider_after, AreDecidedBy, IsKept}
 use Rattle.uds_exchange.specs.Laws.{open_with, DecidedThenUndecided, DecidedGrows, UndecidedMustWait}
 use Rattle.uds_exchange.specs.Meaning.{ItemValue, exchange, stray, stray_of, is_tester_request, is_answer_to, is_pending_reply_to, meaning, flattened}
 use Rattle.uds_exchange.specs.Order.{has_exchange, open_request_in, open_request, held_in, held, rejection_of}
-use Rattle.uds_exchange.specs.proving.Deciding.{step_in, items_for, items_by, keep_for, keep, Refuses}
+use Rattle.uds_exchange.specs.proving.Deciding.{step_in, decided_for, decided_by, decider_after_step, decider_with, Refuses}
 use Rattle.uds_message.specs.Message.{sid}
 use Rattle.uds_exchange.specs.Judging.{step_after}
 use Rattle.uds_exchange.proofs.Kept.{not-request}
-use Rattle.uds_exchange.specs.WaitingExchange.{one_later, waiting}
-use Rattle.uds_exchange.specs.proving.Pairing.{join_by, join}
-use Rattle.uds_exchange.specs.proving.Steps.{Standing, standing_after, stand_for}
+use Rattle.uds_exchange.specs.OpenExchange.{one_later, open_exchange_in}
+use Rattle.uds_exchange.specs.proving.Pairing.{items_with_other, items_with}
+use Rattle.uds_exchange.specs.proving.Steps.{Standing, standing_after, standing_after_step}
 use Rattle.uds_exchange.specs.declared.step.Step.{Step}
 use Rattle.uds_exchange.specs.declared.step.Step.TheVariants as step
 use Rattle.uds_exchange.proofs.MustWait.{open-request-waits, open-request-behind, rejects}
 use Rattle.uds_exchange.proofs.NextStep.{stands-next}
 use Rattle.uds_exchange.proofs.OneMore.{meaning-append}
 use Rattle.uds_exchange.proofs.OpenRequestOfMore.{open_request_goes_on}
-use Rattle.uds_exchange.proofs.Waiting.{has-more, has-last, has-set, waiting-at, one_later-some, request_of}
+use Rattle.uds_exchange.proofs.OpenExchange.{has-more, has-last, has-set, open_exchange-at, one_later-some, request_of}
 
 -- items without an exchange are the strays of their messages
 strays-again : (its : List ItemValue) → has_exchange its ≡ false → map stray_of (flattened its) ≡ its
@@ -55,12 +55,12 @@ one_later-none None h = refl
 one_later-none (Some w) h = cc
 
 -- where no request waits all is decided, and one more stray is
-decided-all : (its : List ItemValue) → waiting its ≡ None → decided_in its ≡ its
+decided-all : (its : List ItemValue) → open_exchange_in its ≡ None → decided_in its ≡ its
 decided-all its h =
     let none : open_request_in its ≡ None = open-request-waits its ∙ ap request_of h in
     sym (append-nil (decided_in its)) ∙ ap (λ o. decided_in its ++ exchange_items o None (held_in its)) (sym none) ∙ whole its
 
-decided-stray : (its : List ItemValue) (d : Dir) (m : List ℕ) → waiting its ≡ None → decided_in (its ++ stray d m ∷ []) ≡ its ++ stray d m ∷ []
+decided-stray : (its : List ItemValue) (d : Dir) (m : List ℕ) → open_exchange_in its ≡ None → decided_in (its ++ stray d m ∷ []) ≡ its ++ stray d m ∷ []
 decided-stray [] d m h = refl
 decided-stray (stray e n ∷ its) d m h = ap (λ l. stray e n ∷ l) (decided-stray its d m (one_later-none _ h))
 decided-stray (exchange q (Some a) ∷ its) d m h = ap (λ l. exchange q (Some a) ∷ l) (decided-stray its d m (one_later-none _ h))
@@ -71,35 +71,35 @@ decided-stray (exchange q None ∷ its) d m h =
     ]
 
 -- where a request waits one more stray decides nothing
-decided-held : (its : List ItemValue) (w : ℕ × List ℕ) (d : Dir) (m : List ℕ) → waiting its ≡ Some w → decided_in (its ++ stray d m ∷ []) ≡ decided_in its
+decided-held : (its : List ItemValue) (w : ℕ × List ℕ) (d : Dir) (m : List ℕ) → open_exchange_in its ≡ Some w → decided_in (its ++ stray d m ∷ []) ≡ decided_in its
 decided-held [] w d m h = cc
 decided-held (stray e n ∷ its) w d m h =
-    let v = one_later-some (waiting its) w h in
+    let v = one_later-some (open_exchange_in its) w h in
     ap (λ l. stray e n ∷ l) (decided-held its v.0 d m v.1)
 decided-held (exchange q (Some a) ∷ its) w d m h =
-    let v = one_later-some (waiting its) w h in
+    let v = one_later-some (open_exchange_in its) w h in
     ap (λ l. exchange q (Some a) ∷ l) (decided-held its v.0 d m v.1)
 decided-held (exchange q None ∷ its) w d m h =
     elim (cases_Bool (has_exchange its)) [
-      | inl e ↦ (let v = one_later-some (waiting its) w (rw e at h) in
+      | inl e ↦ (let v = one_later-some (open_exchange_in its) w (rw e at h) in
           rw (has-more its (stray d m) refl, e) (ap (λ l. exchange q None ∷ l) (decided-held its v.0 d m v.1)))
       | inr e ↦ rw (has-more its (stray d m) refl, e) refl
     ]
 
 -- and its answer decides its exchange and the strays behind it
-decided-answered : (its : List ItemValue) (w : ℕ × List ℕ) (a : List ℕ) → waiting its ≡ Some w
+decided-answered : (its : List ItemValue) (w : ℕ × List ℕ) (a : List ℕ) → open_exchange_in its ≡ Some w
     → decided_in (slice_set its w.0 (exchange w.1 (Some a))) ≡ decided_in its ++ exchange w.1 (Some a) ∷ map stray_of (held_in its)
 decided-answered [] w a h = cc
 decided-answered (stray e n ∷ its) w a h =
-    let v = one_later-some (waiting its) w h in
+    let v = one_later-some (open_exchange_in its) w h in
     rw v.2 (ap (λ l. stray e n ∷ l) (decided-answered its v.0 a v.1))
 decided-answered (exchange q (Some b) ∷ its) w a h =
-    let v = one_later-some (waiting its) w h in
+    let v = one_later-some (open_exchange_in its) w h in
     rw v.2 (ap (λ l. exchange q (Some b) ∷ l) (decided-answered its v.0 a v.1))
 decided-answered (exchange q None ∷ its) w a h =
     elim (cases_Bool (has_exchange its)) [
-      | inl e ↦ (let v = one_later-some (waiting its) w (rw e at h) in
-          let more = has-set its v.0.0 v.0.1 None (Some a) (waiting-at its v.0 v.1) ∙ e in
+      | inl e ↦ (let v = one_later-some (open_exchange_in its) w (rw e at h) in
+          let more = has-set its v.0.0 v.0.1 None (Some a) (open_exchange-at its v.0 v.1) ∙ e in
           rw (v.2, more, e) (ap (λ l. exchange q None ∷ l) (decided-answered its v.0 a v.1)))
       | inr e ↦ (let same : (0, q) ≡ w = same_Some _ _ (rw e at h) in
           rw (← same, e) (ap (λ l. exchange q (Some a) ∷ l) (decided-alone its e)))
@@ -114,8 +114,8 @@ decided-answered (exchange q None ∷ its) w a h =
 abbrev standing : Option (ℕ × List ℕ) → List Message → DeciderValue
 standing w holds = record { request = request_of w; holds = holds }
 
-joined : (its : List ItemValue) (x : Message) (w : Option (ℕ × List ℕ)) → is_tester_request x ≡ false → waiting its ≡ w
-    → decided_in (join_by w its x) ≡ decided_in its ++ items_by (standing w (held_in its)) x
+joined : (its : List ItemValue) (x : Message) (w : Option (ℕ × List ℕ)) → is_tester_request x ≡ false → open_exchange_in its ≡ w
+    → decided_in (items_with_other w its x) ≡ decided_in its ++ decided_by (standing w (held_in its)) x
 joined its x None r h = rw r (decided-stray its x.0 x.1 h ∙ ap (λ l. l ++ stray_of x ∷ []) (sym (decided-all its h)))
 joined its x (Some w) r h =
     elim (cases_Bool (is_answer_to w.1 x)) [
@@ -126,23 +126,23 @@ joined its x (Some w) r h =
       ]
     ]
 
-more : (its : List ItemValue) (x : Message) → decided_in (join its x) ≡ decided_in its ++ items_by (standing (waiting its) (held_in its)) x
+more : (its : List ItemValue) (x : Message) → decided_in (items_with its x) ≡ decided_in its ++ decided_by (standing (open_exchange_in its) (held_in its)) x
 more its x =
     elim (cases_Bool (is_tester_request x)) [
       | inl e ↦ rw e (decided-request its x.1 ∙ sym (whole its) ∙ ap (λ o. decided_in its ++ exchange_items o None (held_in its)) (open-request-waits its))
-      | inr e ↦ (ap decided_in (let by : join its x ≡ join_by (waiting its) its x = rw e refl in by) ∙ joined its x (waiting its) e refl)
+      | inr e ↦ (ap decided_in (let by : items_with its x ≡ items_with_other (open_exchange_in its) its x = rw e refl in by) ∙ joined its x (open_exchange_in its) e refl)
     ]
 
 -- what one more message decides, by what a decider keeps
-pub decided-by : (M : List Message) (x : Message) (d : DeciderValue) → d ≡ decides_after M → AreDecidedBy M x (items_by d x)
+pub decided-by : (M : List Message) (x : Message) (d : DeciderValue) → d ≡ decider_after M → AreDecidedBy M x (decided_by d x)
 decided-by M x d is =
     ap decided_in (meaning-append M x) ∙ more (meaning M) x
-    ∙ ap (λ (o : Option (List ℕ)). let s : DeciderValue = record { request = o; holds = held M } in decided M ++ items_by s x) (sym (open-request-waits (meaning M)))
-    ∙ ap (λ s. decided M ++ items_by s x) (sym is)
+    ∙ ap (λ (o : Option (List ℕ)). let s : DeciderValue = record { request = o; holds = held M } in decided M ++ decided_by s x) (sym (open-request-waits (meaning M)))
+    ∙ ap (λ s. decided M ++ decided_by s x) (sym is)
 
 -- ---- what a decider keeps
 
-request-kept : (o : Option (List ℕ)) (holds : List Message) (x : Message) → (keep (record { request = o; holds = holds }) x).request ≡ open_with o x
+request-kept : (o : Option (List ℕ)) (holds : List Message) (x : Message) → (decider_with (record { request = o; holds = holds }) x).request ≡ open_with o x
 request-kept None holds x = elim (cases_Bool (is_tester_request x)) [ inl e ↦ rw e refl | inr e ↦ rw e refl ]
 request-kept (Some r) holds x =
     elim (cases_Bool (is_tester_request x)) [
@@ -153,29 +153,29 @@ request-kept (Some r) holds x =
       ]
     ]
 
-holds-same : (s : Step) (d : DeciderValue) (o : Standing) (x : Message) → d.holds ≡ o.holds → (keep_for s d x).holds ≡ (stand_for s o x).holds
+holds-same : (s : Step) (d : DeciderValue) (o : Standing) (x : Message) → d.holds ≡ o.holds → (decider_after_step s d x).holds ≡ (standing_after_step s o x).holds
 holds-same (step.Request service) d o x is = refl
 holds-same step.Answer d o x is = refl
 holds-same step.Removed d o x is = is
 holds-same step.Hold d o x is = ap (λ l. l ++ x ∷ []) is
 holds-same step.Pass d o x is = is
 
-holds-kept : (M : List Message) (x : Message) → (keep (decides_after M) x).holds ≡ held (M ++ x ∷ [])
-holds-kept M x = holds-same (step_in (decides_after M) x) (decides_after M) (standing_after M) x refl ∙ ap (λ (o : Standing). o.holds) (stands-next M x)
+holds-kept : (M : List Message) (x : Message) → (decider_with (decider_after M) x).holds ≡ held (M ++ x ∷ [])
+holds-kept M x = holds-same (step_in (decider_after M) x) (decider_after M) (standing_after M) x refl ∙ ap (λ (o : Standing). o.holds) (stands-next M x)
 
 -- it is where it stands after the longer list
-pub keeps-next : (M : List Message) (x : Message) → keep (decides_after M) x ≡ decides_after (M ++ x ∷ [])
+pub keeps-next : (M : List Message) (x : Message) → decider_with (decider_after M) x ≡ decider_after (M ++ x ∷ [])
 keeps-next M x =
     let request = request-kept (open_request M) (held M) x ∙ sym (open_request_goes_on M x) in
     let holds = holds-kept M x in
     (λ i. record { request = request i; holds = holds i })
 
 -- by the step that was found
-pub keeps-found : (M : List Message) (x : Message) (s : Step) (d : DeciderValue) → d ≡ decides_after M → s ≡ step_after M x → keep_for s d x ≡ decides_after (M ++ x ∷ [])
-keeps-found M x s d is step_is = (λ i. keep_for (step_is i) (is i) x) ∙ keeps-next M x
+pub keeps-found : (M : List Message) (x : Message) (s : Step) (d : DeciderValue) → d ≡ decider_after M → s ≡ step_after M x → decider_after_step s d x ≡ decider_after (M ++ x ∷ [])
+keeps-found M x s d is step_is = (λ i. decider_after_step (step_is i) (is i) x) ∙ keeps-next M x
 
-pub decided-found : (M : List Message) (x : Message) (s : Step) (d : DeciderValue) → d ≡ decides_after M → s ≡ step_after M x → AreDecidedBy M x (items_for s d x)
-decided-found M x s d is step_is = decided-by M x (decides_after M) refl ∙ (λ i. decided M ++ items_for (sym step_is i) (sym is i) x)
+pub decided-found : (M : List Message) (x : Message) (s : Step) (d : DeciderValue) → d ≡ decider_after M → s ≡ step_after M x → AreDecidedBy M x (decided_for s d x)
+decided-found M x s d is step_is = decided-by M x (decider_after M) refl ∙ (λ i. decided M ++ decided_for (sym step_is i) (sym is i) x)
 
 -- a step that begins an exchange is one of a request
 asks : (M : List Message) (x : Message) (service : ℕ) → step_after M x ≡ step.Request service → is_tester_request x ≡ true
@@ -186,7 +186,7 @@ asks M x service is =
     ]
 
 -- where memory is refused, the message is one that is kept
-pub refuses-kept : (M : List Message) (x : Message) (s : Step) (d : DeciderValue) → d ≡ decides_after M → s ≡ step_after M x → Refuses s d x → IsKept M x
+pub refuses-kept : (M : List Message) (x : Message) (s : Step) (d : DeciderValue) → d ≡ decider_after M → s ≡ step_after M x → Refuses s d x → IsKept M x
 refuses-kept M x s d is step_is (inl begins) = inl (asks M x begins.0 (sym step_is ∙ begins.1))
 refuses-kept M x s d is step_is (inr holds) =
     inr (sym (ap (λ (d : DeciderValue). d.holds) (keeps-found M x s d is step_is)) ∙ holds ∙ ap (λ (d : DeciderValue). d.holds ++ x ∷ []) is)
@@ -200,9 +200,9 @@ pub decided_grows : DecidedGrows
 decided_grows M [] = ([], ap decided (append-nil M) ∙ sym (append-nil (decided M)))
 decided_grows M (x ∷ N) =
     let later = decided_grows (M ++ x ∷ []) N in
-    let now = items_by (decides_after M) x in (
+    let now = decided_by (decider_after M) x in (
       now ++ later.0,
-      ap decided (sym (append_assoc M (x ∷ []) N)) ∙ later.1 ∙ ap (λ l. l ++ later.0) (decided-by M x (decides_after M) refl) ∙ append_assoc (decided M) now later.0,
+      ap decided (sym (append_assoc M (x ∷ []) N)) ∙ later.1 ∙ ap (λ l. l ++ later.0) (decided-by M x (decider_after M) refl) ∙ append_assoc (decided M) now later.0,
     )
 
 pub undecided_must_wait : UndecidedMustWait
@@ -210,8 +210,8 @@ undecided_must_wait M request open_one =
     let x = rejection_of request in
     let answers = rejects request ((open-request-behind M request).0 open_one).is_one in
     let closed : open_request (M ++ x ∷ []) ≡ None = open_request_goes_on M x ∙ ap (λ o. open_with o x) open_one ∙ rw answers refl in
-    let now : items_by (decides_after M) x ≡ exchange request (Some x.1) ∷ map stray_of (held M) = rw (open_one, answers) refl in
+    let now : decided_by (decider_after M) x ≡ exchange request (Some x.1) ∷ map stray_of (held M) = rw (open_one, answers) refl in
     sym (decided_then_undecided (M ++ x ∷ []))
     ∙ ap (λ o. decided (M ++ x ∷ []) ++ exchange_items o None (held (M ++ x ∷ []))) closed
     ∙ append-nil (decided (M ++ x ∷ []))
-    ∙ decided-by M x (decides_after M) refl ∙ ap (λ l. decided M ++ l) now
+    ∙ decided-by M x (decider_after M) refl ∙ ap (λ l. decided M ++ l) now

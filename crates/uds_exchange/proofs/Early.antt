@@ -9,10 +9,10 @@ use Rattle.direction.specs.Dir.{Message}
 use Rattle.direction.specs.declared.Dir.{Dir}
 use Rattle.direction.specs.declared.Dir.TheVariants.{Tester, Unit}
 use Rattle.uds_exchange.specs.Meaning.{ItemValue, exchange, stray, is_tester_request, is_answer_to, is_pending_reply_to, meaning, flattened}
-use Rattle.uds_exchange.specs.WaitingExchange.{one_later, waiting}
-use Rattle.uds_exchange.specs.proving.Pairing.{join_by, join}
+use Rattle.uds_exchange.specs.OpenExchange.{one_later, open_exchange_in}
+use Rattle.uds_exchange.specs.proving.Pairing.{items_with_other, items_with}
 use Rattle.uds_exchange.specs.Order.{has_exchange, held_in, held, early}
-use Rattle.uds_exchange.proofs.Waiting.{has-more, has-last, has-set, waiting-at, one_later-some}
+use Rattle.uds_exchange.proofs.OpenExchange.{has-more, has-last, has-set, open_exchange-at, one_later-some}
 use Rattle.uds_exchange.proofs.Replies.{from-tester, from-unit}
 use Rattle.uds_exchange.proofs.InOrder.{flattened-push}
 use Rattle.uds_exchange.proofs.OneMore.{meaning-append}
@@ -51,7 +51,7 @@ one_later-none None h = refl
 one_later-none (Some w) h = cc
 
 -- one more stray where no request waits
-pub early-stray : (its : List ItemValue) (d : Dir) (m : List ℕ) → waiting its ≡ None
+pub early-stray : (its : List ItemValue) (d : Dir) (m : List ℕ) → open_exchange_in its ≡ None
     → (early_in (its ++ stray d m ∷ []) ≡ flattened its ++ (d, m) ∷ []) × (held_in (its ++ stray d m ∷ []) ≡ [])
 early-stray [] d m h = (refl, refl)
 early-stray (stray e n ∷ its) d m h = let rest = early-stray its d m (one_later-none _ h) in (ap (λ l. (e, n) ∷ l) rest.0, rest.1)
@@ -64,7 +64,7 @@ early-stray (exchange q None ∷ its) d m h =
       | inr e ↦ absurd (none-some _ (sym (rw e at h)))
     ]
 
-pub none-held : (its : List ItemValue) → waiting its ≡ None → held_in its ≡ []
+pub none-held : (its : List ItemValue) → open_exchange_in its ≡ None → held_in its ≡ []
 none-held [] h = refl
 none-held (stray e n ∷ its) h = none-held its (one_later-none _ h)
 none-held (exchange q (Some a) ∷ its) h = none-held its (one_later-none _ h)
@@ -75,40 +75,40 @@ none-held (exchange q None ∷ its) h =
     ]
 
 -- one more stray where a request waits
-pub early-kept : (its : List ItemValue) (w : ℕ × List ℕ) (d : Dir) (m : List ℕ) → waiting its ≡ Some w
+pub early-kept : (its : List ItemValue) (w : ℕ × List ℕ) (d : Dir) (m : List ℕ) → open_exchange_in its ≡ Some w
     → (early_in (its ++ stray d m ∷ []) ≡ early_in its) × (held_in (its ++ stray d m ∷ []) ≡ held_in its ++ (d, m) ∷ [])
 early-kept [] w d m h = cc
 early-kept (stray e n ∷ its) w d m h =
-    let v = one_later-some (waiting its) w h in
+    let v = one_later-some (open_exchange_in its) w h in
     let rest = early-kept its v.0 d m v.1 in
     (ap (λ l. (e, n) ∷ l) rest.0, rest.1)
 early-kept (exchange q (Some a) ∷ its) w d m h =
-    let v = one_later-some (waiting its) w h in
+    let v = one_later-some (open_exchange_in its) w h in
     let rest = early-kept its v.0 d m v.1 in
     (ap (λ l. (Tester, q) ∷ (Unit, a) ∷ l) rest.0, rest.1)
 early-kept (exchange q None ∷ its) w d m h =
     elim (cases_Bool (has_exchange its)) [
-      | inl e ↦ (let v = one_later-some (waiting its) w (rw e at h) in let rest = early-kept its v.0 d m v.1 in
+      | inl e ↦ (let v = one_later-some (open_exchange_in its) w (rw e at h) in let rest = early-kept its v.0 d m v.1 in
           rw (has-more its (stray d m) refl, e) (ap (λ l. (Tester, q) ∷ l) rest.0, rest.1))
       | inr e ↦ rw (has-more its (stray d m) refl, e) (refl, flattened-push its (stray d m) (d, m) refl)
     ]
 
 -- the request that waits gets its answer
-pub early-answered : (its : List ItemValue) (w : ℕ × List ℕ) (a : List ℕ) → waiting its ≡ Some w
+pub early-answered : (its : List ItemValue) (w : ℕ × List ℕ) (a : List ℕ) → open_exchange_in its ≡ Some w
     → (early_in (slice_set its w.0 (exchange w.1 (Some a))) ≡ early_in its ++ (Unit, a) ∷ held_in its) × (held_in (slice_set its w.0 (exchange w.1 (Some a))) ≡ [])
 early-answered [] w a h = cc
 early-answered (stray e n ∷ its) w a h =
-    let v = one_later-some (waiting its) w h in
+    let v = one_later-some (open_exchange_in its) w h in
     let rest = early-answered its v.0 a v.1 in
     rw v.2 (ap (λ l. (e, n) ∷ l) rest.0, rest.1)
 early-answered (exchange q (Some b) ∷ its) w a h =
-    let v = one_later-some (waiting its) w h in
+    let v = one_later-some (open_exchange_in its) w h in
     let rest = early-answered its v.0 a v.1 in
     rw v.2 (ap (λ l. (Tester, q) ∷ (Unit, b) ∷ l) rest.0, rest.1)
 early-answered (exchange q None ∷ its) w a h =
     elim (cases_Bool (has_exchange its)) [
-      | inl e ↦ (let v = one_later-some (waiting its) w (rw e at h) in
-          let more = has-set its v.0.0 v.0.1 None (Some a) (waiting-at its v.0 v.1) ∙ e in
+      | inl e ↦ (let v = one_later-some (open_exchange_in its) w (rw e at h) in
+          let more = has-set its v.0.0 v.0.1 None (Some a) (open_exchange-at its v.0 v.1) ∙ e in
           let rest = early-answered its v.0 a v.1 in
           rw (v.2, more, e) (ap (λ l. (Tester, q) ∷ l) rest.0, rest.1))
       | inr e ↦ (let same : (0, q) ≡ w = same_Some _ _ (rw e at h) in
@@ -122,13 +122,13 @@ due_by None xs x = x ∷ []
 due_by (Some w) xs x = cond (is_answer_to w.1 x) (x ∷ xs) []
 
 abbrev pub due_in : List ItemValue → Message → List Message
-due_in its x = cond (is_tester_request x) (held_in its ++ x ∷ []) (due_by (waiting its) (held_in its) x)
+due_in its x = cond (is_tester_request x) (held_in its ++ x ∷ []) (due_by (open_exchange_in its) (held_in its) x)
 
-whole-early : (its : List ItemValue) → waiting its ≡ None → early_in its ≡ flattened its
+whole-early : (its : List ItemValue) → open_exchange_in its ≡ None → early_in its ≡ flattened its
 whole-early its h = sym (append-nil (early_in its)) ∙ ap (λ l. early_in its ++ l) (sym (none-held its h)) ∙ early-held its
 
-early-joins : (its : List ItemValue) (x : Message) (w : Option (ℕ × List ℕ)) → is_tester_request x ≡ false → waiting its ≡ w
-    → early_in (join_by w its x) ≡ early_in its ++ due_by w (held_in its) x
+early-joins : (its : List ItemValue) (x : Message) (w : Option (ℕ × List ℕ)) → is_tester_request x ≡ false → open_exchange_in its ≡ w
+    → early_in (items_with_other w its x) ≡ early_in its ++ due_by w (held_in its) x
 early-joins its x None r h = (early-stray its x.0 x.1 h).0 ∙ ap (λ l. l ++ x ∷ []) (sym (whole-early its h))
 early-joins its x (Some w) r h =
     elim (cases_Bool (is_answer_to w.1 x)) [
@@ -139,7 +139,7 @@ early-joins its x (Some w) r h =
       ]
     ]
 
-pub early-join : (its : List ItemValue) (x : Message) → early_in (join its x) ≡ early_in its ++ due_in its x
+pub early-join : (its : List ItemValue) (x : Message) → early_in (items_with its x) ≡ early_in its ++ due_in its x
 early-join its x =
     elim (cases_Bool (is_tester_request x)) [
       | inl e ↦ rw e (
@@ -147,7 +147,7 @@ early-join its x =
           ∙ ap (λ y. flattened its ++ y ∷ []) (from-tester x e)
           ∙ ap (λ l. l ++ x ∷ []) (sym (early-held its))
           ∙ append_assoc (early_in its) _ _)
-      | inr e ↦ rw e (early-joins its x (waiting its) e refl)
+      | inr e ↦ rw e (early-joins its x (open_exchange_in its) e refl)
     ]
 
 -- what is early, by recursion over the items

@@ -10,14 +10,15 @@ use Rattle.uds_message.specs.Message.{sid, is_request, is_final_for, is_pending_
 use Rattle.uds_exchange.specs.Laws.{removed_with}
 use Rattle.uds_exchange.specs.Meaning.{ItemValue, exchange, stray, stray_of, is_from_tester, is_tester_request, is_answer_to, is_pending_reply_to, meaning, flattened, removed_messages}
 use Rattle.uds_exchange.specs.Order.{has_exchange, held, held_in, early, open_request, open_request_in}
-use Rattle.uds_exchange.specs.WaitingExchange.{waiting, waiting_sid}
-use Rattle.uds_exchange.specs.proving.Pairing.{join_for, join_by, join}
+use Rattle.uds_exchange.specs.OpenExchange.{open_exchange_in, open_sid_in}
+use Rattle.uds_exchange.specs.proving.Pairing.{items_after_step, items_with_other, items_with}
 use Rattle.uds_exchange.specs.OneMessage.{step_of}
-use Rattle.uds_exchange.specs.proving.Steps.{Standing, standing_after, stand_for}
-use Rattle.uds_exchange.specs.Judging.{step_after, number_by, number_after, items_with, waiting_number, waits_with, IsOpenSid, HasJudged}
+use Rattle.uds_exchange.specs.proving.Steps.{Standing, standing_after, standing_after_step}
+use Rattle.uds_exchange.specs.Judging.{step_after, number_by, number_after, IsOpenSid, HasCounted}
 use Rattle.uds_exchange.specs.declared.judge.Judge.{Judge}
 use Rattle.uds_exchange.specs.Exchanged.{is_tester_response, is_unit_non_response, sides_of}
-use Rattle.uds_exchange.specs.proving.Judging.{advanced, noted, number_in}
+use Rattle.uds_exchange.specs.proving.ItemNumbers.{item_count_after_step, open_number_if_any, open_number_after_step}
+use Rattle.uds_exchange.specs.proving.Judging.{judge_after_step, noted, number_in}
 use Rattle.uds_exchange.specs.declared.sides.Sides.{Sides}
 use Rattle.uds_exchange.specs.declared.step.Step.{Step}
 use Rattle.uds_exchange.specs.declared.step.Step.TheVariants as step
@@ -27,7 +28,7 @@ use Rattle.uds_exchange.proofs.MustWait.{none-lost-in-order}
 use Rattle.uds_exchange.proofs.NextStep.{stands-is, stands-next}
 use Rattle.uds_exchange.proofs.OneMore.{meaning-append}
 use Rattle.uds_exchange.proofs.OpenRequestOfMore.{removed_go_on}
-use Rattle.uds_exchange.proofs.Waiting.{sid_of}
+use Rattle.uds_exchange.proofs.OpenExchange.{sid_of}
 
 set-length : (its : List ItemValue) (i : ℕ) (item : ItemValue) → length (slice_set its i item) ≡ length its
 set-length [] i item = refl
@@ -38,7 +39,7 @@ one-longer : (its : List ItemValue) (item : ItemValue) → length (its ++ item �
 one-longer its item = length-append its (item ∷ [])
 
 join-by-length : (its : List ItemValue) (x : Message) (w : Option (ℕ × List ℕ)) → is_tester_request x ≡ false
-    → length (join_by w its x) ≡ items_with (step_of (sid_of w) x) (length its)
+    → length (items_with_other w its x) ≡ item_count_after_step (step_of (sid_of w) x) (length its)
 join-by-length its x None r = rw r (one-longer its (stray_of x))
 join-by-length its x (Some w) r =
     elim (cases_Bool (is_answer_to w.1 x)) [
@@ -49,24 +50,24 @@ join-by-length its x (Some w) r =
       ]
     ]
 
-join-length : (its : List ItemValue) (x : Message) → length (join its x) ≡ items_with (step_of (waiting_sid its) x) (length its)
+join-length : (its : List ItemValue) (x : Message) → length (items_with its x) ≡ item_count_after_step (step_of (open_sid_in its) x) (length its)
 join-length its x =
     elim (cases_Bool (is_tester_request x)) [
       | inl e ↦ rw e (one-longer its (exchange x.1 None))
-      | inr e ↦ (ap length (let j : join its x ≡ join_by (waiting its) its x = rw e refl in j) ∙ join-by-length its x (waiting its) e)
+      | inr e ↦ (ap length (let j : items_with its x ≡ items_with_other (open_exchange_in its) its x = rw e refl in j) ∙ join-by-length its x (open_exchange_in its) e)
     ]
 
-pub step-is : (M : List Message) (x : Message) → step_of (waiting_sid (meaning M)) x ≡ step_after M x
+pub step-is : (M : List Message) (x : Message) → step_of (open_sid_in (meaning M)) x ≡ step_after M x
 step-is M x = ap (λ (o : Standing). step_of o.open_sid x) (sym (stands-is M))
 
 -- the items with one more message, by the step that was found
-pub joined-found : (M : List Message) (x : Message) (s : Step) (its : List ItemValue) → its ≡ meaning M → s ≡ step_after M x → join_for s (waiting its) its x ≡ meaning (M ++ x ∷ [])
+pub joined-found : (M : List Message) (x : Message) (s : Step) (its : List ItemValue) → its ≡ meaning M → s ≡ step_after M x → items_after_step s (open_exchange_in its) its x ≡ meaning (M ++ x ∷ [])
 joined-found M x s its is step_is =
-    (λ i. join_for ((step_is ∙ sym (step-is M x)) i) (waiting (is i)) (is i) x) ∙ sym (join-step (meaning M) x) ∙ sym (meaning-append M x)
+    (λ i. items_after_step ((step_is ∙ sym (step-is M x)) i) (open_exchange_in (is i)) (is i) x) ∙ sym (join-step (meaning M) x) ∙ sym (meaning-append M x)
 
-pub items-next : (M : List Message) (x : Message) → length (meaning (M ++ x ∷ [])) ≡ items_with (step_after M x) (length (meaning M))
+pub items-next : (M : List Message) (x : Message) → length (meaning (M ++ x ∷ [])) ≡ item_count_after_step (step_after M x) (length (meaning M))
 items-next M x =
-    ap length (meaning-append M x) ∙ join-length (meaning M) x ∙ ap (λ s. items_with s (length (meaning M))) (step-is M x)
+    ap length (meaning-append M x) ∙ join-length (meaning M) x ∙ ap (λ s. item_count_after_step s (length (meaning M))) (step-is M x)
 
 -- each item has a message, so that there are no more items than messages
 pub items-few : (its : List ItemValue) → length its ≤ length (flattened its)
@@ -138,27 +139,27 @@ sides-next M x =
     sym (list_any-append is_so M (x ∷ []) ∙ ap (λ b. list_any is_so M || b) (or-false (is_so x))) in
     rw (sym (any-next is_tester_request), sym (any-next is_tester_response), sym (any-next is_unit_non_response)) refl
 
-next-by : (s : Step) (M : List Message) (x : Message) (judge : Judge) (seen : Sides) → length M < 2 ^ 62 → HasJudged M judge
-    → standing_after (M ++ x ∷ []) ≡ stand_for s (standing_after M) x → length (meaning (M ++ x ∷ [])) ≡ items_with s (length (meaning M))
+next-by : (s : Step) (M : List Message) (x : Message) (judge : Judge) (seen : Sides) → length M < 2 ^ 62 → HasCounted M judge
+    → standing_after (M ++ x ∷ []) ≡ standing_after_step s (standing_after M) x → length (meaning (M ++ x ∷ [])) ≡ item_count_after_step s (length (meaning M))
     → length (removed_messages (M ++ x ∷ [])) ≡ length (removed_messages M) + left-out-by s
-    → HasJudged (M ++ x ∷ []) (advanced s (record judge { sides = seen }))
+    → HasCounted (M ++ x ∷ []) (judge_after_step s (record judge { sides = seen }))
 next-by (step.Request service) M x judge seen few counts stands grown gone =
     let few_items = few-items M in let is = counts.items in record {
-      waits = ap (λ (o : Standing). o.open_sid) (sym stands);
+      is_open = ap (λ (o : Standing). o.open_sid) (sym stands);
       items = omega arith;
       held = ap (λ (o : Standing). length o.holds) (sym stands);
       removed = omega (arith, counts.removed, gone);
     }
 next-by step.Answer M x judge seen few counts stands grown gone =
     record {
-      waits = ap (λ (o : Standing). o.open_sid) (sym stands);
+      is_open = ap (λ (o : Standing). o.open_sid) (sym stands);
       items = counts.items ∙ sym grown;
       held = ap (λ (o : Standing). length o.holds) (sym stands);
       removed = omega (arith, counts.removed, gone);
     }
 next-by step.Removed M x judge seen few counts stands grown gone =
     let few_removed = few-removed M in let removed_were = counts.removed in record {
-      waits = counts.waits ∙ ap (λ (o : Standing). o.open_sid) (sym stands);
+      is_open = counts.is_open ∙ ap (λ (o : Standing). o.open_sid) (sym stands);
       items = counts.items ∙ sym grown;
       held = counts.held ∙ ap (λ (o : Standing). length o.holds) (sym stands);
       removed = omega arith;
@@ -166,27 +167,27 @@ next-by step.Removed M x judge seen few counts stands grown gone =
 next-by step.Hold M x judge seen few counts stands grown gone =
     let few_items = few-items M in let few_held = few-held M in let items_were = counts.items in let held_were = counts.held in
     let more = length-append (held M) (x ∷ []) in let now = ap (λ (o : Standing). length o.holds) stands in record {
-      waits = counts.waits ∙ ap (λ (o : Standing). o.open_sid) (sym stands);
+      is_open = counts.is_open ∙ ap (λ (o : Standing). o.open_sid) (sym stands);
       items = omega arith;
       held = omega arith;
       removed = omega (arith, counts.removed, gone);
     }
 next-by step.Pass M x judge seen few counts stands grown gone =
     let few_items = few-items M in let is = counts.items in record {
-      waits = counts.waits ∙ ap (λ (o : Standing). o.open_sid) (sym stands);
+      is_open = counts.is_open ∙ ap (λ (o : Standing). o.open_sid) (sym stands);
       items = omega arith;
       held = counts.held ∙ ap (λ (o : Standing). length o.holds) (sym stands);
       removed = omega (arith, counts.removed, gone);
     }
 
--- what is kept is advanced by one more message
-pub counts-next : (M : List Message) (x : Message) (judge now : Judge) (s : Step) (seen : Sides) → length M < 2 ^ 62 → HasJudged M judge
-    → s ≡ step_of judge.open_sid x → now ≡ advanced s (record judge { sides = seen }) → HasJudged (M ++ x ∷ []) now
+-- what is kept is judge_after_step by one more message
+pub counts-next : (M : List Message) (x : Message) (judge now : Judge) (s : Step) (seen : Sides) → length M < 2 ^ 62 → HasCounted M judge
+    → s ≡ step_of judge.open_sid x → now ≡ judge_after_step s (record judge { sides = seen }) → HasCounted (M ++ x ∷ []) now
 counts-next M x judge now s seen few counts s_is now_is =
-    let found : s ≡ step_after M x = s_is ∙ ap (λ o. step_of o x) counts.waits in
+    let found : s ≡ step_after M x = s_is ∙ ap (λ o. step_of o x) counts.is_open in
     rw (now_is, found) (next-by (step_after M x) M x judge seen few counts (sym (stands-next M x)) (items-next M x) (removed-next M x))
 
-sides-kept : (s : Step) (judge : Judge) (seen : Sides) → (advanced s (record judge { sides = seen })).sides ≡ seen
+sides-kept : (s : Step) (judge : Judge) (seen : Sides) → (judge_after_step s (record judge { sides = seen })).sides ≡ seen
 sides-kept (step.Request service) judge seen = refl
 sides-kept step.Answer judge seen = refl
 sides-kept step.Removed judge seen = refl
@@ -195,11 +196,11 @@ sides-kept step.Pass judge seen = refl
 
 -- and so is what tells exchanged sides
 pub sides-found : (M : List Message) (x : Message) (judge now : Judge) (s : Step) (seen : Sides) → judge.sides ≡ sides_of M → seen ≡ noted x judge.sides
-    → now ≡ advanced s (record judge { sides = seen }) → now.sides ≡ sides_of (M ++ x ∷ [])
+    → now ≡ judge_after_step s (record judge { sides = seen }) → now.sides ≡ sides_of (M ++ x ∷ [])
 sides-found M x judge now s seen were seen_is now_is =
     ap (λ (j : Judge). j.sides) now_is ∙ sides-kept s judge seen ∙ seen_is ∙ ap (noted x) were ∙ sides-next M x
 
-number-by : (s : Step) (M : List Message) (judge : Judge) (seen : Sides) → length M < 2 ^ 62 → HasJudged M judge → number_in s (record judge { sides = seen }) ≡ number_by s M
+number-by : (s : Step) (M : List Message) (judge : Judge) (seen : Sides) → length M < 2 ^ 62 → HasCounted M judge → number_in s (record judge { sides = seen }) ≡ number_by s M
 number-by (step.Request service) M judge seen few counts = let few_items = few-items M in let is = counts.items in omega arith
 number-by step.Answer M judge seen few counts = let items_are = counts.items in let held_are = counts.held in omega arith
 number-by step.Removed M judge seen few counts = let items_are = counts.items in let held_are = counts.held in omega arith
@@ -212,7 +213,7 @@ step-found M x judge s waits s_is = s_is ∙ ap (λ o. step_of o x) waits
 
 -- which request waits then
 waits-by : (s : Step) (judge : Judge) (seen : Sides) (standing : Standing) (x : Message) → judge.open_sid ≡ standing.open_sid
-    → (advanced s (record judge { sides = seen })).open_sid ≡ (stand_for s standing x).open_sid
+    → (judge_after_step s (record judge { sides = seen })).open_sid ≡ (standing_after_step s standing x).open_sid
 waits-by (step.Request service) judge seen standing x waits = refl
 waits-by step.Answer judge seen standing x waits = refl
 waits-by step.Removed judge seen standing x waits = waits
@@ -220,18 +221,18 @@ waits-by step.Hold judge seen standing x waits = waits
 waits-by step.Pass judge seen standing x waits = waits
 
 pub waits-found : (M : List Message) (x : Message) (judge now : Judge) (s : Step) (seen : Sides) → IsOpenSid M judge.open_sid → s ≡ step_of judge.open_sid x
-    → now ≡ advanced s (record judge { sides = seen }) → IsOpenSid (M ++ x ∷ []) now.open_sid
+    → now ≡ judge_after_step s (record judge { sides = seen }) → IsOpenSid (M ++ x ∷ []) now.open_sid
 waits-found M x judge now s seen waits s_is now_is =
     ap (λ (j : Judge). j.open_sid) now_is
     ∙ waits-by s judge seen (standing_after M) x waits
-    ∙ ap (λ r. (stand_for r (standing_after M) x).open_sid) (step-found M x judge s waits s_is)
+    ∙ ap (λ r. (standing_after_step r (standing_after M) x).open_sid) (step-found M x judge s waits s_is)
     ∙ ap (λ (o : Standing). o.open_sid) (stands-next M x)
 
 -- and the number of its item
-pub number-found : (M : List Message) (x : Message) (judge : Judge) (s : Step) (seen : Sides) (number : ℕ) → length M < 2 ^ 62 → HasJudged M judge
+pub number-found : (M : List Message) (x : Message) (judge : Judge) (s : Step) (seen : Sides) (number : ℕ) → length M < 2 ^ 62 → HasCounted M judge
     → s ≡ step_of judge.open_sid x → number ≡ number_in s (record judge { sides = seen }) → number ≡ number_after M x
 number-found M x judge s seen number few counts s_is is =
-    is ∙ number-by s M judge seen few counts ∙ ap (λ t. number_by t M) (step-found M x judge s counts.waits s_is)
+    is ∙ number-by s M judge seen few counts ∙ ap (λ t. number_by t M) (step-found M x judge s counts.is_open s_is)
 
 -- ---- the number of the exchange that waits
 
@@ -263,13 +264,13 @@ passed-by None items held_ones x is = refl
 passed-by (Some service) items held_ones x is = absurd (never-passes service x is)
 
 number-by-step : (s : Step) (M : List Message) (x : Message) → step_after M x ≡ s
-    → number-of (stand_for s (standing_after M) x) (items_with s (length (meaning M))) ≡ waits_with s (number_by s M) (waiting_number M)
+    → number-of (standing_after_step s (standing_after M) x) (item_count_after_step s (length (meaning M))) ≡ open_number_after_step s (number_by s M) (open_number_if_any M)
 number-by-step (step.Request service) M x is = ap (λ n. Some n) (omega arith)
 number-by-step step.Answer M x is = refl
 number-by-step step.Removed M x is = refl
 number-by-step step.Hold M x is = held-on (option_map sid (open_request M)) (length (meaning M)) (held M) x
 number-by-step step.Pass M x is = passed-by (option_map sid (open_request M)) (length (meaning M)) (length (held M)) x is
 
-pub waits-next : (M : List Message) (x : Message) → waiting_number (M ++ x ∷ []) ≡ waits_with (step_after M x) (number_after M x) (waiting_number M)
+pub waits-next : (M : List Message) (x : Message) → open_number_if_any (M ++ x ∷ []) ≡ open_number_after_step (step_after M x) (number_after M x) (open_number_if_any M)
 waits-next M x =
     (λ i. number-of (sym (stands-next M x) i) (items-next M x i)) ∙ number-by-step (step_after M x) M x refl

@@ -2,7 +2,7 @@ pub mod Bools
 pub mod Variants
 pub mod Differences
 pub mod Replies
-pub mod Waiting
+pub mod OpenExchange
 pub mod OneMore
 pub mod Kept
 pub mod Parts

@@ -11,10 +11,10 @@ use Rattle.uds_message.specs.Message.{is_request, is_response_sid}
 use Rattle.uds_exchange.specs.Meaning.{ItemValue, exchange, stray, is_tester_request, is_answer_to, is_pending_reply_to, meaning, flattened, removed_messages}
 use Rattle.uds_exchange.specs.Roles.{IsOpenBehind}
 use Rattle.uds_exchange.specs.Order.{has_exchange, open_request_in, open_request, held_in, held, early, rejection_of}
-use Rattle.uds_exchange.specs.WaitingExchange.{waiting}
-use Rattle.uds_exchange.specs.proving.Pairing.{join_by, join}
+use Rattle.uds_exchange.specs.OpenExchange.{open_exchange_in}
+use Rattle.uds_exchange.specs.proving.Pairing.{items_with_other, items_with}
 use Rattle.uds_exchange.proofs.Counts.{none-lost}
-use Rattle.uds_exchange.proofs.Waiting.{request_of, same-request, waiting-stray, waiting-answered}
+use Rattle.uds_exchange.proofs.OpenExchange.{request_of, same-request, open_exchange-stray, open_exchange-answered}
 use Rattle.uds_exchange.proofs.Bools.{any-append, any-first}
 use Rattle.uds_exchange.proofs.OneMore.{meaning-append}
 use Rattle.uds_exchange.proofs.OpenRequests.{opens, waits-open}
@@ -22,12 +22,12 @@ use Rattle.uds_exchange.proofs.Early.{early_in, early-held, early-is, early-then
 use Rattle.uds_exchange.proofs.Replies.{from-unit}
 
 -- the open request is that of the exchange which waits
-pub open-request-waits : (its : List ItemValue) → open_request_in its ≡ request_of (waiting its)
+pub open-request-waits : (its : List ItemValue) → open_request_in its ≡ request_of (open_exchange_in its)
 open-request-waits [] = refl
-open-request-waits (stray d m ∷ its) = open-request-waits its ∙ same-request (waiting its)
-open-request-waits (exchange q (Some b) ∷ its) = open-request-waits its ∙ same-request (waiting its)
+open-request-waits (stray d m ∷ its) = open-request-waits its ∙ same-request (open_exchange_in its)
+open-request-waits (exchange q (Some b) ∷ its) = open-request-waits its ∙ same-request (open_exchange_in its)
 open-request-waits (exchange q None ∷ its) =
-    elim (cases_Bool (has_exchange its)) [ inl e ↦ rw e (open-request-waits its ∙ same-request (waiting its)) | inr e ↦ rw e refl ]
+    elim (cases_Bool (has_exchange its)) [ inl e ↦ rw e (open-request-waits its ∙ same-request (open_exchange_in its)) | inr e ↦ rw e refl ]
 
 waits-by : (o : Option (ℕ × List ℕ)) (r : List ℕ) → request_of o ≡ Some r → (w : ℕ × List ℕ) × (o ≡ Some w) × (w.1 ≡ r)
 waits-by None r h = cc
@@ -36,7 +36,7 @@ waits-by (Some w) r h = (w, refl, same_Some _ _ h)
 pub open-request-behind : (M : List Message) (r : List ℕ) → (open_request M ≡ Some r) ↔ IsOpenBehind M r
 open-request-behind M r = (
   λ h.
-      let w = waits-by (waiting (meaning M)) r (sym (open-request-waits (meaning M)) ∙ h) in
+      let w = waits-by (open_exchange_in (meaning M)) r (sym (open-request-waits (meaning M)) ∙ h) in
       subst (IsOpenBehind M) w.2 (opens M w.0 w.1),
   λ o. open-request-waits (meaning M) ∙ ap request_of (waits-open M r o).1,
 )
@@ -50,27 +50,27 @@ nothing-held (exchange q None ∷ its) h =
 
 -- no message that is held answers the request that waits
 abbrev NoAnswerHeld : List ItemValue → Type 0
-NoAnswerHeld its = (w : ℕ × List ℕ) → waiting its ≡ Some w → list_any (is_answer_to w.1) (held_in its) ≡ false
+NoAnswerHeld its = (w : ℕ × List ℕ) → open_exchange_in its ≡ Some w → list_any (is_answer_to w.1) (held_in its) ≡ false
 
-no-answer-joins : (its : List ItemValue) (x : Message) (o : Option (ℕ × List ℕ)) → NoAnswerHeld its → waiting its ≡ o
-    → NoAnswerHeld (join_by o its x)
-no-answer-joins its x None s h = λ w k. absurd (none-some _ (sym h ∙ sym (waiting-stray its x.0 x.1) ∙ k))
+no-answer-joins : (its : List ItemValue) (x : Message) (o : Option (ℕ × List ℕ)) → NoAnswerHeld its → open_exchange_in its ≡ o
+    → NoAnswerHeld (items_with_other o its x)
+no-answer-joins its x None s h = λ w k. absurd (none-some _ (sym h ∙ sym (open_exchange-stray its x.0 x.1) ∙ k))
 no-answer-joins its x (Some v) s h =
     elim (cases_Bool (is_answer_to v.1 x)) [
-      | inl e ↦ rw e (λ w k. absurd (none-some _ (sym (waiting-answered its v x.1 h) ∙ k)))
+      | inl e ↦ rw e (λ w k. absurd (none-some _ (sym (open_exchange-answered its v x.1 h) ∙ k)))
       | inr e ↦ elim (cases_Bool (is_pending_reply_to v.1 x)) [
         | inl q ↦ rw (e, q) s
         | inr q ↦ rw (e, q) (λ w k.
-            let same : v ≡ w = same_Some _ _ (sym h ∙ sym (waiting-stray its x.0 x.1) ∙ k) in
+            let same : v ≡ w = same_Some _ _ (sym h ∙ sym (open_exchange-stray its x.0 x.1) ∙ k) in
             rw (← same, (early-kept its v x.0 x.1 h).1) (any-append (is_answer_to v.1) (held_in its) x (s v h) e))
       ]
     ]
 
-no-answer-join : (its : List ItemValue) (x : Message) → NoAnswerHeld its → NoAnswerHeld (join its x)
+no-answer-join : (its : List ItemValue) (x : Message) → NoAnswerHeld its → NoAnswerHeld (items_with its x)
 no-answer-join its x s =
     elim (cases_Bool (is_tester_request x)) [
       | inl e ↦ rw e (λ w k. rw (early-request its x.1).1 refl)
-      | inr e ↦ rw e (no-answer-joins its x (waiting its) s refl)
+      | inr e ↦ rw e (no-answer-joins its x (open_exchange_in its) s refl)
     ]
 
 no-answer-over : (M N : List Message) → NoAnswerHeld (meaning M) → NoAnswerHeld (meaning (M ++ N))
@@ -92,9 +92,9 @@ rejects (s ∷ bytes) h =
     ]
 
 -- an answer goes before what is held
-answered : (its : List ItemValue) (w : ℕ × List ℕ) → waiting its ≡ Some w
+answered : (its : List ItemValue) (w : ℕ × List ℕ) → open_exchange_in its ≡ Some w
     → (x : Message) → is_tester_request x ≡ false → is_answer_to w.1 x ≡ true
-    → flattened (join its x) ≡ early_in its ++ x ∷ held_in its
+    → flattened (items_with its x) ≡ early_in its ++ x ∷ held_in its
 answered its w h x r e =
     let set = early-answered its w x.1 h in
     rw (r, h, e) (
@@ -103,8 +103,8 @@ answered its w h x r e =
 
 pub answer-first : (M : List Message) (x : Message) (more : List Message) → held M ≡ x ∷ more
     → (r : List ℕ) × IsOpenBehind M r × (flattened (meaning (M ++ rejection_of r ∷ [])) ≡ early M ++ rejection_of r ∷ held M) × (x ≢ rejection_of r)
-answer-first M x more h = answer-first-by (waiting (meaning M)) refl where
-  answer-first-by : (o : Option (ℕ × List ℕ)) → waiting (meaning M) ≡ o
+answer-first M x more h = answer-first-by (open_exchange_in (meaning M)) refl where
+  answer-first-by : (o : Option (ℕ × List ℕ)) → open_exchange_in (meaning M) ≡ o
       → (r : List ℕ) × IsOpenBehind M r × (flattened (meaning (M ++ rejection_of r ∷ [])) ≡ early M ++ rejection_of r ∷ held M) × (x ≢ rejection_of r)
   answer-first-by None k = cc (none-held (meaning M) k)
   answer-first-by (Some w) k =

@@ -7,8 +7,8 @@ use Rattle.direction.specs.Dir.{Message}
 use Rattle.uds_exchange.specs.Meaning.{is_tester_request, is_answer_to, is_pending_reply_to, before_requests, Part, part, parts, answer, strays_in}
 use Rattle.uds_exchange.specs.Meaning.{ItemValue, exchange, stray, stray_of, items_of, meaning}
 use Rattle.uds_exchange.specs.Order.{has_exchange}
-use Rattle.uds_exchange.specs.WaitingExchange.{one_later, waiting}
-use Rattle.uds_exchange.specs.proving.Pairing.{join_by, join}
+use Rattle.uds_exchange.specs.OpenExchange.{one_later, open_exchange_in}
+use Rattle.uds_exchange.specs.proving.Pairing.{items_with_other, items_with}
 
 -- the parts, and what comes before them, with one more message
 abbrev pub grown : List Part → Message → List Part
@@ -41,17 +41,17 @@ grows (y ∷ ys) x =
     ]
 
 -- strays alone have no exchange
-pub no-strays : (o : List Message) → (has_exchange (map stray_of o) ≡ false) × (waiting (map stray_of o) ≡ None)
+pub no-strays : (o : List Message) → (has_exchange (map stray_of o) ≡ false) × (open_exchange_in (map stray_of o) ≡ None)
 no-strays [] = (refl, refl)
 no-strays (x ∷ o) = ((no-strays o).0, ap one_later (no-strays o).1)
 
-pub waiting-cons : (a : ItemValue) (its : List ItemValue) → has_exchange its ≡ true → waiting (a ∷ its) ≡ one_later (waiting its)
-waiting-cons (stray d m) its h = refl
-waiting-cons (exchange r (Some b)) its h = refl
-waiting-cons (exchange r None) its h = rw h refl
+pub open_exchange-cons : (a : ItemValue) (its : List ItemValue) → has_exchange its ≡ true → open_exchange_in (a ∷ its) ≡ one_later (open_exchange_in its)
+open_exchange-cons (stray d m) its h = refl
+open_exchange-cons (exchange r (Some b)) its h = refl
+open_exchange-cons (exchange r None) its h = rw h refl
 
 join_by-cons : (a : ItemValue) (o : Option (ℕ × List ℕ)) (its : List ItemValue) (x : Message)
-    → join_by (one_later o) (a ∷ its) x ≡ a ∷ join_by o its x
+    → items_with_other (one_later o) (a ∷ its) x ≡ a ∷ items_with_other o its x
 join_by-cons a None its x = refl
 join_by-cons a (Some w) its x =
     elim (cases_Bool (is_answer_to w.1 x)) [
@@ -60,11 +60,11 @@ join_by-cons a (Some w) its x =
     ]
 
 -- a message is joined to the last exchange, whatever comes before it
-join-cons : (a : ItemValue) (its : List ItemValue) (x : Message) → has_exchange its ≡ true → join (a ∷ its) x ≡ a ∷ join its x
+join-cons : (a : ItemValue) (its : List ItemValue) (x : Message) → has_exchange its ≡ true → items_with (a ∷ its) x ≡ a ∷ items_with its x
 join-cons a its x h =
     elim (cases_Bool (is_tester_request x)) [
       | inl e ↦ rw e refl
-      | inr e ↦ rw (e, waiting-cons a its h) (join_by-cons a (waiting its) its x)
+      | inr e ↦ rw (e, open_exchange-cons a its h) (join_by-cons a (open_exchange_in its) its x)
     ]
 
 pub has-behind : (A B : List ItemValue) → has_exchange B ≡ true → has_exchange (A ++ B) ≡ true
@@ -72,7 +72,7 @@ has-behind [] B h = h
 has-behind (stray d m ∷ A) B h = has-behind A B h
 has-behind (exchange r a ∷ A) B h = refl
 
-join-behind : (A B : List ItemValue) (x : Message) → has_exchange B ≡ true → join (A ++ B) x ≡ A ++ join B x
+join-behind : (A B : List ItemValue) (x : Message) → has_exchange B ≡ true → items_with (A ++ B) x ≡ A ++ items_with B x
 join-behind [] B x h = refl
 join-behind (a ∷ A) B x h = join-cons a (A ++ B) x (has-behind A B h) ∙ ap (λ l. a ∷ l) (join-behind A B x h)
 
@@ -112,7 +112,7 @@ stray_of-append : (o : List Message) (x : Message) → map stray_of (o ++ x ∷ 
 stray_of-append o x = map-append stray_of o (x ∷ [])
 
 part-grows : (r : List ℕ) (a : Option (List ℕ)) (o : List Message) (x : Message) → is_tester_request x ≡ false
-    → exchange r (found a r x) ∷ map stray_of (left a r o x) ≡ join (exchange r a ∷ map stray_of o) x
+    → exchange r (found a r x) ∷ map stray_of (left a r o x) ≡ items_with (exchange r a ∷ map stray_of o) x
 part-grows r (Some a) o x h = rw (h, (no-strays o).1) (ap (λ l. exchange r (Some a) ∷ l) (stray_of-append o x))
 part-grows r None o x h =
     rw (h, (no-strays o).0) (elim (cases_Bool (is_answer_to r x)) [
@@ -129,34 +129,34 @@ has-items p ps = refl
 pub one-part : (p : Part) → flat_map items_of (p ∷ []) ≡ items_of p
 one-part p = append-nil (items_of p)
 
-parts-join : (p : Part) (ps : List Part) (x : Message) → flat_map items_of (grown (p ∷ ps) x) ≡ join (flat_map items_of (p ∷ ps)) x
+parts-join : (p : Part) (ps : List Part) (x : Message) → flat_map items_of (grown (p ∷ ps) x) ≡ items_with (flat_map items_of (p ∷ ps)) x
 parts-join p [] x =
     elim (cases_Bool (is_tester_request x)) [
       | inl e ↦ rw e
           (ap (λ l. exchange p.request (answer p.request p.behind) ∷ (l ++ exchange x.1 None ∷ []))
           (sym (append-nil (map stray_of (strays_in p.request p.behind)))))
       | inr e ↦
-          (let grows_by : items_of (part p.request (p.behind ++ x ∷ [])) ≡ join (items_of p) x =
+          (let grows_by : items_of (part p.request (p.behind ++ x ∷ [])) ≡ items_with (items_of p) x =
           rw (answer-append p.request p.behind x, strays_in-append p.request p.behind x)
           (part-grows p.request (answer p.request p.behind) (strays_in p.request p.behind) x e) in
           ap (λ b. flat_map items_of (cond b (p ∷ part x.1 [] ∷ []) (part p.request (p.behind ++ x ∷ []) ∷ []))) e
-          ∙ one-part (part p.request (p.behind ++ x ∷ [])) ∙ grows_by ∙ ap (λ l. join l x) (sym (one-part p)))
+          ∙ one-part (part p.request (p.behind ++ x ∷ [])) ∙ grows_by ∙ ap (λ l. items_with l x) (sym (one-part p)))
     ]
 parts-join p (q ∷ ps) x =
     ap (λ l. items_of p ++ l) (parts-join q ps x) ∙ sym (join-behind (items_of p) (flat_map items_of (q ∷ ps)) x (has-items q ps))
 
 meaning-append-by : (b : List Message) (ps : List Part) (x : Message)
-    → map stray_of (fronted b ps x) ++ flat_map items_of (grown ps x) ≡ join (map stray_of b ++ flat_map items_of ps) x
+    → map stray_of (fronted b ps x) ++ flat_map items_of (grown ps x) ≡ items_with (map stray_of b ++ flat_map items_of ps) x
 meaning-append-by b [] x =
     elim (cases_Bool (is_tester_request x)) [
       | inl e ↦ rw e (ap (λ l. l ++ exchange x.1 None ∷ []) (sym (append-nil (map stray_of b))))
       | inr e ↦
-          (let plain : map stray_of b ++ stray_of x ∷ [] ≡ join_by (waiting (map stray_of b)) (map stray_of b) x = rw (no-strays b).1 refl in
-          rw e (append-nil _ ∙ stray_of-append b x ∙ plain ∙ ap (λ l. join_by (waiting l) l x) (sym (append-nil (map stray_of b)))))
+          (let plain : map stray_of b ++ stray_of x ∷ [] ≡ items_with_other (open_exchange_in (map stray_of b)) (map stray_of b) x = rw (no-strays b).1 refl in
+          rw e (append-nil _ ∙ stray_of-append b x ∙ plain ∙ ap (λ l. items_with_other (open_exchange_in l) l x) (sym (append-nil (map stray_of b)))))
     ]
 meaning-append-by b (p ∷ ps) x =
     ap (λ l. map stray_of b ++ l) (parts-join p ps x) ∙ sym (join-behind (map stray_of b) (flat_map items_of (p ∷ ps)) x (has-items p ps))
 
 -- the meaning of a longer list
-pub meaning-append : (M : List Message) (x : Message) → meaning (M ++ x ∷ []) ≡ join (meaning M) x
+pub meaning-append : (M : List Message) (x : Message) → meaning (M ++ x ∷ []) ≡ items_with (meaning M) x
 meaning-append M x = rw ((grows M x).0, (grows M x).1) (meaning-append-by (before_requests M) (parts M) x)

@@ -8,42 +8,42 @@ use Rattle.direction.specs.Dir.{Message}
 use Rattle.direction.specs.declared.Dir.TheVariants.{Tester}
 use Rattle.uds_exchange.specs.Meaning.{ItemValue, is_tester_request, is_answer_to, is_pending_reply_to, meaning}
 use Rattle.uds_exchange.specs.Roles.{IsOpenBehind}
-use Rattle.uds_exchange.specs.WaitingExchange.{waiting}
-use Rattle.uds_exchange.specs.proving.Pairing.{join_by, join}
+use Rattle.uds_exchange.specs.OpenExchange.{open_exchange_in}
+use Rattle.uds_exchange.specs.proving.Pairing.{items_with_other, items_with}
 use Rattle.uds_exchange.proofs.Bools.{any-append}
-use Rattle.uds_exchange.proofs.Waiting.{waiting-stray, waiting-request, waiting-answered}
+use Rattle.uds_exchange.proofs.OpenExchange.{open_exchange-stray, open_exchange-request, open_exchange-answered}
 use Rattle.uds_exchange.proofs.OneMore.{meaning-append}
 use Rattle.uds_exchange.proofs.Replies.{from-tester, request-bytes}
 
 -- the exchange that waits still does after a message that is neither request nor answer
 still-waits : (its : List ItemValue) (w : ℕ × List ℕ) (x : Message)
-    → waiting its ≡ Some w → is_tester_request x ≡ false → is_answer_to w.1 x ≡ false → waiting (join its x) ≡ Some w
+    → open_exchange_in its ≡ Some w → is_tester_request x ≡ false → is_answer_to w.1 x ≡ false → open_exchange_in (items_with its x) ≡ Some w
 still-waits its w x h r a =
     elim (cases_Bool (is_pending_reply_to w.1 x)) [
       | inl q ↦ rw (r, h, a, q) h
-      | inr q ↦ rw (r, h, a, q) (waiting-stray its x.0 x.1 ∙ h)
+      | inr q ↦ rw (r, h, a, q) (open_exchange-stray its x.0 x.1 ∙ h)
     ]
 
-waits-over : (past since : List Message) (w : ℕ × List ℕ) → waiting (meaning past) ≡ Some w
-    → list_any is_tester_request since ≡ false → list_any (is_answer_to w.1) since ≡ false → waiting (meaning (past ++ since)) ≡ Some w
+waits-over : (past since : List Message) (w : ℕ × List ℕ) → open_exchange_in (meaning past) ≡ Some w
+    → list_any is_tester_request since ≡ false → list_any (is_answer_to w.1) since ≡ false → open_exchange_in (meaning (past ++ since)) ≡ Some w
 waits-over past [] w h r a = rw append-nil h
 waits-over past (x ∷ xs) w h r a =
     let r' = or_parts (is_tester_request x) (list_any is_tester_request xs) r in
     let a' = or_parts (is_answer_to w.1 x) (list_any (is_answer_to w.1) xs) a in
     rw (← append_assoc past (x ∷ []) xs)
-    (waits-over (past ++ x ∷ []) xs w (ap waiting (meaning-append past x) ∙ still-waits (meaning past) w x h r'.0 a'.0) r'.1 a'.1)
+    (waits-over (past ++ x ∷ []) xs w (ap open_exchange_in (meaning-append past x) ∙ still-waits (meaning past) w x h r'.0 a'.0) r'.1 a'.1)
 
 -- the exchange of the open request waits
-pub waits-open : (past : List Message) (r : List ℕ) → IsOpenBehind past r → (k : ℕ) × (waiting (meaning past) ≡ Some (k, r))
+pub waits-open : (past : List Message) (r : List ℕ) → IsOpenBehind past r → (k : ℕ) × (open_exchange_in (meaning past) ≡ Some (k, r))
 waits-open past r o =
     let place = length (meaning o.earlier) in
-    let here : waiting (join (meaning o.earlier) (Tester, r)) ≡ Some (place, r) = rw o.is_one (waiting-request (meaning o.earlier) r) in
-    let first = ap waiting (meaning-append o.earlier (Tester, r)) ∙ here in
+    let here : open_exchange_in (items_with (meaning o.earlier) (Tester, r)) ≡ Some (place, r) = rw o.is_one (open_exchange-request (meaning o.earlier) r) in
+    let first = ap open_exchange_in (meaning-append o.earlier (Tester, r)) ∙ here in
     let whole = waits-over (o.earlier ++ (Tester, r) ∷ []) o.since (place, r) first o.is_last o.is_unanswered in
     let split = o.place ∙ sym (append_assoc o.earlier ((Tester, r) ∷ []) o.since) in
-    (place, ap (λ l. waiting (meaning l)) split ∙ whole)
+    (place, ap (λ l. open_exchange_in (meaning l)) split ∙ whole)
 
-pub same-open : (past : List Message) (r : List ℕ) (w : ℕ × List ℕ) → IsOpenBehind past r → waiting (meaning past) ≡ Some w → r ≡ w.1
+pub same-open : (past : List Message) (r : List ℕ) (w : ℕ × List ℕ) → IsOpenBehind past r → open_exchange_in (meaning past) ≡ Some w → r ≡ w.1
 same-open past r w o h = let found = waits-open past r o in ap (λ v. v.1) (same_Some _ _ (sym found.1 ∙ h))
 
 -- the open request is still open after such a message
@@ -69,31 +69,31 @@ open-request past x e = record {
 }
 
 abbrev Opens : List Message → Type 0
-Opens past = (w : ℕ × List ℕ) → waiting (meaning past) ≡ Some w → IsOpenBehind past w.1
+Opens past = (w : ℕ × List ℕ) → open_exchange_in (meaning past) ≡ Some w → IsOpenBehind past w.1
 
-opens-by : (past : List Message) (x : Message) (o : Option (ℕ × List ℕ)) → Opens past → is_tester_request x ≡ false → waiting (meaning past) ≡ o
-    → (w : ℕ × List ℕ) → waiting (join_by o (meaning past) x) ≡ Some w → IsOpenBehind (past ++ x ∷ []) w.1
-opens-by past x None s r h w e = absurd (none-some _ (sym h ∙ sym (waiting-stray (meaning past) x.0 x.1) ∙ e))
+opens-by : (past : List Message) (x : Message) (o : Option (ℕ × List ℕ)) → Opens past → is_tester_request x ≡ false → open_exchange_in (meaning past) ≡ o
+    → (w : ℕ × List ℕ) → open_exchange_in (items_with_other o (meaning past) x) ≡ Some w → IsOpenBehind (past ++ x ∷ []) w.1
+opens-by past x None s r h w e = absurd (none-some _ (sym h ∙ sym (open_exchange-stray (meaning past) x.0 x.1) ∙ e))
 opens-by past x (Some v) s r h w e =
     elim (cases_Bool (is_answer_to v.1 x)) [
-      | inl a ↦ absurd (none-some _ (sym (waiting-answered (meaning past) v x.1 h) ∙ rw a at e))
+      | inl a ↦ absurd (none-some _ (sym (open_exchange-answered (meaning past) v x.1 h) ∙ rw a at e))
       | inr a ↦
           (let more = open-more past v.1 x (s v h) r a in
           let opened = λ (y : ℕ × List ℕ). IsOpenBehind (past ++ x ∷ []) y.1 in
           elim (cases_Bool (is_pending_reply_to v.1 x)) [
             | inl q ↦ subst opened (same_Some _ _ (sym h ∙ rw (a, q) at e)) more
-            | inr q ↦ subst opened (same_Some _ _ (sym h ∙ sym (waiting-stray (meaning past) x.0 x.1) ∙ rw (a, q) at e)) more
+            | inr q ↦ subst opened (same_Some _ _ (sym h ∙ sym (open_exchange-stray (meaning past) x.0 x.1) ∙ rw (a, q) at e)) more
           ])
     ]
 
 opens-join : (past : List Message) (x : Message) → Opens past → Opens (past ++ x ∷ [])
 opens-join past x s = λ w e.
-    let e' : waiting (join (meaning past) x) ≡ Some w = ap waiting (sym (meaning-append past x)) ∙ e in
+    let e' : open_exchange_in (items_with (meaning past) x) ≡ Some w = ap open_exchange_in (sym (meaning-append past x)) ∙ e in
     elim (cases_Bool (is_tester_request x)) [
       | inl r ↦
-          (let same : (length (meaning past), x.1) ≡ w = same_Some _ _ (sym (waiting-request (meaning past) x.1) ∙ rw r at e') in
+          (let same : (length (meaning past), x.1) ≡ w = same_Some _ _ (sym (open_exchange-request (meaning past) x.1) ∙ rw r at e') in
           subst (λ (y : ℕ × List ℕ). IsOpenBehind (past ++ x ∷ []) y.1) same (open-request past x r))
-      | inr r ↦ opens-by past x (waiting (meaning past)) s r refl w (rw r at e')
+      | inr r ↦ opens-by past x (open_exchange_in (meaning past)) s r refl w (rw r at e')
     ]
 
 opens-over : (past more : List Message) → Opens past → Opens (past ++ more)
@@ -101,5 +101,5 @@ opens-over past [] s = rw append-nil s
 opens-over past (x ∷ xs) s = rw (← append_assoc past (x ∷ []) xs) (opens-over (past ++ x ∷ []) xs (opens-join past x s))
 
 -- the request of an exchange that waits is open
-pub opens : (past : List Message) (w : ℕ × List ℕ) → waiting (meaning past) ≡ Some w → IsOpenBehind past w.1
+pub opens : (past : List Message) (w : ℕ × List ℕ) → open_exchange_in (meaning past) ≡ Some w → IsOpenBehind past w.1
 opens past = opens-over [] past (λ w h. absurd (none-some _ h))

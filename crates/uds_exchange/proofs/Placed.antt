@@ -12,9 +12,9 @@ use Rattle.uds_exchange.specs.Meaning.{is_tester_request, is_answer_to, is_pendi
 use Rattle.uds_exchange.specs.Meaning.{ItemValue, exchange, stray, stray_of, items_of, meaning, flattened}
 use Rattle.uds_exchange.specs.Roles.{behind_last_request, placed}
 use Rattle.uds_exchange.specs.Order.{has_exchange}
-use Rattle.uds_exchange.specs.WaitingExchange.{waiting}
-use Rattle.uds_exchange.specs.proving.Pairing.{join_by}
-use Rattle.uds_exchange.proofs.Waiting.{one_later-some}
+use Rattle.uds_exchange.specs.OpenExchange.{open_exchange_in}
+use Rattle.uds_exchange.specs.proving.Pairing.{items_with_other}
+use Rattle.uds_exchange.proofs.OpenExchange.{one_later-some}
 use Rattle.uds_exchange.proofs.OneMore.{meaning-append}
 use Rattle.uds_exchange.proofs.Parts.{Quiet, quiet-before_requests, quiet-strays_in, Good, good-parts}
 use Rattle.uds_exchange.proofs.InOrder.{flattened-push}
@@ -58,27 +58,27 @@ any-request (exchange r None ∷ its) h = rw h.0 refl
 any-request (exchange r (Some a) ∷ its) h = rw h.0 refl
 any-request (stray d m ∷ its) h = rw h.0 (any-request its h.1)
 
-waiting-has : (its : List ItemValue) (w : ℕ × List ℕ) → waiting its ≡ Some w → has_exchange its ≡ true
-waiting-has [] w h = cc
-waiting-has (exchange r a ∷ its) w h = refl
-waiting-has (stray d m ∷ its) w h = let v = one_later-some (waiting its) w h in waiting-has its v.0 v.1
+open_exchange-has : (its : List ItemValue) (w : ℕ × List ℕ) → open_exchange_in its ≡ Some w → has_exchange its ≡ true
+open_exchange-has [] w h = cc
+open_exchange-has (exchange r a ∷ its) w h = refl
+open_exchange-has (stray d m ∷ its) w h = let v = one_later-some (open_exchange_in its) w h in open_exchange-has its v.0 v.1
 
 -- the answer of the exchange that waits stands after the last request
-placed-answer : (its : List ItemValue) (w : ℕ × List ℕ) (a : List ℕ) → Sound its → waiting its ≡ Some w
+placed-answer : (its : List ItemValue) (w : ℕ × List ℕ) (a : List ℕ) → Sound its → open_exchange_in its ≡ Some w
     → flattened (slice_set its w.0 (exchange w.1 (Some a))) ≡ behind_last_request (flattened its) (Unit, a)
 placed-answer [] w a s h = cc
 placed-answer (stray d m ∷ its) w a s h =
-    let v = one_later-some (waiting its) w h in
-    let more = any-request its s.1 ∙ waiting-has its v.0 v.1 in
+    let v = one_later-some (open_exchange_in its) w h in
+    let more = any-request its s.1 ∙ open_exchange-has its v.0 v.1 in
     rw (v.2, more) (ap (λ l. (d, m) ∷ l) (placed-answer its v.0 a s.1 v.1))
 placed-answer (exchange q (Some b) ∷ its) w a s h =
-    let v = one_later-some (waiting its) w h in
-    let more = any-request its s.1 ∙ waiting-has its v.0 v.1 in
+    let v = one_later-some (open_exchange_in its) w h in
+    let more = any-request its s.1 ∙ open_exchange-has its v.0 v.1 in
     rw (v.2, more) (ap (λ l. (Tester, q) ∷ (Unit, b) ∷ l) (placed-answer its v.0 a s.1 v.1))
 placed-answer (exchange q None ∷ its) w a s h =
     elim (cases_Bool (has_exchange its)) [
       | inl e ↦
-          (let v = one_later-some (waiting its) w (rw e at h) in
+          (let v = one_later-some (open_exchange_in its) w (rw e at h) in
           let more = any-request its s.1 ∙ e in
           rw (v.2, more) (ap (λ l. (Tester, q) ∷ l) (placed-answer its v.0 a s.1 v.1)))
       | inr e ↦
@@ -87,8 +87,8 @@ placed-answer (exchange q None ∷ its) w a s h =
           rw (← same, none, s.0) refl)
     ]
 
-placed-by : (its : List ItemValue) (x : Message) (o : Option (ℕ × List ℕ)) → Sound its → waiting its ≡ o
-    → flattened (join_by o its x) ≡ placed (role_by o x) (flattened its) x
+placed-by : (its : List ItemValue) (x : Message) (o : Option (ℕ × List ℕ)) → Sound its → open_exchange_in its ≡ o
+    → flattened (items_with_other o its x) ≡ placed (role_by o x) (flattened its) x
 placed-by its x None s h = flattened-push its (stray_of x) x refl
 placed-by its x (Some w) s h =
     elim (cases_Bool (is_answer_to w.1 x)) [
@@ -103,5 +103,5 @@ pub flattened-meaning-append : (M : List Message) (x : Message) → flattened (m
 flattened-meaning-append M x =
     ap flattened (meaning-append M x) ∙ elim (cases_Bool (is_tester_request x)) [
       | inl e ↦ rw e (flattened-push (meaning M) (exchange x.1 None) x (ap (λ y. y ∷ []) (from-tester x e)))
-      | inr e ↦ rw e (placed-by (meaning M) x (waiting (meaning M)) (sound-meaning M) refl)
+      | inr e ↦ rw e (placed-by (meaning M) x (open_exchange_in (meaning M)) (sound-meaning M) refl)
     ]

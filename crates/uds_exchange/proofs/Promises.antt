@@ -17,7 +17,7 @@ pub use Rattle.uds_exchange.proofs.Deciding.{decided_then_undecided, decided_gro
 pub use Rattle.uds_exchange.proofs.PuttingItems.{decided-puts-go-on as decided_puts_go_on, decided-puts-end as decided_puts_end}
 pub use Rattle.uds_exchange.proofs.PutIn.{one_more_is_put_in}
 pub use Rattle.uds_exchange.proofs.Putting.{puts-append as puts_join}
-pub use Rattle.uds_exchange.proofs.ItemNumbers.{items-few as items_are_few, few-items as items_within_messages, items-next as items_grow, held_are_fewer, step-is as step_by_items, waits-next as waiting_number_goes_on}
+pub use Rattle.uds_exchange.proofs.ItemNumbers.{items-few as items_are_few, few-items as items_within_messages, items-next as items_grow, held_are_fewer, step-is as step_by_items, waits-next as open_number_goes_on}
 pub use Rattle.uds_exchange.proofs.OneMore.{meaning-append as meaning_goes_on}
 pub use Rattle.uds_exchange.proofs.NextStep.{puts-go-on as puts_go_on, puts-end as puts_end}
 pub use Rattle.uds_exchange.proofs.InBlocks.{holds-on as message_stays}

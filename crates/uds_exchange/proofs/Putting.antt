@@ -1,7 +1,7 @@
 -- Messages put one after another, and what is left to put.
 use Rattle.std.proofs.Common.{◌≡◌, List, [], ◌∷◌, ◌++◌, refl, sym, ◌∙◌, ap, subst, append_assoc}
 use Rattle.direction.specs.Dir.{Message}
-use Rattle.uds_exchange.specs.Sink.{AfterOk, AfterErr, Puts, Fails}
+use Rattle.uds_exchange.specs.MessageSink.{AfterOk, AfterErr, Puts, Fails}
 
 -- where xs are put from s, all are put from s0
 pub record Onto {S E : Type 0} (after_ok : AfterOk S) (after_err : AfterErr S E)

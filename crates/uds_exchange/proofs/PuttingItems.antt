@@ -6,7 +6,7 @@ use Rattle.uds_exchange.specs.Decided.{decided, undecided}
 use Rattle.uds_exchange.specs.Decider.{PutsDecided}
 use Rattle.uds_exchange.specs.ItemSink.{AfterItem, PutsItems}
 use Rattle.uds_exchange.specs.Meaning.{ItemValue, stray, stray_of, meaning}
-use Rattle.uds_exchange.specs.Sink.{Puts, Fails}
+use Rattle.uds_exchange.specs.MessageSink.{Puts, Fails}
 use Rattle.uds_exchange.specs.declared.decider.StraySink.{StraySink}
 use Rattle.uds_exchange.proofs.Deciding.{decided_then_undecided}
 

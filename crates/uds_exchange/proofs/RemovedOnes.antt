@@ -8,9 +8,9 @@ use Rattle.uds_exchange.specs.Meaning.{is_tester_request, is_answer_to, is_pendi
 use Rattle.uds_exchange.specs.Meaning.{removed, removed_of, removed_messages, ItemValue, exchange, stray_of, items_of, meaning}
 use Rattle.uds_exchange.specs.Roles.{those_removed}
 use Rattle.uds_exchange.specs.Order.{has_exchange}
-use Rattle.uds_exchange.specs.WaitingExchange.{waiting}
-use Rattle.uds_exchange.proofs.Waiting.{request_of, same-request}
-use Rattle.uds_exchange.proofs.OneMore.{grown, grows, no-strays, waiting-cons, has-behind, has-items, one-part}
+use Rattle.uds_exchange.specs.OpenExchange.{open_exchange_in}
+use Rattle.uds_exchange.proofs.OpenExchange.{request_of, same-request}
+use Rattle.uds_exchange.proofs.OneMore.{grown, grows, no-strays, open_exchange-cons, has-behind, has-items, one-part}
 use Rattle.uds_exchange.proofs.RolesFound.{role_by, role_behind}
 
 abbrev open_if : Option (List ℕ) → List ℕ → Option (List ℕ)
@@ -23,22 +23,22 @@ open_in [] = None
 open_in (p ∷ []) = open_if (answer p.request p.behind) p.request
 open_in (p ∷ q ∷ ps) = open_in (q ∷ ps)
 
-waits-behind : (A B : List ItemValue) → has_exchange B ≡ true → request_of (waiting (A ++ B)) ≡ request_of (waiting B)
+waits-behind : (A B : List ItemValue) → has_exchange B ≡ true → request_of (open_exchange_in (A ++ B)) ≡ request_of (open_exchange_in B)
 waits-behind [] B h = refl
 waits-behind (a ∷ A) B h =
-    ap request_of (waiting-cons a (A ++ B) (has-behind A B h)) ∙ sym (same-request (waiting (A ++ B))) ∙ waits-behind A B h
+    ap request_of (open_exchange-cons a (A ++ B) (has-behind A B h)) ∙ sym (same-request (open_exchange_in (A ++ B))) ∙ waits-behind A B h
 
-one-waits : (r : List ℕ) (a : Option (List ℕ)) (o : List Message) → request_of (waiting (exchange r a ∷ map stray_of o)) ≡ open_if a r
+one-waits : (r : List ℕ) (a : Option (List ℕ)) (o : List Message) → request_of (open_exchange_in (exchange r a ∷ map stray_of o)) ≡ open_if a r
 one-waits r None o = rw (no-strays o).0 refl
 one-waits r (Some a) o = rw (no-strays o).1 refl
 
-parts-wait : (ps : List Part) → request_of (waiting (flat_map items_of ps)) ≡ open_in ps
+parts-wait : (ps : List Part) → request_of (open_exchange_in (flat_map items_of ps)) ≡ open_in ps
 parts-wait [] = refl
 parts-wait (p ∷ []) =
-    ap (λ l. request_of (waiting l)) (one-part p) ∙ one-waits p.request (answer p.request p.behind) (strays_in p.request p.behind)
+    ap (λ l. request_of (open_exchange_in l)) (one-part p) ∙ one-waits p.request (answer p.request p.behind) (strays_in p.request p.behind)
 parts-wait (p ∷ q ∷ ps) = waits-behind (items_of p) (flat_map items_of (q ∷ ps)) (has-items q ps) ∙ parts-wait (q ∷ ps)
 
-meaning-waits-by : (b : List Message) (ps : List Part) → request_of (waiting (map stray_of b ++ flat_map items_of ps)) ≡ open_in ps
+meaning-waits-by : (b : List Message) (ps : List Part) → request_of (open_exchange_in (map stray_of b ++ flat_map items_of ps)) ≡ open_in ps
 meaning-waits-by b [] = rw (append-nil (map stray_of b), (no-strays b).1) refl
 meaning-waits-by b (p ∷ ps) = waits-behind (map stray_of b) (flat_map items_of (p ∷ ps)) (has-items p ps) ∙ parts-wait (p ∷ ps)
 
@@ -89,5 +89,5 @@ removed_messages-append M x =
       | inr e ↦ rw e (
           grown-other (parts M) x e
           ∙ ap (λ o. removed_messages M ++ more_removed o x) (sym (meaning-waits-by (before_requests M) (parts M)))
-          ∙ ap (λ l. removed_messages M ++ l) (more-by-role (waiting (meaning M)) x))
+          ∙ ap (λ l. removed_messages M ++ l) (more-by-role (open_exchange_in (meaning M)) x))
     ]

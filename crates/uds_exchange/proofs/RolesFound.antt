@@ -5,7 +5,7 @@ use Rattle.std.proofs.lemmas.Option.{none-some}
 use Rattle.direction.specs.Dir.{Message}
 use Rattle.uds_exchange.specs.Meaning.{is_tester_request, is_answer_to, is_pending_reply_to, meaning}
 use Rattle.uds_exchange.specs.Roles.{MessageRole, IsOpenBehind, as_request, as_answer, as_removed, as_stray, AnswersOpen, IsPendingForOpen, HasRole}
-use Rattle.uds_exchange.specs.WaitingExchange.{waiting}
+use Rattle.uds_exchange.specs.OpenExchange.{open_exchange_in}
 use Rattle.uds_exchange.proofs.OpenRequests.{opens, waits-open, same-open}
 use Rattle.uds_exchange.proofs.Replies.{pending-not-answer, answer-not-request, pending-not-request}
 
@@ -15,19 +15,19 @@ role_by None x = as_stray
 role_by (Some w) x = cond (is_answer_to w.1 x) as_answer (cond (is_pending_reply_to w.1 x) as_removed as_stray)
 
 abbrev pub role_behind : List Message → Message → MessageRole
-role_behind past x = cond (is_tester_request x) as_request (role_by (waiting (meaning past)) x)
+role_behind past x = cond (is_tester_request x) as_request (role_by (open_exchange_in (meaning past)) x)
 
 module _ (past : List Message) (x : Message) where
-  no-answer : (w : ℕ × List ℕ) → waiting (meaning past) ≡ Some w → is_answer_to w.1 x ≡ false → ¬ AnswersOpen past x
+  no-answer : (w : ℕ × List ℕ) → open_exchange_in (meaning past) ≡ Some w → is_answer_to w.1 x ≡ false → ¬ AnswersOpen past x
   no-answer w h e a = false≢true (sym e ∙ ap (λ r. is_answer_to r x) (sym (same-open past a.0 w a.1 h)) ∙ a.2)
 
-  no-pending : (w : ℕ × List ℕ) → waiting (meaning past) ≡ Some w → is_pending_reply_to w.1 x ≡ false → ¬ IsPendingForOpen past x
+  no-pending : (w : ℕ × List ℕ) → open_exchange_in (meaning past) ≡ Some w → is_pending_reply_to w.1 x ≡ false → ¬ IsPendingForOpen past x
   no-pending w h e a = false≢true (sym e ∙ ap (λ r. is_pending_reply_to r x) (sym (same-open past a.0 w a.1 h)) ∙ a.2)
 
-  none-open : (r : List ℕ) → waiting (meaning past) ≡ None → ¬ IsOpenBehind past r
+  none-open : (r : List ℕ) → open_exchange_in (meaning past) ≡ None → ¬ IsOpenBehind past r
   none-open r h o = none-some _ (sym h ∙ (waits-open past r o).1)
 
-  has-role-by : is_tester_request x ≡ false → (o : Option (ℕ × List ℕ)) → waiting (meaning past) ≡ o → HasRole past x (role_by o x)
+  has-role-by : is_tester_request x ≡ false → (o : Option (ℕ × List ℕ)) → open_exchange_in (meaning past) ≡ o → HasRole past x (role_by o x)
   has-role-by r None h = (r, λ a. none-open a.0 h a.1, λ a. none-open a.0 h a.1)
   has-role-by r (Some w) h =
       elim (cases_Bool (is_answer_to w.1 x)) [
@@ -42,10 +42,10 @@ module _ (past : List Message) (x : Message) where
   has-role =
       elim (cases_Bool (is_tester_request x)) [
         | inl e ↦ rw e e
-        | inr e ↦ rw e (has-role-by e (waiting (meaning past)) refl)
+        | inr e ↦ rw e (has-role-by e (open_exchange_in (meaning past)) refl)
       ]
 
-  stray-by : (o : Option (ℕ × List ℕ)) → waiting (meaning past) ≡ o → ¬ AnswersOpen past x → ¬ IsPendingForOpen past x → as_stray ≡ role_by o x
+  stray-by : (o : Option (ℕ × List ℕ)) → open_exchange_in (meaning past) ≡ o → ¬ AnswersOpen past x → ¬ IsPendingForOpen past x → as_stray ≡ role_by o x
   stray-by None h a q = refl
   stray-by (Some w) h a q =
       elim (cases_Bool (is_answer_to w.1 x)) [
@@ -62,4 +62,4 @@ module _ (past : List Message) (x : Message) where
   only-role as_removed h =
       let w = waits-open past h.0 h.1 in
       rw (pending-not-request h.0 x h.2, w.1, pending-not-answer h.0 x h.2, h.2) refl
-  only-role as_stray h = rw h.0 (stray-by (waiting (meaning past)) refl h.1 h.2)
+  only-role as_stray h = rw h.0 (stray-by (open_exchange_in (meaning past)) refl h.1 h.2)

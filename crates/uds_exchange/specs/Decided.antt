@@ -15,7 +15,7 @@ decided_in (exchange request None ∷ later) = if has_exchange later then exchan
 abbrev pub decided : List Message → List ItemValue
 decided M = decided_in (meaning M)
 
--- a request that waits for its answer, as an exchange with this one, if there is one, and these messages as strays after it
+-- the open request as an exchange with this answer, if there is one, and these messages as strays after it
 abbrev pub exchange_items : Option (List ℕ) → Option (List ℕ) → List Message → List ItemValue
 exchange_items None reply holds = []
 exchange_items (Some request) reply holds = exchange request reply ∷ map stray_of holds

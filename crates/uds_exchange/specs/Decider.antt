@@ -13,8 +13,8 @@ pub record DeciderValue : Type 0 where
   pub holds : List Message
 
 -- a decider that stands after the messages M
-abbrev pub decides_after : List Message → DeciderValue
-decides_after M = record { request = open_request M; holds = held M }
+abbrev pub decider_after : List Message → DeciderValue
+decider_after M = record { request = open_request M; holds = held M }
 
 -- these are the items that one more message decides
 abbrev pub AreDecidedBy : List Message → Message → List ItemValue → Type 0

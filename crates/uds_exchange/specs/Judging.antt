@@ -24,18 +24,6 @@ next_number M = length (meaning M) + 1
 abbrev pub open_number : List Message → ℕ
 open_number M = length (meaning M) - length (held M)
 
--- the number of the exchange that waits for its answer, if one does
-abbrev pub waiting_number : List Message → Option ℕ
-waiting_number M = option_map (λ service. open_number M) (option_map sid (open_request M))
-
--- the number of the exchange that waits after a message of which this becomes, where its item has this number and that one waited
-abbrev pub waits_with : Step → ℕ → Option ℕ → Option ℕ
-waits_with (step.Request service) number waits = Some number
-waits_with step.Answer number waits = None
-waits_with step.Removed number waits = waits
-waits_with step.Hold number waits = waits
-waits_with step.Pass number waits = waits
-
 -- the number of the item of a message of which this becomes: a request or a stray is the next item, and an answer or a pending
 -- reply belongs to the open exchange
 abbrev pub number_by : Step → List Message → ℕ
@@ -49,29 +37,21 @@ number_by step.Pass M = next_number M
 abbrev pub number_after : List Message → Message → ℕ
 number_after M message = number_by (step_after M message) M
 
--- how many items there are with one more message of which this becomes, where there were so many
-abbrev pub items_with : Step → ℕ → ℕ
-items_with (step.Request service) count = count + 1
-items_with step.Answer count = count
-items_with step.Removed count = count
-items_with step.Hold count = count + 1
-items_with step.Pass count = count + 1
-
--- This is the first byte of the request that waits after the messages M, if one does.
+-- This is the first byte of the request that is open after the messages M, if one is.
 abbrev pub IsOpenSid : List Message → Option ℕ → Type 0
 IsOpenSid M open_sid = open_sid ≡ option_map sid (open_request M)
 
--- This is what is kept of these messages: which request waits, how many items there are, how many strays are held, and how
--- many messages are left out.
-pub record HasJudged (M : List Message) (judge : Judge) : Type 0 where
-  pub waits : IsOpenSid M judge.open_sid
+-- A judge has counted these messages: it keeps which request is open, how many items there are, how many strays are held, and
+-- how many messages are left out.
+pub record HasCounted (M : List Message) (judge : Judge) : Type 0 where
+  pub is_open : IsOpenSid M judge.open_sid
   pub items : judge.items ≡ length (meaning M)
   pub held : judge.held_count ≡ length (order.held M)
   pub removed : judge.removed ≡ length (removed_messages M)
 
--- A judge has judged these messages, and gathered what tells whether tester and unit look exchanged.
+-- It is the judge of these messages: it has also gathered what tells whether tester and unit look exchanged.
 pub record IsJudgeOf (M : List Message) (judge : Judge) : Type 0 where
-  pub judged : HasJudged M judge
+  pub counted : HasCounted M judge
   pub sides : judge.sides ≡ sides_of M
 
 -- a message that was judged, without where it lies in memory
@@ -82,10 +62,10 @@ sent judged = (judged.dir, judged.bytes.now)
 abbrev pub IsJudgedAfter : List Message → Judged → Type 0
 IsJudgedAfter M judged = judged.step ≡ step_after M (sent judged)
 
--- what was judged of these messages behind M, of which there is one at the most
-abbrev pub IsJudgedOf : List Message → List Message → Option Judged → Type 0
-IsJudgedOf M told None = told ≡ []
-IsJudgedOf M told (Some judged) = (told ≡ sent judged ∷ []) × IsJudgedAfter M judged × (judged.item ≡ number_after M (sent judged))
+-- This was judged of what came behind the messages M: of the one message that did, or none where no message came.
+abbrev pub IsJudgmentOf : List Message → List Message → Option Judged → Type 0
+IsJudgmentOf M came None = came ≡ []
+IsJudgmentOf M came (Some judged) = (came ≡ sent judged ∷ []) × IsJudgedAfter M judged × (judged.item_number ≡ number_after M (sent judged))
 
 -- a count that stays at the largest number of 64 bits
 abbrev pub one_more : ℕ → ℕ

@@ -3,14 +3,14 @@ pub mod Roles
 pub mod ItemSeen
 pub mod Difference
 pub mod Order
-pub mod Sink
+pub mod MessageSink
 pub mod Orderer
 pub mod Decided
 pub mod ItemSink
 pub mod Decider
 pub mod Laws
 pub mod OneMessage
-pub mod WaitingExchange
+pub mod OpenExchange
 pub mod Exchanged
 pub mod Judging
 pub mod Blocks

@@ -25,7 +25,7 @@ held_in (stray d bytes ∷ later) = held_in later
 held_in (exchange request (Some reply) ∷ later) = held_in later
 held_in (exchange request None ∷ later) = if has_exchange later then held_in later else flattened later
 
--- the request that waits for its answer after a list of messages
+-- the request that is open after a list of messages: it waits for its answer
 abbrev pub open_request : List Message → Option (List ℕ)
 open_request M = open_request_in (meaning M)
 

@@ -5,7 +5,7 @@ use Rattle.uds_message.specs.Message.{sid}
 use Rattle.uds_exchange.specs.declared.order_fault.OrderFault.{OrderFault}
 use Rattle.uds_exchange.specs.declared.order_fault.OrderFault.TheVariants as fault
 use Rattle.uds_exchange.specs.Order.{open_request, held, early}
-use Rattle.uds_exchange.specs.Sink.{AfterOk, AfterErr, Puts, Fails}
+use Rattle.uds_exchange.specs.MessageSink.{AfterOk, AfterErr, Puts, Fails}
 
 -- whether an earlier call ended with a fault of the sink, the first byte of the open request, and the messages that are
 -- held
@@ -15,8 +15,8 @@ pub record OrdererValue : Type 0 where
   pub holds : List Message
 
 -- an orderer that stands after the messages M
-abbrev pub stands_after : List Message → OrdererValue
-stands_after M = record { has_failed = false; open_sid = option_map sid (open_request M); holds = held M }
+abbrev pub orderer_after : List Message → OrdererValue
+orderer_after M = record { has_failed = false; open_sid = option_map sid (open_request M); holds = held M }
 
 -- the same of an orderer that is told what becomes of each message: it knows of no request
 pub record JudgedOrdererValue : Type 0 where
@@ -24,8 +24,8 @@ pub record JudgedOrdererValue : Type 0 where
   pub holds : List Message
 
 -- such a one that stands after the messages M
-abbrev pub orders_after : List Message → JudgedOrdererValue
-orders_after M = record { has_failed = false; holds = held M }
+abbrev pub judged_orderer_after : List Message → JudgedOrdererValue
+judged_orderer_after M = record { has_failed = false; holds = held M }
 
 -- these are the messages that one more message brings to their place
 abbrev pub IsDue : List Message → Message → List Message → Type 0

@@ -1,5 +1,6 @@
 -- Devices of proof, apart from the definitions that the promises are made of.
 pub mod Judging
+pub mod ItemNumbers
 pub mod Pairing
 pub mod Steps
 pub mod Deciding

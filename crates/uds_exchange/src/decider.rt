@@ -4,16 +4,16 @@ ghost use Rattle.std.specs.Prelude.{◌≡◌, ◌++◌, ◌∷◌, [], List, On
 ghost use Rattle.direction.specs.Dir.{Message};
 ghost use Rattle.uds_exchange.specs.Meaning.{stray_of};
 ghost use Rattle.uds_exchange.specs.Decided.{exchange_items, undecided};
-ghost use Rattle.uds_exchange.specs.Decider.{decides_after, PutsDecided, IsKept};
+ghost use Rattle.uds_exchange.specs.Decider.{decider_after, PutsDecided, IsKept};
 ghost use Rattle.uds_exchange.specs.ItemSink.{PutsItems};
 ghost use Rattle.uds_exchange.specs.Judging.{IsJudgedAfter, sent};
-ghost use Rattle.uds_exchange.specs.proving.Deciding.{items_for, keep_for, Refuses};
+ghost use Rattle.uds_exchange.specs.proving.Deciding.{decided_for, decider_after_step, Refuses};
 
 use crate::held::HeldMessages;
 use crate::item::Item;
 use crate::item_sink::ItemSink;
 use crate::judge::Judged;
-use crate::sink::{MessageSink, NoFault};
+use crate::message_sink::{MessageSink, NoFault};
 use crate::step::Step;
 use direction::Dir;
 use std::alloc::{AllocError, Global};
@@ -25,7 +25,7 @@ use std::marker::Model;
 #[derive(Debug, Drop)]
 pub struct Decider {
     alloc: Global,
-    /// The last request, where that waits for its answer.
+    /// The open request: the last one, where it waits for its answer.
     request: Option<Vec<u8>>,
     /// What follows that request.
     held: HeldMessages,
@@ -43,7 +43,7 @@ impl Model for Decider {
 impl Decider {
     /// A decider that has taken no message. It takes no memory.
     pub fn new(alloc: Global) -> Decider
-        ensures { result ≡ decides_after [] }
+        ensures { result ≡ decider_after [] }
     {
         Decider {
             alloc,
@@ -55,21 +55,21 @@ impl Decider {
     /// Takes one more message, and puts all items that are now decided. Memory is taken for a request, and for a message
     /// that is held. After an `Err` nothing was put, the decider is unchanged, and the call may be made again.
     pub fn take<S: ItemSink>(&mut self, message: Judged<'_>, sink: &mut S) -> Result<(), AllocError>
-        ensures stands { OnOk result ((M : List Message) → self.old ≡ decides_after M → IsJudgedAfter M message.entry
-            → self.new ≡ decides_after (M ++ sent message.entry ∷ [])) }
-        ensures puts { OnOk result ((M : List Message) → self.old ≡ decides_after M → IsJudgedAfter M message.entry
+        ensures stands { OnOk result ((M : List Message) → self.old ≡ decider_after M → IsJudgedAfter M message.entry
+            → self.new ≡ decider_after (M ++ sent message.entry ∷ [])) }
+        ensures puts { OnOk result ((M : List Message) → self.old ≡ decider_after M → IsJudgedAfter M message.entry
             → PutsDecided S.takes M (sent message.entry) sink.old sink.new) }
 
         ensures err { OnErr result (self.new ≡ self.old) }
         ensures unput { OnErr result (sink.new ≡ sink.old) }
-        ensures kept_only { OnErr result ((M : List Message) → self.old ≡ decides_after M → IsJudgedAfter M message.entry → IsKept M (sent message.entry)) }
+        ensures kept_only { OnErr result ((M : List Message) → self.old ≡ decider_after M → IsJudgedAfter M message.entry → IsKept M (sent message.entry)) }
     {
         self.advance(message, sink)
     }
 
     /// Puts what is left: the exchange of the open request, and the strays behind it. It takes no memory.
     pub fn finish<S: ItemSink>(self, sink: &mut S)
-        ensures { (M : List Message) → self ≡ decides_after M → PutsItems S.takes sink.old (undecided M) sink.new }
+        ensures { (M : List Message) → self ≡ decider_after M → PutsItems S.takes sink.old (undecided M) sink.new }
     {
         let Decider {
             alloc: _,
@@ -81,8 +81,8 @@ impl Decider {
 
     /// Takes one more message, by what becomes of it and what is kept alone.
     fn advance<S: ItemSink>(&mut self, message: Judged<'_>, sink: &mut S) -> Result<(), AllocError>
-        ensures now { OnOk result (self.new ≡ keep_for message.entry.step self.old (sent message.entry)) }
-        ensures puts { OnOk result (PutsItems S.takes sink.old (items_for message.entry.step self.old (sent message.entry)) sink.new) }
+        ensures now { OnOk result (self.new ≡ decider_after_step message.entry.step self.old (sent message.entry)) }
+        ensures puts { OnOk result (PutsItems S.takes sink.old (decided_for message.entry.step self.old (sent message.entry)) sink.new) }
         ensures err { OnErr result (self.new ≡ self.old) }
         ensures unput { OnErr result (sink.new ≡ sink.old) }
         ensures kept { OnErr result (Refuses message.entry.step self.old (sent message.entry)) }
@@ -112,7 +112,7 @@ impl Decider {
     }
 }
 
-/// Puts the exchange of a request that waits, with its answer, if it has one, and the strays behind it.
+/// Puts the exchange of the open request, with its answer, if it has one, and the strays behind it.
 fn put_exchange<S: ItemSink>(
     request: &Option<Vec<u8>>,
     answer: Option<&[u8]>,
@@ -170,7 +170,7 @@ impl<'a, S: ItemSink> MessageSink for StraySink<'a, S> {
 fn copy(alloc: Global, bytes: &[u8]) -> Result<Vec<u8>, AllocError>
     ensures { IfOk result (λ v. v.items ≡ bytes.now) }
 {
-    let mut v = Vec::with_capacity(alloc, bytes.len())?;
-    v.extend_from_slice(bytes)?;
-    Ok(v)
+    let mut copied = Vec::with_capacity(alloc, bytes.len())?;
+    copied.extend_from_slice(bytes)?;
+    Ok(copied)
 }

@@ -1,32 +1,31 @@
 //! Messages that wait, with who sent them.
 
 ghost use Rattle.std.specs.Prelude.{◌≡◌, ◌++◌, ◌∷◌, [], OnOk, OnErr, IfErr, length, sum_by};
-ghost use Rattle.uds_exchange.specs.Sink.{Puts, Fails};
+ghost use Rattle.uds_exchange.specs.MessageSink.{Puts, Fails};
 ghost use Rattle.uds_exchange.specs.proving.HeldMessages.{AreHeldIn, messages_at, span_of};
 
+use crate::message_sink::MessageSink;
 use crate::messages::{Messages, Span};
-use crate::sink::MessageSink;
 use direction::Dir;
 use std::alloc::{AllocError, Global};
-use std::fmt::{self, Debug, Formatter, Write};
 use std::marker::Model;
 
 /// A list of messages.
 #[derive(Drop)]
 pub(crate) struct HeldMessages {
-    places: Vec<HeldMessage>,
-    messages: Messages,
+    pub(crate) places: Vec<HeldMessage>,
+    pub(crate) messages: Messages,
     /// The sum of the messages' lengths.
     total: usize,
 }
 
-/// The side of a message, and where its bytes lie, in sixteen bytes of memory.
+/// The side of a message, and where its bytes lie, in sixteen bytes of memory: with a [`Span`] inside it would be 24.
 #[derive(Clone, Copy)]
-struct HeldMessage {
-    len: usize,
+pub(crate) struct HeldMessage {
+    pub(crate) len: usize,
     block: u32,
     start: u16,
-    dir: Dir,
+    pub(crate) dir: Dir,
 }
 
 impl Model for HeldMessages {
@@ -43,7 +42,7 @@ impl Model for HeldMessages {
 
 impl HeldMessage {
     /// Where its bytes lie.
-    fn span(self) -> Span
+    pub(crate) fn span(self) -> Span
         ensures { result ≡ span_of self }
     {
         Span {
@@ -126,60 +125,4 @@ fn put_each<S: MessageSink>(
         sink.put(one.dir, messages.message(one.span()))?;
     }
     Ok(())
-}
-
-/// As if its messages lay end to end.
-impl Debug for HeldMessages {
-    fn fmt<W: Write>(&self, f: &mut Formatter<W>) -> fmt::Result {
-        f.debug_struct("Held")
-            .field("extents", &Extents { of: self })
-            .field("bytes", &Bytes { of: self })
-            .finish()
-    }
-}
-
-/// The side and the length of each message.
-#[derive(Drop)]
-struct Extents<'a> {
-    of: &'a HeldMessages,
-}
-
-impl<'a> Debug for Extents<'a> {
-    fn fmt<W: Write>(&self, f: &mut Formatter<W>) -> fmt::Result {
-        let held = self.of;
-        let each = held.places.as_slice();
-        let mut list = f.debug_list();
-        for one in each {
-            list.entry(&Extent {
-                dir: one.dir,
-                len: one.len,
-            });
-        }
-        list.finish()
-    }
-}
-
-/// The side and the length of a message.
-#[derive(Clone, Copy, Debug)]
-struct Extent {
-    dir: Dir,
-    len: usize,
-}
-
-/// The bytes of all messages.
-#[derive(Drop)]
-struct Bytes<'a> {
-    of: &'a HeldMessages,
-}
-
-impl<'a> Debug for Bytes<'a> {
-    fn fmt<W: Write>(&self, f: &mut Formatter<W>) -> fmt::Result {
-        let held = self.of;
-        let each = held.places.as_slice();
-        let mut list = f.debug_list();
-        for one in each {
-            list.slice(held.messages.message(one.span()));
-        }
-        list.finish()
-    }
 }

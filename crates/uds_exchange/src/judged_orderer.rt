@@ -4,16 +4,16 @@ ghost use Rattle.std.specs.Prelude.{◌≡◌, ◌≢◌, ◌++◌, ◌∷◌, [
 ghost use Rattle.direction.specs.Dir.{Message};
 ghost use Rattle.uds_exchange.specs.Judging.{IsJudgedAfter, sent};
 ghost use Rattle.uds_exchange.specs.Order.{held as held_after};
-ghost use Rattle.uds_exchange.specs.Sink.{Puts, Fails};
-ghost use Rattle.uds_exchange.specs.Orderer.{orders_after, PutsDue, IsHeld, StopsDue, StopsHeld};
+ghost use Rattle.uds_exchange.specs.MessageSink.{Puts, Fails};
+ghost use Rattle.uds_exchange.specs.Orderer.{judged_orderer_after, PutsDue, IsHeld, StopsDue, StopsHeld};
 ghost use Rattle.uds_exchange.specs.proving.Steps as Spec;
 ghost use Rattle.uds_exchange.specs.proving.Steps.{due_for, Stops};
 ghost use Rattle.uds_exchange.specs.declared.order_fault.OrderFault.TheVariants.{Memory, Sink, Failed};
 
 use crate::held::HeldMessages;
 use crate::judge::Judged;
+use crate::message_sink::MessageSink;
 use crate::order_fault::OrderFault;
-use crate::sink::MessageSink;
 use crate::step::Step;
 use direction::Dir;
 use std::alloc::Global;
@@ -24,7 +24,7 @@ use std::marker::Model;
 #[derive(Debug, Drop)]
 pub struct JudgedOrderer {
     pub(crate) has_failed: bool,
-    /// What follows the request that waits for its answer.
+    /// What follows the open request.
     pub(crate) held: HeldMessages,
 }
 
@@ -39,7 +39,7 @@ impl Model for JudgedOrderer {
 impl JudgedOrderer {
     /// An orderer that has taken no message. It takes no memory.
     pub fn new(alloc: Global) -> JudgedOrderer
-        ensures { result ≡ orders_after [] }
+        ensures { result ≡ judged_orderer_after [] }
     {
         JudgedOrderer {
             has_failed: false,
@@ -49,7 +49,7 @@ impl JudgedOrderer {
 
     /// The sum of the lengths of the messages that are held; 0 where no request is open, if each message was judged rightly.
     /// After a fault of the sink it says nothing.
-    pub fn held(&self) -> u64
+    pub fn held_bytes(&self) -> u64
         ensures { result ≡ sum_by (λ x. length x.1) self.now.holds }
     {
         self.held.total_len() as u64
@@ -62,15 +62,15 @@ impl JudgedOrderer {
         message: Judged<'_>,
         sink: &mut S,
     ) -> Result<(), OrderFault<S::Fault>>
-        ensures stands { OnOk result ((M : List Message) → self.old ≡ orders_after M → IsJudgedAfter M message.entry
-            → self.new ≡ orders_after (M ++ sent message.entry ∷ [])) }
-        ensures puts { OnOk result ((M : List Message) → self.old ≡ orders_after M → IsJudgedAfter M message.entry
+        ensures stands { OnOk result ((M : List Message) → self.old ≡ judged_orderer_after M → IsJudgedAfter M message.entry
+            → self.new ≡ judged_orderer_after (M ++ sent message.entry ∷ [])) }
+        ensures puts { OnOk result ((M : List Message) → self.old ≡ judged_orderer_after M → IsJudgedAfter M message.entry
             → PutsDue S.after_ok M (sent message.entry) sink.old sink.new) }
 
         ensures memory { result ≡ Err Memory → (self.new ≡ self.old) × (sink.new ≡ sink.old) }
-        ensures held_only { result ≡ Err Memory → (M : List Message) → self.old ≡ orders_after M → IsJudgedAfter M message.entry
+        ensures held_only { result ≡ Err Memory → (M : List Message) → self.old ≡ judged_orderer_after M → IsJudgedAfter M message.entry
             → IsHeld M (sent message.entry) }
-        ensures stops { IfErr result (λ fault. (M : List Message) → self.old ≡ orders_after M → IsJudgedAfter M message.entry
+        ensures stops { IfErr result (λ fault. (M : List Message) → self.old ≡ judged_orderer_after M → IsJudgedAfter M message.entry
             → StopsDue S.after_ok S.after_err M (sent message.entry) sink.old sink.new fault) }
 
         ensures fails { (why : S.Fault) → result ≡ Err (Sink why) → self.new.has_failed ≡ true }
@@ -85,9 +85,9 @@ impl JudgedOrderer {
 
     /// Puts what is held. It takes no memory.
     pub fn finish<S: MessageSink>(self, sink: &mut S) -> Result<(), OrderFault<S::Fault>>
-        ensures puts { OnOk result ((M : List Message) → self ≡ orders_after M
+        ensures puts { OnOk result ((M : List Message) → self ≡ judged_orderer_after M
             → Puts S.after_ok sink.old (held_after M) sink.new) }
-        ensures stops { IfErr result (λ fault. (M : List Message) → self ≡ orders_after M
+        ensures stops { IfErr result (λ fault. (M : List Message) → self ≡ judged_orderer_after M
             → StopsHeld S.after_ok S.after_err (held_after M) sink.old sink.new fault) }
         ensures never_memory { result ≢ Err Memory }
 
@@ -107,7 +107,7 @@ impl JudgedOrderer {
         message: Judged<'_>,
         sink: &mut S,
     ) -> Result<(), OrderFault<S::Fault>>
-        ensures ok { OnOk result ((self.old.has_failed ≡ false) × (self.new ≡ Spec.advance_for message.entry.step self.old (sent message.entry))
+        ensures ok { OnOk result ((self.old.has_failed ≡ false) × (self.new ≡ Spec.orderer_after_step message.entry.step self.old (sent message.entry))
             × Puts S.after_ok sink.old (due_for message.entry.step self.old.holds (sent message.entry)) sink.new) }
         ensures err { IfErr result (λ fault. Stops S.after_ok S.after_err message.entry.step (sent message.entry)
             self.old sink.old self.new sink.new fault) }

@@ -4,7 +4,7 @@ ghost use Rattle.std.specs.Prelude.{◌≡◌, ◌≢◌, ◌++◌, ◌∷◌, [
 ghost use Rattle.direction.specs.Dir.{Message};
 ghost use Rattle.uds_exchange.specs.Meaning.{meaning};
 ghost use Rattle.uds_exchange.specs.Judging.{IsJudgedAfter, sent};
-ghost use Rattle.uds_exchange.specs.WaitingExchange.{waiting};
+ghost use Rattle.uds_exchange.specs.OpenExchange.{open_exchange_in};
 ghost use Rattle.uds_exchange.specs.proving.Pairing as Spec;
 
 use crate::judge::Judged;
@@ -17,21 +17,21 @@ use std::marker::Model;
 /// a list of items: the meaning of the messages, where each was judged behind those before it.
 #[derive(Debug, Drop)]
 pub struct JudgedPairing {
-    meaning: Meaning,
-    /// The place of the exchange that waits for its answer, if one does.
-    waits_at: Option<usize>,
+    pub(crate) meaning: Meaning,
+    /// The place of the open exchange, if one is open.
+    open_place: Option<usize>,
 }
 
 impl Model for JudgedPairing {
     ghost use Rattle.std.specs.Prelude.{List};
     ghost use Rattle.uds_exchange.specs.Meaning.{ItemValue};
-    ghost use Rattle.uds_exchange.specs.proving.Pairing.{IsWaitingAt};
+    ghost use Rattle.uds_exchange.specs.proving.Pairing.{IsOpenPlace};
 
     ghost Value = { List ItemValue };
 
     ghost view = { λ p. p.meaning };
 
-    ghost invariant = { λ p. IsWaitingAt p.meaning p.waits_at };
+    ghost invariant = { λ p. IsOpenPlace p.meaning p.open_place };
 }
 
 impl JudgedPairing {
@@ -41,13 +41,8 @@ impl JudgedPairing {
     {
         JudgedPairing {
             meaning: Meaning::new(alloc),
-            waits_at: None,
+            open_place: None,
         }
-    }
-
-    /// What the messages so far mean.
-    pub(crate) fn so_far(&self) -> &Meaning {
-        &self.meaning
     }
 
     /// Takes one more message. A reply that is left out is not copied. After an `Err` nothing has changed, and the call may be
@@ -71,24 +66,24 @@ impl JudgedPairing {
     }
 
     /// Takes one more message, by what becomes of it and the items alone: `take` promises the same by the messages. Where
-    /// none waits, no answer is taken.
+    /// none is open, no answer is taken.
     #[inline(always)]
     fn join(&mut self, message: Judged<'_>) -> Result<(), AllocError>
-        ensures ok { OnOk result (self.new ≡ Spec.join_for message.entry.step (waiting self.old) self.old (sent message.entry)) }
+        ensures ok { OnOk result (self.new ≡ Spec.items_after_step message.entry.step (open_exchange_in self.old) self.old (sent message.entry)) }
         ensures err { OnErr result (self.new ≡ self.old) }
-        ensures changes { OnErr result (Spec.join_for message.entry.step (waiting self.old) self.old (sent message.entry) ≢ self.old) }
+        ensures changes { OnErr result (Spec.items_after_step message.entry.step (open_exchange_in self.old) self.old (sent message.entry) ≢ self.old) }
     {
         match message.step {
             Step::Request(_) => {
                 let place = self.meaning.len();
                 self.meaning.push_request(message.bytes)?;
-                self.waits_at = Some(place);
+                self.open_place = Some(place);
                 Ok(())
             }
             Step::Answer => {
-                if let Some(place) = self.waits_at {
+                if let Some(place) = self.open_place {
                     self.meaning.answer(place, message.bytes)?;
-                    self.waits_at = None;
+                    self.open_place = None;
                 }
                 Ok(())
             }

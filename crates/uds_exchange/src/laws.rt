@@ -4,7 +4,7 @@ ghost use Rattle.std.specs.Prelude.{List, [], ◌∷◌, ◌++◌};
 ghost use Rattle.direction.specs.Dir.{Message};
 ghost use Rattle.uds_exchange.specs.Meaning.{meaning, flattened};
 ghost use Rattle.uds_exchange.specs.Order.{early, held};
-ghost use Rattle.uds_exchange.specs.Sink.{Puts};
+ghost use Rattle.uds_exchange.specs.MessageSink.{Puts};
 ghost use Rattle.uds_exchange.specs.Orderer.{PutsDue};
 ghost use Rattle.uds_exchange.specs.Laws.{MeaningIsKept, NoneIsLost, NoneIsMadeUp};
 ghost use Rattle.uds_exchange.specs.Laws.{EachHasOneRole, EachListHasRoles, MessagesByRoles};
@@ -17,7 +17,7 @@ ghost use Rattle.uds_exchange.specs.Laws.{DecidedThenUndecided, DecidedGrows, Un
 ghost use Rattle.uds_exchange.specs.Blocks.{MessageStays};
 
 use crate::item_sink::ItemSink;
-use crate::sink::MessageSink;
+use crate::message_sink::MessageSink;
 
 /// The messages of a meaning, in order, mean the same again.
 pub fn meaning_is_kept()

@@ -13,19 +13,18 @@ use crate::item::Item;
 use crate::messages::{Messages, Span};
 use direction::Dir;
 use std::alloc::{AllocError, Global};
-use std::fmt::{self, Debug, Formatter, Write};
 use std::marker::Model;
 
 /// The meaning of a list of messages, seen as a list of items. It keeps their bytes, and lends them.
 #[derive(Drop)]
 pub struct Meaning {
-    items: Vec<KeptItem>,
+    pub(crate) items: Vec<KeptItem>,
     messages: Messages,
 }
 
 /// An item, by where its messages lie.
 #[derive(Clone, Copy)]
-enum KeptItem {
+pub(crate) enum KeptItem {
     Exchange { request: Span, answer: Option<Span> },
     Stray { dir: Dir, bytes: Span },
 }
@@ -95,22 +94,6 @@ impl Meaning {
             items: Vec::new(alloc),
             messages: Messages::new(alloc),
         }
-    }
-
-    /// The allocator of its memory.
-    pub(crate) fn allocator(&self) -> &Global {
-        self.items.allocator()
-    }
-
-    /// The place of the last exchange, or 0 where there is none.
-    pub(crate) fn last_exchange(&self) -> usize {
-        let mut last = 0;
-        for (place, item) in self.items.iter().enumerate() {
-            if let KeptItem::Exchange { .. } = item {
-                last = place;
-            }
-        }
-        last
     }
 
     /// Keeps the exchange of a request that has no answer yet.
@@ -195,32 +178,5 @@ fn answer_at(messages: &Messages, span: Option<Span>) -> Option<&[u8]>
     match span {
         Some(span) => Some(messages.message(span)),
         None => None,
-    }
-}
-
-/// As the list of what it lends.
-impl Debug for Meaning {
-    fn fmt<W: Write>(&self, f: &mut Formatter<W>) -> fmt::Result {
-        f.debug_struct("Meaning")
-            .field("items", &Items { of: self })
-            .finish()
-    }
-}
-
-/// The items of a meaning, to be shown.
-#[derive(Drop)]
-pub(crate) struct Items<'a> {
-    pub(crate) of: &'a Meaning,
-}
-
-impl<'a> Debug for Items<'a> {
-    fn fmt<W: Write>(&self, f: &mut Formatter<W>) -> fmt::Result {
-        let mut list = f.debug_list();
-        for i in 0..self.of.len() {
-            if let Some(item) = self.of.item(i) {
-                list.entry(&item);
-            }
-        }
-        list.finish()
     }
 }

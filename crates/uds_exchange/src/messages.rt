@@ -1,4 +1,6 @@
-//! Messages that are kept, in blocks of memory that are never moved.
+//! Messages that are kept, in blocks of memory that are never moved. A message goes behind those of the block that is being
+//! filled, where that has room; else it begins a new block, which is filled from then on unless the message is a long one. The
+//! first block lies apart from the later ones, so both ways have a case of their own for it.
 
 ghost use Rattle.std.specs.Prelude.{◌≡◌, ◌<◌, ◌≤◌, ◌+◌, ◌++◌, ◌∷◌, [], ℕ, IsTrue, IfOk, OnOk, OnErr, length};
 ghost use Rattle.uds_exchange.specs.Blocks.{block_at, bytes_at, IsInside, Lays};
@@ -18,7 +20,7 @@ const DOUBLINGS: u32 = 6;
 /// A longer message has a block of its own length, so that at most a sixteenth of a large block is left empty.
 const LONG: usize = 4_096;
 
-/// The last place in a block at which a message may begin.
+/// The last place in a block at which a message may begin: a start is a `u16`.
 const LAST_START: usize = 65_535;
 
 /// Messages, each whole in a block, where it stays when more are kept: so what is kept takes its own length, and is copied once.
@@ -129,10 +131,10 @@ impl Messages {
         ensures err { OnErr result (self.new ≡ self.old) }
     {
         if number == 0 {
-            put(&mut self.first, number, message)
+            extend_block(&mut self.first, number, message)
         } else {
             let block = &mut self.later[number as usize - 1];
-            put(block, number, message)
+            extend_block(block, number, message)
         }
     }
 
@@ -143,9 +145,9 @@ impl Messages {
         ensures err { OnErr result (self.new ≡ self.old) }
     {
         if self.first.is_empty() {
-            return begin(&mut self.first, message);
+            return start_first(&mut self.first, message);
         }
-        let span = push(&mut self.later, message)?;
+        let span = start_later(&mut self.later, message)?;
         if span.len <= LONG {
             self.filling = span.block;
         }
@@ -161,9 +163,9 @@ fn fits(block: &Vec<u8>, len: usize) -> bool
     block.len() <= LAST_START && len <= block.capacity() - block.len()
 }
 
-/// Puts a message behind what is in a block of this number.
+/// Lays a message behind what is in a block, which has this number.
 #[inline(always)]
-fn put(block: &mut Vec<u8>, number: u32, message: &[u8]) -> Result<Span, AllocError>
+fn extend_block(block: &mut Vec<u8>, number: u32, message: &[u8]) -> Result<Span, AllocError>
     requires { length block.old.items ≤ LAST_START }
     ensures bytes { OnOk result (block.new.items ≡ block.old.items ++ message.now) }
     ensures span { IfOk result (λ span. IsSpan span number (length block.old.items) (length message.now)) }
@@ -179,8 +181,8 @@ fn put(block: &mut Vec<u8>, number: u32, message: &[u8]) -> Result<Span, AllocEr
     })
 }
 
-/// Lays a message into the first block, in new memory.
-fn begin(first: &mut Vec<u8>, message: &[u8]) -> Result<Span, AllocError>
+/// Lays a message into the first block, which is empty, in new memory.
+fn start_first(first: &mut Vec<u8>, message: &[u8]) -> Result<Span, AllocError>
     requires { first.old.items ≡ [] }
     ensures bytes { OnOk result (first.new.items ≡ first.old.items ++ message.now) }
     ensures span { IfOk result (λ span. IsSpan span 0 (length first.old.items) (length message.now)) }
@@ -195,8 +197,8 @@ fn begin(first: &mut Vec<u8>, message: &[u8]) -> Result<Span, AllocError>
     })
 }
 
-/// Lays a message into one more block.
-fn push(later: &mut Vec<Vec<u8>>, message: &[u8]) -> Result<Span, AllocError>
+/// Lays a message into one more of the later blocks.
+fn start_later(later: &mut Vec<Vec<u8>>, message: &[u8]) -> Result<Span, AllocError>
     ensures bytes { OnOk result (block_bytes later.new.items ≡ block_bytes later.old.items ++ message.now ∷ []) }
     ensures span { IfOk result (λ span. IsSpan span (length later.old.items + 1) 0 (length message.now)) }
     ensures err { OnErr result (block_bytes later.new.items ≡ block_bytes later.old.items) }

@@ -3,25 +3,24 @@
 ghost use Rattle.std.specs.Prelude.{◌≡◌, ◌≢◌, ◌++◌, ◌∷◌, [], List, true, length, Err, OnOk, IfErr, sum_by};
 ghost use Rattle.direction.specs.Dir.{Message};
 ghost use Rattle.uds_exchange.specs.Order.{held as held_after};
-ghost use Rattle.uds_exchange.specs.Sink.{Puts};
-ghost use Rattle.uds_exchange.specs.Orderer.{stands_after, PutsDue, IsHeld, StopsDue, StopsHeld};
+ghost use Rattle.uds_exchange.specs.MessageSink.{Puts};
+ghost use Rattle.uds_exchange.specs.Orderer.{orderer_after, PutsDue, IsHeld, StopsDue, StopsHeld};
 ghost use Rattle.uds_exchange.specs.declared.order_fault.OrderFault.TheVariants.{Memory, Sink, Failed};
 
 use crate::judge::Judge;
 use crate::judged_orderer::JudgedOrderer;
+use crate::message_sink::MessageSink;
 use crate::order_fault::OrderFault;
-use crate::sink::MessageSink;
 use direction::Dir;
 use std::alloc::Global;
-use std::fmt::{self, Debug, Formatter, Write};
 use std::marker::Model;
 
 /// Puts the messages of a meaning in order into a sink, each as soon as its place is known. After a request without
 /// answer that is when the answer comes, the next request, or the end: until then other messages are held.
 #[derive(Drop)]
 pub struct Orderer {
-    judge: Judge,
-    orderer: JudgedOrderer,
+    pub(crate) judge: Judge,
+    pub(crate) orderer: JudgedOrderer,
 }
 
 impl Model for Orderer {
@@ -35,7 +34,7 @@ impl Model for Orderer {
 impl Orderer {
     /// An orderer that has taken no message. It takes no memory.
     pub fn new(alloc: Global) -> Orderer
-        ensures { result ≡ stands_after [] }
+        ensures { result ≡ orderer_after [] }
     {
         Orderer {
             judge: Judge::new(),
@@ -45,10 +44,10 @@ impl Orderer {
 
     /// The sum of the lengths of the messages that are held; 0 where no request is open. After a fault of the sink it
     /// says nothing.
-    pub fn held(&self) -> u64
+    pub fn held_bytes(&self) -> u64
         ensures { result ≡ sum_by (λ x. length x.1) self.now.holds }
     {
-        self.orderer.held()
+        self.orderer.held_bytes()
     }
 
     /// Takes one more message, and puts all whose place is now known. No memory is taken for a message that is put
@@ -59,15 +58,15 @@ impl Orderer {
         message: &[u8],
         sink: &mut S,
     ) -> Result<(), OrderFault<S::Fault>>
-        ensures stands { OnOk result ((M : List Message) → self.old ≡ stands_after M
-            → self.new ≡ stands_after (M ++ (dir, message.now) ∷ [])) }
-        ensures puts { OnOk result ((M : List Message) → self.old ≡ stands_after M
+        ensures stands { OnOk result ((M : List Message) → self.old ≡ orderer_after M
+            → self.new ≡ orderer_after (M ++ (dir, message.now) ∷ [])) }
+        ensures puts { OnOk result ((M : List Message) → self.old ≡ orderer_after M
             → PutsDue S.after_ok M (dir, message.now) sink.old sink.new) }
 
         ensures memory { result ≡ Err Memory → (self.new ≡ self.old) × (sink.new ≡ sink.old) }
-        ensures held_only { result ≡ Err Memory → (M : List Message) → self.old ≡ stands_after M
+        ensures held_only { result ≡ Err Memory → (M : List Message) → self.old ≡ orderer_after M
             → IsHeld M (dir, message.now) }
-        ensures stops { IfErr result (λ fault. (M : List Message) → self.old ≡ stands_after M
+        ensures stops { IfErr result (λ fault. (M : List Message) → self.old ≡ orderer_after M
             → StopsDue S.after_ok S.after_err M (dir, message.now) sink.old sink.new fault) }
 
         ensures fails { (why : S.Fault) → result ≡ Err (Sink why) → self.new.has_failed ≡ true }
@@ -75,6 +74,7 @@ impl Orderer {
         ensures failed_only { result ≡ Err Failed
             → (self.old.has_failed ≡ true) × (self.new ≡ self.old) × (sink.new ≡ sink.old) }
     {
+        // The judge goes on only where the message was taken.
         let mut judge = self.judge;
         self.orderer.take(judge.take(dir, message), sink)?;
         self.judge = judge;
@@ -83,9 +83,9 @@ impl Orderer {
 
     /// Puts what is held. It takes no memory.
     pub fn finish<S: MessageSink>(self, sink: &mut S) -> Result<(), OrderFault<S::Fault>>
-        ensures puts { OnOk result ((M : List Message) → self ≡ stands_after M
+        ensures puts { OnOk result ((M : List Message) → self ≡ orderer_after M
             → Puts S.after_ok sink.old (held_after M) sink.new) }
-        ensures stops { IfErr result (λ fault. (M : List Message) → self ≡ stands_after M
+        ensures stops { IfErr result (λ fault. (M : List Message) → self ≡ orderer_after M
             → StopsHeld S.after_ok S.after_err (held_after M) sink.old sink.new fault) }
         ensures never_memory { result ≢ Err Memory }
 
@@ -94,16 +94,5 @@ impl Orderer {
     {
         let Orderer { orderer, .. } = self;
         orderer.finish(sink)
-    }
-}
-
-/// What was printed while it kept what follows the request itself.
-impl Debug for Orderer {
-    fn fmt<W: Write>(&self, f: &mut Formatter<W>) -> fmt::Result {
-        f.debug_struct("Orderer")
-            .field("has_failed", &self.orderer.has_failed)
-            .field("open_sid", &self.judge.open_sid)
-            .field("held", &self.orderer.held)
-            .finish()
     }
 }

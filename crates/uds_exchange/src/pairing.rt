@@ -6,17 +6,16 @@ ghost use Rattle.uds_exchange.specs.Meaning.{meaning};
 
 use crate::judge::Judge;
 use crate::judged_pairing::JudgedPairing;
-use crate::meaning::{Items, Meaning};
+use crate::meaning::Meaning;
 use direction::Dir;
 use std::alloc::{AllocError, Global};
-use std::fmt::{self, Debug, Formatter, Write};
 use std::marker::Model;
 
 /// What the messages so far mean. It stands after a list of messages: contracts see it as the meaning of that list.
 #[derive(Drop)]
 pub struct Pairing {
-    judge: Judge,
-    pairing: JudgedPairing,
+    pub(crate) judge: Judge,
+    pub(crate) pairing: JudgedPairing,
 }
 
 impl Model for Pairing {
@@ -51,6 +50,7 @@ impl Pairing {
         ensures changes { OnErr result ((M : List Message) → self.old ≡ meaning M
             → meaning (M ++ (dir, message.now) ∷ []) ≢ meaning M) }
     {
+        // The judge goes on only where the message was taken.
         let mut judge = self.judge;
         self.pairing.take(judge.take(dir, message))?;
         self.judge = judge;
@@ -63,18 +63,5 @@ impl Pairing {
     {
         let Pairing { pairing, .. } = self;
         pairing.finish()
-    }
-}
-
-/// What was printed while it kept the items itself, which callers may have in their logs.
-impl Debug for Pairing {
-    fn fmt<W: Write>(&self, f: &mut Formatter<W>) -> fmt::Result {
-        let meaning = self.pairing.so_far();
-        f.debug_struct("Pairing")
-            .field("alloc", meaning.allocator())
-            .field("items", &Items { of: meaning })
-            .field("open_sid", &self.judge.open_sid)
-            .field("last", &meaning.last_exchange())
-            .finish()
     }
 }

@@ -5,14 +5,15 @@ use Rattle.std.specs.List.{filter, last_or, list_any}
 use Rattle.std.specs.Prelude.{◌||◌, if◌then◌else◌}
 use Rattle.can_log.specs.Frame.{FrameValue}
 use Rattle.can_log.specs.declared.frame.Id.{Id}
-use Rattle.uds_find.specs.Credit.{asker_by, asker_in, credit_by, credited_to, is_of, is_same, speaks_of, waits_for, AsksLast, CreditIsAsked}
+use Rattle.uds_find.specs.Credit.{asker_of_mention, asker_of_frame, credit_of_mention, credited_to, is_about, is_same, speaks_of, waits_for}
+use Rattle.uds_find.specs.Laws.{AsksLast, CreditIsAsked}
 use Rattle.uds_find.specs.Mention.{mention_of}
 use Rattle.uds_find.specs.declared.mention.Mention.{Mention}
 use Rattle.uds_find.specs.declared.mention.Mention.TheVariants.{Asks, Answers}
-use Rattle.uds_find.specs.declared.pair.Pair.{Pair}
+use Rattle.uds_find.specs.declared.pair.IdPair.{IdPair}
 
 -- what a frame says that speaks of the service and has an asker
-asks_for : (service : ℕ) (said : Option Mention) (id asker : Id) → is_of service said ≡ true → asker_by said id ≡ Some asker
+asks_for : (service : ℕ) (said : Option Mention) (id asker : Id) → is_about service said ≡ true → asker_of_mention said id ≡ Some asker
     → (said ≡ Some (Asks service)) × (id ≡ asker)
 asks_for service None id asker of asked = absurd (cc of)
 asks_for service (Some (Asks other)) id asker of asked = (ap (λ n. Some (Asks n)) (eqb-true other service of), cc asked)
@@ -20,7 +21,7 @@ asks_for service (Some (Answers other)) id asker of asked = absurd (cc asked)
 
 -- the frames have such a last one, or none of them speaks of the service
 abbrev AskedOr : ℕ → Option FrameValue → List FrameValue → Id → Type 0
-AskedOr service before past asker = AsksLast past service asker ⊎ ((asker_in before ≡ Some asker) × (list_any (speaks_of service) past ≡ false))
+AskedOr service before past asker = AsksLast past service asker ⊎ ((asker_of_frame before ≡ Some asker) × (list_any (speaks_of service) past ≡ false))
 
 behind : (service : ℕ) (asker : Id) (frame : FrameValue) (rest : List FrameValue) → AsksLast rest service asker → AsksLast (frame ∷ rest) service asker
 behind service asker frame rest last = record {
@@ -35,8 +36,8 @@ behind service asker frame rest last = record {
 
 -- with one more frame in front
 by_first : (service : ℕ) (before : Option FrameValue) (frame : FrameValue) (rest : List FrameValue) (asker : Id) (b : Bool) → speaks_of service frame ≡ b
-    → ((now : Option FrameValue) → asker_in (last_or now (filter (speaks_of service) rest)) ≡ Some asker → AskedOr service now rest asker)
-    → asker_in (last_or before (if b then frame ∷ filter (speaks_of service) rest else filter (speaks_of service) rest)) ≡ Some asker
+    → ((now : Option FrameValue) → asker_of_frame (last_or now (filter (speaks_of service) rest)) ≡ Some asker → AskedOr service now rest asker)
+    → asker_of_frame (last_or before (if b then frame ∷ filter (speaks_of service) rest else filter (speaks_of service) rest)) ≡ Some asker
     → AskedOr service before (frame ∷ rest) asker
 by_first service before frame rest asker true speaks later waits =
     elim (later (Some frame) waits) [
@@ -53,7 +54,7 @@ by_first service before frame rest asker false silent later waits =
     ]
 
 asked_last : (service : ℕ) (before : Option FrameValue) (past : List FrameValue) (asker : Id)
-    → asker_in (last_or before (filter (speaks_of service) past)) ≡ Some asker → AskedOr service before past asker
+    → asker_of_frame (last_or before (filter (speaks_of service) past)) ≡ Some asker → AskedOr service before past asker
 asked_last service before [] asker waits = inr (waits, refl)
 asked_last service before (frame ∷ rest) asker waits =
     by_first service before frame rest asker (speaks_of service frame) refl (λ now is. asked_last service now rest asker is) waits
@@ -64,7 +65,7 @@ waits_is_last service past asker waits =
     elim (asked_last service None past asker waits) [ inl last ↦ last | inr none ↦ absurd (cc (none.0)) ]
 
 -- the asker and the identifier of the answer
-pair_of : (asker : Option Id) (unit : Id) (pair : Pair) → credited_to asker unit ≡ Some pair
+pair_of : (asker : Option Id) (unit : Id) (pair : IdPair) → credited_to asker unit ≡ Some pair
     → (asker ≡ Some pair.tester) × (pair.unit ≡ unit) × (is_same pair.tester pair.unit ≡ false)
 pair_of None unit pair credited = absurd (cc credited)
 pair_of (Some tester) unit pair credited = by_same (is_same tester unit) refl
@@ -73,9 +74,9 @@ pair_of (Some tester) unit pair credited = by_same (is_same tester unit) refl
     by_same true same = absurd cc
     by_same false apart =
         let is : record { tester = tester; unit = unit } ≡ pair = cc in
-        (ap (λ (p : Pair). Some p.tester) is, sym (ap (λ (p : Pair). p.unit) is), subst (λ (p : Pair). is_same p.tester p.unit ≡ false) is apart)
+        (ap (λ (p : IdPair). Some p.tester) is, sym (ap (λ (p : IdPair). p.unit) is), subst (λ (p : IdPair). is_same p.tester p.unit ≡ false) is apart)
 
-credited_by : (past : List FrameValue) (said : Option Mention) (unit : Id) (pair : Pair) → credit_by past said unit ≡ Some pair
+credited_by : (past : List FrameValue) (said : Option Mention) (unit : Id) (pair : IdPair) → credit_of_mention past said unit ≡ Some pair
     → (service : ℕ) × (said ≡ Some (Answers service)) × (pair.unit ≡ unit) × AsksLast past service pair.tester × (is_same pair.tester pair.unit ≡ false)
 credited_by past None unit pair credited = absurd (cc credited)
 credited_by past (Some (Asks service)) unit pair credited = absurd (cc credited)

@@ -1,3 +1,4 @@
+pub mod Results
 pub mod Orders
 pub mod Waiting
 pub mod Asking

@@ -1,38 +1,38 @@
 -- Which identifier an answer is credited to: the one that last asked for the service.
 use Rattle.std.specs.Prelude.{◌≡◌, ℕ, ◌==◌, ◌<◌, Bool, false, ◌&&◌, List, [], ◌∷◌, ◌++◌, length, Option, Some, None, if◌then◌else◌}
-use Rattle.std.specs.List.{cons_option, count_by, filter, last_or, list_any}
+use Rattle.std.specs.List.{cons_option, count_by, filter, last_or}
 use Rattle.can_log.specs.Frame.{FrameValue}
 use Rattle.can_log.specs.declared.frame.Id.{Id}
 use Rattle.can_log.specs.declared.frame.Id.TheVariants as id
 use Rattle.uds_find.specs.Mention.{mention_of}
 use Rattle.uds_find.specs.declared.mention.Mention.{Mention}
 use Rattle.uds_find.specs.declared.mention.Mention.TheVariants.{Asks, Answers}
-use Rattle.uds_find.specs.declared.pair.Pair.{Pair}
+use Rattle.uds_find.specs.declared.pair.IdPair.{IdPair}
 
--- whether it is said of this service
-abbrev pub is_of : ℕ → Option Mention → Bool
-is_of service None = false
-is_of service (Some (Asks asked)) = asked == service
-is_of service (Some (Answers answered)) = answered == service
+-- whether what is said is about this service
+abbrev pub is_about : ℕ → Option Mention → Bool
+is_about service None = false
+is_about service (Some (Asks asked)) = asked == service
+is_about service (Some (Answers answered)) = answered == service
 
--- whether a frame says something of the service
+-- whether a frame says something of this service
 abbrev pub speaks_of : ℕ → FrameValue → Bool
-speaks_of service frame = is_of service (mention_of frame)
+speaks_of service frame = is_about service (mention_of frame)
 
--- the identifier of a frame that says this, where it asks
-abbrev pub asker_by : Option Mention → Id → Option Id
-asker_by (Some (Asks service)) asker = Some asker
-asker_by (Some (Answers service)) asker = None
-asker_by None asker = None
+-- the asker, of what a frame of this identifier says
+abbrev pub asker_of_mention : Option Mention → Id → Option Id
+asker_of_mention (Some (Asks service)) asker = Some asker
+asker_of_mention (Some (Answers service)) asker = None
+asker_of_mention None asker = None
 
--- the identifier of a frame, where there is one and it asks
-abbrev pub asker_in : Option FrameValue → Option Id
-asker_in None = None
-asker_in (Some frame) = asker_by (mention_of frame) frame.id
+-- the asker, of a frame, if there is one: its identifier, where it asks
+abbrev pub asker_of_frame : Option FrameValue → Option Id
+asker_of_frame None = None
+asker_of_frame (Some frame) = asker_of_mention (mention_of frame) frame.id
 
 -- who waits for an answer of the service after these frames: the last that says something of it, where that one asks
 unfoldable pub waits_for : ℕ → List FrameValue → Option Id
-waits_for service past = asker_in (last_or None (filter (speaks_of service) past))
+waits_for service past = asker_of_frame (last_or None (filter (speaks_of service) past))
 
 -- the two are one identifier
 abbrev pub is_same : Id → Id → Bool
@@ -42,35 +42,35 @@ is_same (id.Std one) (id.Ext other) = false
 is_same (id.Ext one) (id.Std other) = false
 
 -- an answer of the unit is credited to who waits for it, and never to the unit itself
-abbrev pub credited_to : Option Id → Id → Option Pair
+abbrev pub credited_to : Option Id → Id → Option IdPair
 credited_to None unit = None
 credited_to (Some tester) unit = if is_same tester unit then None else Some (record { tester = tester; unit = unit })
 
 -- the pair that a frame of this identifier is credited to, where it says this after these frames
-abbrev pub credit_by : List FrameValue → Option Mention → Id → Option Pair
-credit_by past (Some (Answers service)) unit = credited_to (waits_for service past) unit
-credit_by past (Some (Asks service)) unit = None
-credit_by past None unit = None
+abbrev pub credit_of_mention : List FrameValue → Option Mention → Id → Option IdPair
+credit_of_mention past (Some (Answers service)) unit = credited_to (waits_for service past) unit
+credit_of_mention past (Some (Asks service)) unit = None
+credit_of_mention past None unit = None
 
 -- the pair that a frame is credited to after these frames
-abbrev pub credit : List FrameValue → FrameValue → Option Pair
-credit past frame = credit_by past (mention_of frame) frame.id
+abbrev pub credit : List FrameValue → FrameValue → Option IdPair
+credit past frame = credit_of_mention past (mention_of frame) frame.id
 
 -- the pairs that these frames are credited to, where the frames `past` came before them
-unfoldable pub credits_after : List FrameValue → List FrameValue → List Pair
+unfoldable pub credits_after : List FrameValue → List FrameValue → List IdPair
 credits_after past [] = []
 credits_after past (frame ∷ rest) = cons_option (credit past frame) (credits_after (past ++ frame ∷ []) rest)
 
 -- the pairs that frames are credited to, one for each answer that is
-abbrev pub credits : List FrameValue → List Pair
+abbrev pub credits : List FrameValue → List IdPair
 credits frames = credits_after [] frames
 
 -- the two are one pair: of one tester and one unit
-abbrev pub is_same_pair : Pair → Pair → Bool
+abbrev pub is_same_pair : IdPair → IdPair → Bool
 is_same_pair one other = is_same one.tester other.tester && is_same one.unit other.unit
 
 -- how many answers of its unit are credited to its tester
-unfoldable pub credit_count : Pair → List FrameValue → ℕ
+unfoldable pub credit_count : IdPair → List FrameValue → ℕ
 credit_count pair frames = count_by (λ credited. is_same_pair credited pair) (credits frames)
 
 -- some answer among these frames is credited
@@ -79,24 +79,4 @@ HasCredit frames = 0 < length (credits frames)
 
 -- after these frames this one is the first that is credited to its pair
 abbrev pub IsFirstCredit : List FrameValue → FrameValue → Type 0
-IsFirstCredit past frame = (pair : Pair) × (credit past frame ≡ Some pair) × (credit_count pair past ≡ 0)
-
--- the first credit of a pair is a credit
-abbrev pub FirstCreditIsCredit : Type 0
-FirstCreditIsCredit = (past : List FrameValue) (frame : FrameValue) → IsFirstCredit past frame → HasCredit (past ++ frame ∷ [])
-
--- Of these frames the last that says something of the service asks for it, and has this identifier.
-pub record AsksLast (past : List FrameValue) (service : ℕ) (asker : Id) : Type 0 where
-  pub earlier : List FrameValue
-  pub asking : FrameValue
-  pub since : List FrameValue
-  pub place : past ≡ earlier ++ asking ∷ since
-  pub asks : mention_of asking ≡ Some (Asks service)
-  pub sent : asking.id ≡ asker
-  pub is_last : list_any (speaks_of service) since ≡ false
-
--- a credited frame answers a service: its unit sent it, and its tester, which is another, was the last to ask
-abbrev pub CreditIsAsked : Type 0
-CreditIsAsked = (past : List FrameValue) (frame : FrameValue) (pair : Pair) → credit past frame ≡ Some pair
-    → (service : ℕ) × (mention_of frame ≡ Some (Answers service)) × (pair.unit ≡ frame.id) × AsksLast past service pair.tester
-    × (is_same pair.tester pair.unit ≡ false)
+IsFirstCredit past frame = (pair : IdPair) × (credit past frame ≡ Some pair) × (credit_count pair past ≡ 0)

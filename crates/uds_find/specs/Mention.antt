@@ -12,16 +12,16 @@ use Rattle.uds_find.specs.declared.mention.Mention.TheVariants.{Asks, Answers}
 use lib.Dec.{leb}
 
 -- what the rest of a negative response says: it answers the service that it names; response pending says nothing
-abbrev pub mention_in_refusal : List ℕ → Option Mention
-mention_in_refusal [] = None
-mention_in_refusal (service ∷ []) = None
-mention_in_refusal (service ∷ code ∷ more) = if is_response_pending code then None else Some (Answers service)
+abbrev pub mention_in_negative_response : List ℕ → Option Mention
+mention_in_negative_response [] = None
+mention_in_negative_response (service ∷ []) = None
+mention_in_negative_response (service ∷ code ∷ more) = if is_response_pending code then None else Some (Answers service)
 
 -- what the first byte of a message and the bytes after it say
 abbrev pub mention_by_sid : List ℕ → Option Mention
 mention_by_sid [] = None
 mention_by_sid (sid ∷ rest) =
-    if sid == negative_response then mention_in_refusal rest else if is_response_sid sid then Some (Answers (service_answered sid)) else Some (Asks sid)
+    if sid == negative_response then mention_in_negative_response rest else if is_response_sid sid then Some (Answers (service_answered sid)) else Some (Asks sid)
 
 -- what the bytes of a message in its first frame say; the keep-alive says nothing
 abbrev pub mention_in : List ℕ → Option Mention

@@ -7,7 +7,7 @@ ghost use Rattle.uds_find.specs.Credit as Spec;
 ghost use Rattle.uds_find.specs.Finding.{IsTally, credit_line};
 
 use crate::mention::{Mention, mention_of};
-use crate::pair::{CreditLine, Pair};
+use crate::pair::{CreditLine, IdPair};
 use can_log::{Frame, Id};
 use std::alloc::{AllocError, Global};
 use std::collections::BTreeMap;
@@ -18,8 +18,8 @@ use std::marker::Model;
 pub struct Finder {
     /// Of each service who waits for its answer.
     waiting: [Option<Id>; 256],
-    /// The answers of each pair.
-    pairs: BTreeMap<Pair, u64>,
+    /// How many answers of each pair were credited.
+    credits: BTreeMap<IdPair, u64>,
 }
 
 impl Model for Finder {
@@ -27,7 +27,7 @@ impl Model for Finder {
 
     ghost Value = { FinderValue };
 
-    ghost view = { λ f. record { waiting = f.waiting; table = f.pairs.entries } };
+    ghost view = { λ f. record { waiting = f.waiting; credits = f.credits.entries } };
 }
 
 impl Finder {
@@ -44,7 +44,7 @@ impl Finder {
     {
         Finder {
             waiting: [None; 256],
-            pairs: BTreeMap::new(alloc),
+            credits: BTreeMap::new(alloc),
         }
     }
 
@@ -73,7 +73,7 @@ impl Finder {
         ensures lines { IfOk result (λ lines. (frames : List FrameValue) → StandsAfter frames self → AreCreditLines frames lines.items) }
         ensures needs { OnErr result ((frames : List FrameValue) → StandsAfter frames self → HasCredit frames) }
     {
-        let mut lines = lines_of(alloc, self.pairs)?;
+        let mut lines = lines_of(alloc, self.credits)?;
         lines.sort_unstable();
         Ok(lines)
     }
@@ -81,52 +81,54 @@ impl Finder {
     /// Credits an answer of the service by this identifier to who waits for it.
     fn credit(&mut self, service: u8, unit: Id) -> Result<(), AllocError>
         ensures ok { OnOk result ((frames : List FrameValue) (frame : FrameValue) → length frames < 2 ^ 62 → mention_of frame ≡ Some (Answers service) → frame.id ≡ unit
-            → StandsAfter frames self.old → IsTally (frames ++ frame ∷ []) self.new.table) }
+            → StandsAfter frames self.old → IsTally (frames ++ frame ∷ []) self.new.credits) }
         ensures err { OnErr result (self.new ≡ self.old) }
         ensures needs { OnErr result ((frames : List FrameValue) (frame : FrameValue) → mention_of frame ≡ Some (Answers service) → frame.id ≡ unit
             → StandsAfter frames self.old → IsFirstCredit frames frame) }
         ensures kept { self.new.waiting ≡ self.old.waiting }
     {
         if let Some(pair) = credited_to(self.waiting[service as usize], unit) {
-            count(&mut self.pairs, pair)?;
+            count(&mut self.credits, pair)?;
         }
         Ok(())
     }
 }
 
-/// Counts one more answer of a pair.
-fn count(pairs: &mut BTreeMap<Pair, u64>, pair: Pair) -> Result<(), AllocError>
-    ensures ok { OnOk result ((frames : List FrameValue) (frame : FrameValue) → length frames < 2 ^ 62 → IsTally frames pairs.old.entries
-        → Spec.credit frames frame ≡ Some pair → IsTally (frames ++ frame ∷ []) pairs.new.entries) }
-    ensures err { OnErr result (IsUnchanged pairs.old pairs.new) }
-    ensures needs { OnErr result ((frames : List FrameValue) → IsTally frames pairs.old.entries → Spec.credit_count pair frames ≡ 0) }
+/// Counts one more credit of a pair.
+fn count(credits: &mut BTreeMap<IdPair, u64>, pair: IdPair) -> Result<(), AllocError>
+    ensures ok { OnOk result ((frames : List FrameValue) (frame : FrameValue) → length frames < 2 ^ 62 → IsTally frames credits.old.entries
+        → Spec.credit frames frame ≡ Some pair → IsTally (frames ++ frame ∷ []) credits.new.entries) }
+    ensures err { OnErr result (IsUnchanged credits.old credits.new) }
+    ensures needs { OnErr result ((frames : List FrameValue) → IsTally frames credits.old.entries → Spec.credit_count pair frames ≡ 0) }
 {
-    let answers = pairs.get(&pair).copied().unwrap_or(0);
-    pairs.insert(pair, answers.saturating_add(1))?;
+    let counted = credits.get(&pair).copied().unwrap_or(0);
+    // Below 2^62 frames it does not saturate, and no log has as many.
+    credits.insert(pair, counted.saturating_add(1))?;
     Ok(())
 }
 
-/// The lines of the pairs, in the order of the table.
-fn lines_of(alloc: Global, pairs: BTreeMap<Pair, u64>) -> Result<Vec<CreditLine>, AllocError>
-    ensures lines { IfOk result (λ lines. lines.items ≡ map credit_line pairs.entries) }
-    ensures needs { OnErr result (0 < length pairs.entries) }
+/// The lines of the pairs, in the order of the map.
+fn lines_of(alloc: Global, credits: BTreeMap<IdPair, u64>) -> Result<Vec<CreditLine>, AllocError>
+    ensures lines { IfOk result (λ lines. lines.items ≡ map credit_line credits.entries) }
+    ensures needs { OnErr result (0 < length credits.entries) }
 {
     let mut lines = Vec::new(alloc);
-    let mut rest = pairs;
-    'pairs: while let Some((pair, credits)) = rest.pop_first() {
-        lines.push(CreditLine::new(pair, credits))?;
+    // `pop_first` empties it: nothing is copied.
+    let mut rest = credits;
+    'pairs: while let Some((pair, counted)) = rest.pop_first() {
+        lines.push(CreditLine::new(pair, counted))?;
     }
     Ok(lines)
 }
 
 /// The pair of who waits for an answer and of who gives it.
-fn credited_to(waiting: Option<Id>, unit: Id) -> Option<Pair>
+fn credited_to(waiting: Option<Id>, unit: Id) -> Option<IdPair>
     ensures { result ≡ Spec.credited_to waiting unit }
 {
     let tester = waiting?;
     if tester == unit {
         None
     } else {
-        Some(Pair { tester, unit })
+        Some(IdPair { tester, unit })
     }
 }

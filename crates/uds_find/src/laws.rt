@@ -1,7 +1,6 @@
 //! What holds of what frames say and of credits, whatever counts them. Each law is its contract; a call does nothing.
 
-ghost use Rattle.uds_find.specs.Credit.{CreditIsAsked, FirstCreditIsCredit};
-ghost use Rattle.uds_find.specs.Laws.{KeepAliveSaysNothing, PendingReplySaysNothing};
+ghost use Rattle.uds_find.specs.Laws.{CreditIsAsked, FirstCreditIsCredit, KeepAliveSaysNothing, PendingReplySaysNothing};
 
 /// A keep-alive asks for nothing.
 pub fn keep_alive_says_nothing()

@@ -19,4 +19,4 @@ mod pair;
 
 pub use finder::Finder;
 pub use mention::{Mention, mention_of};
-pub use pair::{CreditLine, Pair};
+pub use pair::{CreditLine, IdPair};

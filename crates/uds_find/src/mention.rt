@@ -59,15 +59,15 @@ fn mention_by_sid(bytes: &[u8]) -> Option<Mention>
 {
     match bytes {
         [] => None,
-        [_, rest @ ..] if is_negative_response(bytes) => mention_in_refusal(rest),
+        [_, rest @ ..] if is_negative_response(bytes) => mention_in_negative_response(rest),
         [sid, ..] if is_response_sid(*sid) => Some(Mention::Answers(service_answered(*sid))),
         [sid, ..] => Some(Mention::Asks(*sid)),
     }
 }
 
 /// What a negative response says whose bytes after the first are these.
-fn mention_in_refusal(rest: &[u8]) -> Option<Mention>
-    ensures { result ≡ Spec.mention_in_refusal rest.now }
+fn mention_in_negative_response(rest: &[u8]) -> Option<Mention>
+    ensures { result ≡ Spec.mention_in_negative_response rest.now }
 {
     match rest {
         [_, code, ..] if is_response_pending(*code) => None,

@@ -12,12 +12,12 @@ use std::cmp::Ordering;
 
 /// An identifier that asks, and one that answers it.
 #[derive(Clone, Copy, Debug, PartialEq, Eq, PartialOrd, Ord)]
-pub struct Pair {
+pub struct IdPair {
     pub tester: Id,
     pub unit: Id,
 }
 
-/// A pair by the texts of its identifiers, and how many answers it has. Lines are ordered by the most answers, and then by
+/// A pair by the texts of its identifiers, and how many credits it has. Lines are ordered by the most credits, and then by
 /// these texts.
 #[derive(Debug, Drop, PartialEq, Eq)]
 pub struct CreditLine {
@@ -30,8 +30,8 @@ impl CreditLine {
     ghost use Rattle.std.specs.Prelude.{◌≡◌};
     ghost use Rattle.uds_find.specs.Finding.{credit_line};
 
-    /// The line of a pair with so many answers.
-    pub(crate) fn new(pair: Pair, credits: u64) -> CreditLine
+    /// The line of a pair with so many credits.
+    pub(crate) fn new(pair: IdPair, credits: u64) -> CreditLine
         ensures { result ≡ credit_line (pair, credits) }
     {
         CreditLine {
@@ -42,6 +42,7 @@ impl CreditLine {
     }
 }
 
+// `cmp` is `line_order` of the definitions, in the form that `comparing` searches.
 impl Ord for CreditLine {
     ghost cmp = { then_cmp (flip_args (on (λ line. line.credits) nat_cmp))
         (then_cmp (on (λ line. line.tester.items) (slice_cmp nat_cmp)) (on (λ line. line.unit.items) (slice_cmp nat_cmp))) };
@@ -61,6 +62,7 @@ impl Ord for CreditLine {
     }
 }
 
+// `partial_cmp` is the same order.
 impl PartialOrd for CreditLine {
     ghost partial_cmp = { as_partial_cmp (then_cmp (flip_args (on (λ line. line.credits) nat_cmp))
         (then_cmp (on (λ line. line.tester.items) (slice_cmp nat_cmp)) (on (λ line. line.unit.items) (slice_cmp nat_cmp)))) };

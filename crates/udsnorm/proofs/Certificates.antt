@@ -15,7 +15,7 @@ use Rattle.trace_log.specs.declared.fault.Fault.{Fault}
 use Rattle.trace_run.specs.declared.machine.Stop.{Stop}
 use Rattle.trace_log.specs.declared.summary.Summary.{Summary}
 use Rattle.trace_log.proofs.Promises.{clean_log_is_recording, clean_summary_is_certificate, summary_certifies}
-use Rattle.trace_run.specs.Told.{AnswersTold, Glimpse, IsReadToEnd, Script, answers_counts}
+use Rattle.trace_run.specs.Told.{AnswersTold, GlimpseValue, IsReadToEnd, Refusal, Script, answers_counts, tells_no_refusal}
 use Rattle.trace_report.specs.Held as Holds
 use Rattle.trace_report.specs.Session.{SessionValue}
 use Rattle.udsnorm.specs.Commands.{Engine, normalises, writes, finds, runs, runs_in_style, EngineAnswers, PairEngineAnswers, answers_of, engine_of}
@@ -55,9 +55,9 @@ of_read true settings log meanings read = read.means
 of_read false settings log meanings read = read.1
 
 -- those of a log over which a machine ran, whatever it said
-of_script : (script : Script) (settings : Settings) (log : List ℕ) (given : ℕ) (summary : Summary) (old new : List ℕ)
-    → AnswersTold script answers_counts MESSAGE_LIMIT settings log given (Ok summary) old new → is_clean summary ≡ true → IsCertified MESSAGE_LIMIT settings log
-of_script script settings log given summary old new (all, meanings, read, counted, wrote) =
+of_script : (script : Script) (refusal : Refusal) (settings : Settings) (log : List ℕ) (given : ℕ) (summary : Summary) (old new : List ℕ)
+    → AnswersTold script refusal answers_counts MESSAGE_LIMIT settings log given (Ok summary) old new → is_clean summary ≡ true → IsCertified MESSAGE_LIMIT settings log
+of_script script refusal settings log given summary old new (all, meanings, read, counted, wrote) =
     of_told settings log meanings summary (of_read script.strict settings log meanings read) counted
 
 -- `find` counts no frames of either side, so no log is clean by its counts
@@ -66,11 +66,11 @@ of_engine : (engine : Engine) (settings : Settings) (log : List ℕ) (given : �
 of_engine normalises settings log given summary old new (accepted, outcome, counted, wrote) = of_clean settings log summary (of_accepted settings log accepted summary outcome counted)
 of_engine (writes text) settings log given summary old new (items, is, wrote) = of_clean settings log summary (of_accepted settings log is.accepted summary is.outcome is.counted)
 of_engine (finds notation) settings log given summary old new (pairs, (meanings, read, found), wrote) = λ clean. absurd (true≢false (sym clean ∙ ap is_clean found.1))
-of_engine (runs script needs) settings log given summary old new told = of_script (script MESSAGE_LIMIT) settings log given summary old new told
-of_engine (runs_in_style script) settings log given summary old new (style, told) = of_script (script style settings MESSAGE_LIMIT) settings log given summary old new told
+of_engine (runs script needs) settings log given summary old new told = of_script (script MESSAGE_LIMIT) tells_no_refusal settings log given summary old new told
+of_engine (runs_in_style script refusal) settings log given summary old new (style, told) = of_script (script style settings MESSAGE_LIMIT) (refusal style settings MESSAGE_LIMIT) settings log given summary old new told
 
 -- whatever the job
-pub answer_certifies : (job : Job) (name : List ℕ) (seen : Glimpse) (settings : Settings) (log : List ℕ) (given : ℕ) (answer : Result Summary Fault) (old new : List ℕ)
+pub answer_certifies : (job : Job) (name : List ℕ) (seen : GlimpseValue) (settings : Settings) (log : List ℕ) (given : ℕ) (answer : Result Summary Fault) (old new : List ℕ)
     → EngineAnswers job name seen MESSAGE_LIMIT settings log given answer old new → IfOk answer (λ summary. is_clean summary ≡ true → IsCertified MESSAGE_LIMIT settings log)
 answer_certifies job name seen settings log given (Ok summary) old new engine = of_engine (engine_of job name seen) settings log given summary old new engine
 answer_certifies job name seen settings log given (Err fault) old new engine = tt
@@ -92,7 +92,7 @@ of_held : (settings : Settings) (log : List ℕ) (session : SessionValue) → Ho
 of_held settings log session (meanings, read, is) = of_told settings log meanings session.summary read.1 (ap (λ (s : SessionValue). Ok s.summary) is)
 
 -- what is certified of two logs by the answer of a job over them
-of_pair : (job : PairJob) (left_name right_name : List ℕ) (left_seen right_seen : Glimpse) (strict : Bool) (settings : Settings) (one other : List ℕ) (pair : PairAnswer) (text : List ℕ)
+of_pair : (job : PairJob) (left_name right_name : List ℕ) (left_seen right_seen : GlimpseValue) (strict : Bool) (settings : Settings) (one other : List ℕ) (pair : PairAnswer) (text : List ℕ)
     → PairEngineAnswers job left_name right_name left_seen right_seen strict MESSAGE_LIMIT settings one other (Ok pair) text → is_clean pair.left ≡ true → is_clean pair.right ≡ true
     → IsCertified MESSAGE_LIMIT settings one × IsCertified MESSAGE_LIMIT settings other
 of_pair (pair_job.Compare style) left_name right_name left_seen right_seen strict settings one other pair text (compared, compares, is, wrote) left_clean right_clean = (
@@ -109,7 +109,7 @@ of_pair pair_job.Report left_name right_name left_seen right_seen strict setting
 )
 
 -- so where a strict run over two logs has an answer, each log is a recording
-pub both_certified : (job : PairJob) (left_name right_name : List ℕ) (left_seen right_seen : Glimpse) (strict wrote : Bool) (settings : Settings) (one other : List ℕ) (answer : Result PairAnswer CompareFault) (text : List ℕ) (status : ℕ)
+pub both_certified : (job : PairJob) (left_name right_name : List ℕ) (left_seen right_seen : GlimpseValue) (strict wrote : Bool) (settings : Settings) (one other : List ℕ) (answer : Result PairAnswer CompareFault) (text : List ℕ) (status : ℕ)
     → PairEngineAnswers job left_name right_name left_seen right_seen strict MESSAGE_LIMIT settings one other answer text → status ≡ status_of_run_of_two wrote strict answer → strict ≡ true → status ≤ 1
     → IsCertified MESSAGE_LIMIT settings one × IsCertified MESSAGE_LIMIT settings other
 both_certified job left_name right_name left_seen right_seen strict wrote settings one other answer text status engine is so low =

@@ -15,7 +15,7 @@ use Rattle.udsnorm.specs.Asked.{Did, DidAsked, DidWords, IsDone, IsDoneBy, ToldW
 use Rattle.udsnorm.specs.Opening.{Saying, opened, two_files}
 use Rattle.udsnorm.specs.Ending.{flushes, has_unclean, is_unclean, status_of_run_of_two}
 use Rattle.trace_report.specs.Page.{nothing_seen}
-use Rattle.trace_run.specs.Told.{Glimpse, glimpse_of}
+use Rattle.trace_run.specs.Told.{GlimpseValue, glimpse_of}
 use Rattle.udsnorm.specs.Commands.{EngineAnswers, PairEngineAnswers}
 use Rattle.udsnorm.specs.declared.commands.Job.TheVariants as job
 use Rattle.udsnorm.specs.declared.pair_jobs.PairJob.TheVariants as pair_job
@@ -57,7 +57,7 @@ is_not_four : (status : ℕ) → status ≡ 0 → status ≡ 4 → ⊥
 is_not_four status zero four = absurd (omega (arith, zero, four))
 
 -- what is seen of a source says nothing of a log that is accepted
-unseen : (job : Job) (name : List ℕ) (seen : Glimpse) (settings : Settings) (log : List ℕ) (n : ℕ) (summary : Summary) (old new : List ℕ)
+unseen : (job : Job) (name : List ℕ) (seen : GlimpseValue) (settings : Settings) (log : List ℕ) (n : ℕ) (summary : Summary) (old new : List ℕ)
     → EngineAnswers job name seen MESSAGE_LIMIT settings log n (Ok summary) old new → EngineAnswers job name nothing_seen MESSAGE_LIMIT settings log n (Ok summary) old new
 unseen job.Normalise name seen settings log n summary old new answers = answers
 unseen (job.List style) name seen settings log n summary old new answers = answers
@@ -67,7 +67,7 @@ unseen (job.Messages notation) name seen settings log n summary old new answers 
 unseen job.Report name seen settings log n summary old new (style, told) = (style, told)
 unseen (job.Find notation) name seen settings log n summary old new answers = answers
 
-unseen_pair : (job : PairJob) (left_name right_name : List ℕ) (left_seen right_seen : Glimpse) (strict : Bool) (settings : Settings) (one other : List ℕ) (pair : PairAnswer) (text : List ℕ)
+unseen_pair : (job : PairJob) (left_name right_name : List ℕ) (left_seen right_seen : GlimpseValue) (strict : Bool) (settings : Settings) (one other : List ℕ) (pair : PairAnswer) (text : List ℕ)
     → PairEngineAnswers job left_name right_name left_seen right_seen strict MESSAGE_LIMIT settings one other (Ok pair) text
     → PairEngineAnswers job left_name right_name nothing_seen nothing_seen strict MESSAGE_LIMIT settings one other (Ok pair) text
 unseen_pair (pair_job.Compare style) left_name right_name left_seen right_seen strict settings one other pair text answers = answers
@@ -75,7 +75,7 @@ unseen_pair (pair_job.Diff notation) left_name right_name left_seen right_seen s
 unseen_pair pair_job.Report left_name right_name left_seen right_seen strict settings one other pair text answers = answers
 
 -- the logs are the same, and clean where they have to be, and the output took the text of that
-same_of_done : {W : Type 0} (output : TargetGhosts W) (job : PairJob) (left_name right_name : List ℕ) (left_seen right_seen : Glimpse) (strict wrote : Bool) (settings : Settings) (one other : List ℕ)
+same_of_done : {W : Type 0} (output : TargetGhosts W) (job : PairJob) (left_name right_name : List ℕ) (left_seen right_seen : GlimpseValue) (strict wrote : Bool) (settings : Settings) (one other : List ℕ)
     (answer : Result PairAnswer CompareFault) (text : List ℕ) (status : ℕ) (old new : W)
     → PairEngineAnswers job left_name right_name left_seen right_seen strict MESSAGE_LIMIT settings one other answer text → status ≡ status_of_run_of_two wrote strict answer
     → WroteText output text wrote old new → status ≡ 0
@@ -91,7 +91,7 @@ same_of_done output job left_name right_name left_seen right_seen strict wrote s
       told.whole done.1,
     )
 
-accepted : (job : Job) (name : List ℕ) (seen : Glimpse) (strict : Bool) (settings : Settings) (log : List ℕ) (n : ℕ) (answer : Result Summary Fault) (old new : List ℕ)
+accepted : (job : Job) (name : List ℕ) (seen : GlimpseValue) (strict : Bool) (settings : Settings) (log : List ℕ) (n : ℕ) (answer : Result Summary Fault) (old new : List ℕ)
     → EngineAnswers job name seen MESSAGE_LIMIT settings log n answer old new → (summary : Summary) × (answer ≡ Ok summary) × (is_unclean strict summary ≡ false)
     → (summary : Summary) × (is_unclean strict summary ≡ false) × EngineAnswers job name nothing_seen MESSAGE_LIMIT settings log n (Ok summary) old new
 accepted job name seen strict settings log n answer old new engine is =

@@ -17,4 +17,4 @@ ran_any source target (finds notation) settings before old result after new ran 
     record { answer = ran.answer; eager = λ log agrees. tt; memory = ran.memory; near = ran.near; read = ran.read; wrote = ran.wrote }
 ran_any source target (runs script needs) settings before old result after new ran =
     record { answer = ran.run.answer; eager = ran.run.eager; memory = ran.run.memory; near = ran.near; read = ran.run.read; wrote = ran.run.wrote }
-ran_any source target (runs_in_style script) settings before old result after new ran = ran
+ran_any source target (runs_in_style script refusal) settings before old result after new ran = ran

@@ -28,7 +28,7 @@ use Rattle.udsnorm.specs.Ending.{has_unclean, status_of_comparison, status_of_ru
 use Rattle.udsnorm.specs.Status.{status_of}
 use Rattle.udsnorm.specs.Telling.{WroteText}
 use Rattle.udsnorm.specs.proving.Flushed.{FlushedIf}
-use Rattle.trace_run.specs.Told.{Glimpse}
+use Rattle.trace_run.specs.Told.{GlimpseValue}
 use Rattle.udsnorm.specs.proving.Pairs.{IsAnswered, answer_held, answer_of, cause_in, text_of_answer}
 use Rattle.udsnorm.specs.declared.pair_jobs.PairAnswer.{PairAnswer}
 use Rattle.udsnorm.specs.declared.pair_jobs.PairJob.{PairJob}
@@ -92,7 +92,7 @@ read_told source why max_bytes answer told before after is read =
     subst (λ (a : Result PairAnswer CompareFault). ReadFrom source why max_bytes a before after) (sym is) (read_held source why max_bytes answer before after read)
 
 -- two logs that are held, without what they say, and their page
-pub pages_pair : (style left_name right_name : List ℕ) (left_seen right_seen : Glimpse) (strict : Bool) (limit : ℕ) (settings : Settings) (one other : List ℕ) (answer : Result TwoValue CompareFault) → HoldsTwo limit settings one other answer
+pub pages_pair : (style left_name right_name : List ℕ) (left_seen right_seen : GlimpseValue) (strict : Bool) (limit : ℕ) (settings : Settings) (one other : List ℕ) (answer : Result TwoValue CompareFault) → HoldsTwo limit settings one other answer
     → PagesPair left_name right_name left_seen right_seen strict limit settings one other (answer_held answer)
     (pair_page (pair_title style left_name right_name settings) answer (cause_in answer settings.max_bytes left_seen right_seen))
 pages_pair style left_name right_name left_seen right_seen strict limit settings one other (Ok held) holds = (style, held, holds, refl, refl)

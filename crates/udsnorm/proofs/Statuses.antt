@@ -11,7 +11,7 @@ use Rattle.trace_log.specs.Settings.{Settings}
 use Rattle.trace_log.specs.declared.summary.Summary.{Summary}
 use Rattle.trace_io.specs.Stream.{Agrees, Took}
 use Rattle.udsnorm.specs.Ending.{ComesTo, EndsAs, flushes, is_unclean, status_of_run}
-use Rattle.trace_run.specs.Told.{Glimpse}
+use Rattle.trace_run.specs.Told.{GlimpseValue}
 use Rattle.udsnorm.specs.Commands.{EngineAnswers}
 use Rattle.udsnorm.specs.Status.{status_of}
 use Rattle.udsnorm.specs.declared.commands.Job.{Job}
@@ -111,14 +111,14 @@ count_of_more old new log grown =
     omega (arith, long)
 
 -- what the engine answers on that
-pub answers_on_more : (job : Job) (name : List ℕ) (seen : Glimpse) (limit : ℕ) (settings : Settings) (old new log : List ℕ) (is_over : Bool) (answer : Result Summary Fault) (before after : List ℕ) → new ≡ old ++ log
+pub answers_on_more : (job : Job) (name : List ℕ) (seen : GlimpseValue) (limit : ℕ) (settings : Settings) (old new log : List ℕ) (is_over : Bool) (answer : Result Summary Fault) (before after : List ℕ) → new ≡ old ++ log
     → ((l : List ℕ) → Agrees old new is_over l → EngineAnswers job name seen limit settings l (length new - length old) answer before after)
     → EngineAnswers job name seen limit settings log (length log) answer before after
 answers_on_more job name seen limit settings old new log is_over answer before after grown engine =
     subst (λ n. EngineAnswers job name seen limit settings log n answer before after) (count_of_more old new log grown)
     (engine log (agrees_with_more old new log is_over grown))
 
-pub answers_from_start : (job : Job) (name : List ℕ) (seen : Glimpse) (limit : ℕ) (settings : Settings) (old new : List ℕ) (is_over : Bool) (answer : Result Summary Fault) (before after : List ℕ) → old ≡ []
+pub answers_from_start : (job : Job) (name : List ℕ) (seen : GlimpseValue) (limit : ℕ) (settings : Settings) (old new : List ℕ) (is_over : Bool) (answer : Result Summary Fault) (before after : List ℕ) → old ≡ []
     → ((l : List ℕ) → Agrees old new is_over l → EngineAnswers job name seen limit settings l (length new - length old) answer before after)
     → EngineAnswers job name seen limit settings new (length new) answer before after
 answers_from_start job name seen limit settings old new is_over answer before after none engine =

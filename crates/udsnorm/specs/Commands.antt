@@ -13,18 +13,18 @@ use Rattle.trace_canon.specs.Compared.{Compares, fault_in}
 use Rattle.trace_canon.specs.ComparisonText.{comparison_text}
 use Rattle.trace_log.specs.Devices.{AgreesWith, bytes_given, ReadFrom, WroteTo}
 use Rattle.trace_canon.specs.ExplainScript.{explain_script}
-use Rattle.trace_canon.specs.Found.{Finds, NeedsMemoryToFind, RanToFind}
-use Rattle.trace_text.specs.ListText.{list_text}
-use Rattle.trace_canon.specs.Listed.{RanOverItems, TextOfItems, WritesItems}
+use Rattle.trace_canon.specs.Finding.{Finds, NeedsMemoryToFind, RanToFind}
+use Rattle.trace_text.specs.ItemLines.{list_text}
+use Rattle.trace_canon.specs.ItemText.{RanOverItems, TextOfItems, WritesItems}
 use Rattle.trace_canon.specs.MessageLines.{placing_script}
 use Rattle.trace_log.specs.Needing.{HasFrame, IsKeptForMessage, NeedsMemoryToReceive}
-use Rattle.trace_canon.specs.Keeping.{CompletesKept, NeedsMemoryToCollect, NeedsMemoryToOrder}
+use Rattle.trace_canon.specs.MemoryNeeded.{CompletesKept, NeedsMemoryToCollect, NeedsMemoryToOrder}
 use Rattle.trace_log.specs.Refusal.{HasNoBadPlaceWithin, IsNotRefusedWithin}
 use Rattle.trace_log.specs.Settings.{Settings}
-use Rattle.trace_run.specs.Told.{Glimpse, Script, AnswersTold, RanLenient, TellsEagerly, answers_counts, command, needs_none}
+use Rattle.trace_run.specs.Told.{GlimpseValue, Script, Refusal, AnswersTold, RanLenient, TellsEagerly, answers_counts, command, needs_none, tells_no_refusal}
 use Rattle.trace_canon.specs.WatchScript.{watching_script}
 use Rattle.trace_canon.specs.declared.comparing.Compared.{Compared}
-use Rattle.trace_canon.specs.declared.comparison_lines.ComparisonStyle.{ComparisonStyle}
+use Rattle.trace_canon.specs.declared.comparison_text.ComparisonStyle.{ComparisonStyle}
 use Rattle.trace_log.specs.declared.fault.CompareFault.{CompareFault}
 use Rattle.trace_log.specs.declared.fault.Fault.{Fault}
 use Rattle.trace_log.specs.declared.fault.Fault.TheVariants.{Memory, Read, Write}
@@ -37,7 +37,7 @@ use Rattle.trace_io.specs.declared.device.Target.{Ghosts as TargetGhosts}
 use Rattle.trace_difference.specs.Written.{difference_text}
 use Rattle.trace_report.specs.Front.{page_title}
 use Rattle.trace_report.specs.Held.{HasOwnFrame, HoldsTwo, TwoValue, comparison_in}
-use Rattle.trace_report.specs.Page.{report_script}
+use Rattle.trace_report.specs.Page.{refused_text, report_script}
 use Rattle.trace_report.specs.PairPage.{cause_of_pair, held_page, pair_page, pair_title}
 use Rattle.udsnorm.specs.Ending.{has_unclean}
 use Rattle.udsnorm.specs.Status.{is_refusal}
@@ -141,22 +141,23 @@ command_entries =
 
 -- What is known of the call that does a job over one log: it is `normalise`, or writes a text of the items of the
 -- meaning, or of the pairs of identifiers, at the end; or it is the run of a machine, of which all is known by its
--- script and by the frames for which the machine needs memory. A page's script is in some style.
+-- script and by the frames for which the machine needs memory. A page's script is in some style, and so is what it
+-- tells of a refusal, of which the others tell nothing.
 pub data Engine : Type 1 where
   normalises : Engine
   writes : TextOfItems → Engine
   finds : Notation → Engine
   runs : (ℕ → Script) → (ℕ → List Entry → Entry → Type 0) → Engine
-  runs_in_style : (List ℕ → Settings → ℕ → Script) → Engine
+  runs_in_style : (List ℕ → Settings → ℕ → Script) → (List ℕ → Settings → ℕ → Refusal) → Engine
 
 -- what it answers, and what it then writes
 abbrev pub answers_of : Engine → ℕ → Settings → List ℕ → ℕ → Result Summary Fault → List ℕ → List ℕ → Type 0
 answers_of normalises limit settings log given result old new = Answers limit settings log given result old new
 answers_of (writes text) limit settings log given result old new = WritesItems text limit settings log result old new
 answers_of (finds notation) limit settings log given result old new = Finds notation settings log result old new
-answers_of (runs script needs) limit settings log given result old new = AnswersTold (script limit) answers_counts limit settings log given result old new
-answers_of (runs_in_style script) limit settings log given result old new =
-    (style : List ℕ) × AnswersTold (script style settings limit) answers_counts limit settings log given result old new
+answers_of (runs script needs) limit settings log given result old new = AnswersTold (script limit) tells_no_refusal answers_counts limit settings log given result old new
+answers_of (runs_in_style script refusal) limit settings log given result old new =
+    (style : List ℕ) × AnswersTold (script style settings limit) (refusal style settings limit) answers_counts limit settings log given result old new
 
 -- What it has written of a log of which so many bytes were given: at least all that is told of the lines that had ended
 -- among all of these but the last 4,096, as many as one read may bring. So whoever follows a session sees its messages
@@ -166,7 +167,7 @@ tells_eagerly_of normalises limit settings log given old new = WritesEagerly lim
 tells_eagerly_of (writes text) limit settings log given old new = ⊤
 tells_eagerly_of (finds notation) limit settings log given old new = ⊤
 tells_eagerly_of (runs script needs) limit settings log given old new = TellsEagerly (script limit) limit settings log given old new
-tells_eagerly_of (runs_in_style script) limit settings log given old new =
+tells_eagerly_of (runs_in_style script refusal) limit settings log given old new =
     (style : List ℕ) × TellsEagerly (script style settings limit) limit settings log given old new
 
 -- nothing refuses the log for it among so many of its bytes; no length that is announced does this for one that is
@@ -176,7 +177,7 @@ unrefused_of normalises limit settings log = IsNotRefusedWithin limit settings l
 unrefused_of (writes text) limit settings log = IsNotRefusedWithin limit settings log
 unrefused_of (finds notation) limit settings log = HasNoBadPlaceWithin log
 unrefused_of (runs script needs) limit settings log = HasNoBadPlaceWithin log
-unrefused_of (runs_in_style script) limit settings log = HasNoBadPlaceWithin log
+unrefused_of (runs_in_style script refusal) limit settings log = HasNoBadPlaceWithin log
 
 -- The log needs memory for it: it has a frame whose bytes are kept for a message of several, or one that completes a
 -- message which the engine keeps; or, for `find`, an answer that is credited.
@@ -185,7 +186,7 @@ needs_of normalises limit settings log = NeedsMemoryToOrder limit settings log
 needs_of (writes text) limit settings log = NeedsMemoryToCollect limit settings log
 needs_of (finds notation) limit settings log = NeedsMemoryToFind log
 needs_of (runs script needs) limit settings log = HasFrame (λ T e. IsKeptForMessage limit T e ⊎ needs limit T e) settings log
-needs_of (runs_in_style script) limit settings log = NeedsMemoryToReceive limit settings log
+needs_of (runs_in_style script refusal) limit settings log = NeedsMemoryToReceive limit settings log
 
 -- What is known of a run of any engine: what was answered and written, that it was written before more was read, that
 -- memory was refused only for a log that needs it, how near to what refuses the log it stopped reading, and what it did with its devices.
@@ -205,34 +206,36 @@ abbrev pub RanBy : {R W : Type 0} → SourceGhosts R → TargetGhosts W → Engi
 RanBy source target normalises settings = RanAny source target normalises MESSAGE_LIMIT settings
 RanBy source target (writes text) settings = RanOverItems source target text MESSAGE_LIMIT settings
 RanBy source target (finds notation) settings = RanToFind source target notation settings
-RanBy source target (runs script needs) settings = RanLenient source target (command (script MESSAGE_LIMIT) answers_counts (needs MESSAGE_LIMIT)) settings
-RanBy source target (runs_in_style script) settings = RanAny source target (runs_in_style script) MESSAGE_LIMIT settings
+RanBy source target (runs script needs) settings = RanLenient source target (command (script MESSAGE_LIMIT) tells_no_refusal answers_counts (needs MESSAGE_LIMIT)) settings
+RanBy source target (runs_in_style script refusal) settings = RanAny source target (runs_in_style script refusal) MESSAGE_LIMIT settings
 
 -- the engine that does this job over one log, which has this name on a page, and of whose source this is seen where it is
 -- refused
-abbrev pub engine_of : Job → List ℕ → Glimpse → Engine
+abbrev pub engine_of : Job → List ℕ → GlimpseValue → Engine
 engine_of job.Normalise name seen = normalises
 engine_of (job.List style) name seen = writes (list_text style)
 engine_of (job.Watch style) name seen = runs (λ limit. watching_script style) CompletesKept
 engine_of (job.Explain notation) name seen = runs (explain_script notation) (λ limit. needs_none)
 engine_of (job.Messages notation) name seen = runs (placing_script notation) (λ limit. needs_none)
-engine_of job.Report name seen = runs_in_style (λ style settings limit. report_script (page_title style name settings) limit seen)
+engine_of job.Report name seen =
+    runs_in_style (λ style settings limit. report_script (page_title style name settings) limit)
+    (λ style settings limit. refused_text (page_title style name settings) limit seen)
 engine_of (job.Find notation) name seen = finds notation
 
 -- what it answers, and what it writes
-abbrev pub EngineAnswers : Job → List ℕ → Glimpse → ℕ → Settings → List ℕ → ℕ → Result Summary Fault → List ℕ → List ℕ → Type 0
+abbrev pub EngineAnswers : Job → List ℕ → GlimpseValue → ℕ → Settings → List ℕ → ℕ → Result Summary Fault → List ℕ → List ℕ → Type 0
 EngineAnswers job name seen = answers_of (engine_of job name seen)
 
 -- what it has written before more is read
-abbrev pub EngineTellsEagerly : Job → List ℕ → Glimpse → ℕ → Settings → List ℕ → ℕ → List ℕ → List ℕ → Type 0
+abbrev pub EngineTellsEagerly : Job → List ℕ → GlimpseValue → ℕ → Settings → List ℕ → ℕ → List ℕ → List ℕ → Type 0
 EngineTellsEagerly job name seen = tells_eagerly_of (engine_of job name seen)
 
 -- for which logs it may be refused memory
-abbrev pub EngineNeeds : Job → List ℕ → Glimpse → ℕ → Settings → List ℕ → Type 0
+abbrev pub EngineNeeds : Job → List ℕ → GlimpseValue → ℕ → Settings → List ℕ → Type 0
 EngineNeeds job name seen = needs_of (engine_of job name seen)
 
 -- how near to what refuses the log it stops reading
-abbrev pub EngineReads : Job → List ℕ → Glimpse → ℕ → Settings → List ℕ → ℕ → ℕ → ℕ → Type 0
+abbrev pub EngineReads : Job → List ℕ → GlimpseValue → ℕ → Settings → List ℕ → ℕ → ℕ → ℕ → Type 0
 EngineReads job name seen limit settings log = ReadsWhile (unrefused_of (engine_of job name seen) limit settings log)
 
 -- ---- two logs
@@ -286,7 +289,7 @@ pair_held held = record { comparison = comparison_in held; left = held.left.summ
 
 -- what both logs say, and the page of that, in some style, or of a log that is refused, with its cause by what is seen of
 -- both sources
-abbrev pub PagesPair : List ℕ → List ℕ → Glimpse → Glimpse → Bool → ℕ → Settings → List ℕ → List ℕ → Result PairAnswer CompareFault → List ℕ → Type 0
+abbrev pub PagesPair : List ℕ → List ℕ → GlimpseValue → GlimpseValue → Bool → ℕ → Settings → List ℕ → List ℕ → Result PairAnswer CompareFault → List ℕ → Type 0
 PagesPair left_name right_name left_seen right_seen strict limit settings one other (Ok pair) text =
     (style : List ℕ) × (held : TwoValue) × HoldsTwo limit settings one other (Ok held) × (pair ≡ pair_held held)
     × (text ≡ held_page (pair_title style left_name right_name settings) held)
@@ -306,7 +309,7 @@ has_text pair_job.Report strict (Err fault) = is_refusal (fault_in fault)
 
 -- the engine that does this job over two logs, which have these names in its text, and of whose sources this is seen;
 -- where memory is refused to the difference of two accepted logs, that is told of the right one
-abbrev pub engine_of_pair : PairJob → List ℕ → List ℕ → Glimpse → Glimpse → PairEngine
+abbrev pub engine_of_pair : PairJob → List ℕ → List ℕ → GlimpseValue → GlimpseValue → PairEngine
 engine_of_pair (pair_job.Compare style) left_name right_name left_seen right_seen = record { answers = ComparesPair (comparison_text style); left_needs = NeedsMemoryToCollect; right_needs = NeedsMemoryToCollect; unrefused = IsNotRefusedWithin }
 engine_of_pair (pair_job.Diff notation) left_name right_name left_seen right_seen =
     record { answers = ComparesPair (text_of_difference notation left_name right_name); left_needs = NeedsMemoryToCollect; right_needs = λ limit settings log. ⊤; unrefused = IsNotRefusedWithin }
@@ -314,19 +317,19 @@ engine_of_pair pair_job.Report left_name right_name left_seen right_seen =
     record { answers = PagesPair left_name right_name left_seen right_seen; left_needs = λ limit. HasOwnFrame; right_needs = λ limit. HasOwnFrame; unrefused = λ limit settings. HasNoBadPlaceWithin }
 
 -- what it answers, and what it writes
-abbrev pub PairEngineAnswers : PairJob → List ℕ → List ℕ → Glimpse → Glimpse → Bool → ℕ → Settings → List ℕ → List ℕ → Result PairAnswer CompareFault → List ℕ → Type 0
+abbrev pub PairEngineAnswers : PairJob → List ℕ → List ℕ → GlimpseValue → GlimpseValue → Bool → ℕ → Settings → List ℕ → List ℕ → Result PairAnswer CompareFault → List ℕ → Type 0
 PairEngineAnswers job left_name right_name left_seen right_seen = (engine_of_pair job left_name right_name left_seen right_seen).answers
 
 -- for which left log it may be refused memory
-abbrev pub PairEngineNeedsForLeft : PairJob → List ℕ → List ℕ → Glimpse → Glimpse → ℕ → Settings → List ℕ → Type 0
+abbrev pub PairEngineNeedsForLeft : PairJob → List ℕ → List ℕ → GlimpseValue → GlimpseValue → ℕ → Settings → List ℕ → Type 0
 PairEngineNeedsForLeft job left_name right_name left_seen right_seen = (engine_of_pair job left_name right_name left_seen right_seen).left_needs
 
 -- for which right one
-abbrev pub PairEngineNeedsForRight : PairJob → List ℕ → List ℕ → Glimpse → Glimpse → ℕ → Settings → List ℕ → Type 0
+abbrev pub PairEngineNeedsForRight : PairJob → List ℕ → List ℕ → GlimpseValue → GlimpseValue → ℕ → Settings → List ℕ → Type 0
 PairEngineNeedsForRight job left_name right_name left_seen right_seen = (engine_of_pair job left_name right_name left_seen right_seen).right_needs
 
 -- how near to what refuses a log it stops reading
-abbrev pub PairEngineReads : PairJob → List ℕ → List ℕ → Glimpse → Glimpse → ℕ → Settings → List ℕ → ℕ → ℕ → ℕ → Type 0
+abbrev pub PairEngineReads : PairJob → List ℕ → List ℕ → GlimpseValue → GlimpseValue → ℕ → Settings → List ℕ → ℕ → ℕ → ℕ → Type 0
 PairEngineReads job left_name right_name left_seen right_seen limit settings log = ReadsWhile ((engine_of_pair job left_name right_name left_seen right_seen).unrefused limit settings log)
 
 -- ---- the program

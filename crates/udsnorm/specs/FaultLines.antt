@@ -1,5 +1,5 @@
 -- What is told of each fault, as bytes.
-use Rattle.std.specs.Prelude.{ℕ, ◌==◌, ◌&&◌, not, nat_lt, Bool, List, [], ◌++◌, codes, Result, Ok, Err, string_bytes, if◌then◌else◌}
+use Rattle.std.specs.Prelude.{ℕ, ◌==◌, not, Bool, List, [], ◌++◌, codes, Result, Ok, Err, string_bytes, if◌then◌else◌}
 use Rattle.std.specs.Fmt.{decimal}
 use Rattle.trace_log.specs.declared.fault.CompareFault.{CompareFault}
 use Rattle.trace_log.specs.declared.fault.CompareFault.TheVariants.{Left, Right}
@@ -8,7 +8,7 @@ use Rattle.trace_log.specs.declared.fault.ConfigFault.TheVariants as config
 use Rattle.trace_log.specs.declared.fault.Fault.{Fault}
 use Rattle.trace_log.specs.declared.fault.Fault.TheVariants as fault
 use Rattle.trace_log.specs.declared.summary.Summary.{Summary}
-use Rattle.trace_log.specs.Summing.{is_clean}
+use Rattle.trace_log.specs.Summing.{is_clean, lacks_line_feed}
 use Rattle.udsnorm.specs.Ending.{has_unclean, is_unclean}
 use Rattle.udsnorm.specs.declared.pair_jobs.PairAnswer.{PairAnswer}
 use Rattle.udsnorm.specs.declared.job.WordsFault.{WordsFault}
@@ -51,10 +51,6 @@ words_text words.Memory = fault_line fault.Memory
 -- a clause of a line, where it is so
 abbrev pub clause : Bool → List ℕ → List ℕ
 clause holds text = if holds then text else []
-
--- the log has bytes, the last of which is no line feed; one without bytes has no lines
-abbrev pub lacks_line_feed : Summary → Bool
-lacks_line_feed summary = nat_lt 0 summary.lines && not summary.ends_in_line_feed
 
 -- the line of a log that is not clean: what was lost of its frames, and what it lacks
 abbrev pub unclean_line : Summary → List ℕ

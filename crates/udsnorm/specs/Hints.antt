@@ -7,7 +7,7 @@ use Rattle.clap.specs.Walk.{Text}
 use Rattle.trace_io.specs.declared.device.Target.{Ghosts as TargetGhosts}
 use Rattle.udsnorm.specs.Advice.{IsAdviceFor}
 use Rattle.udsnorm.specs.Commands.{words_or_normalise}
-use Rattle.trace_report.specs.Causes.{cause_text}
+use Rattle.trace_report.specs.Causes.{refusal_cause_text}
 use Rattle.udsnorm.specs.Names.{behind_command, named}
 use Rattle.udsnorm.specs.Telling.{TookText}
 use Rattle.udsnorm.specs.Words.{IsPlanned}
@@ -43,7 +43,7 @@ hint_line (matter.Exchanged tester unit) log =
     codes "hint: tester and unit look exchanged in " ++ named log ++ codes ": udsnorm list --tester " ++ identifier_text unit ++ codes " --unit "
     ++ identifier_text tester ++ behind_command log ++ codes "\n"
 hint_line matter.Empty log = codes "hint: " ++ named log ++ codes " is empty\n"
-hint_line (matter.Refused cause) log = codes "hint: " ++ cause_text cause (named log) ++ codes "\n"
+hint_line (matter.Refused cause) log = codes "hint: " ++ refusal_cause_text cause (named log) ++ codes "\n"
 hint_line (matter.Dropped count) log = codes "hint: dropped frames in " ++ named log ++ codes ": " ++ decimal count ++ codes "; udsnorm explain shows where\n"
 
 -- ---- what is told

@@ -7,8 +7,8 @@ use Rattle.trace_log.specs.declared.fault.Fault.{Fault}
 use Rattle.trace_log.specs.declared.fault.Fault.TheVariants.{BadLine, Oversize, LogLimit, OutputLimit, Read, Write, Memory}
 use Rattle.trace_log.specs.declared.summary.Summary.{Summary}
 use Rattle.trace_report.specs.Causes.{cause_of}
-use Rattle.trace_report.specs.declared.cause.Cause.{Cause}
-use Rattle.trace_run.specs.Told.{Glimpse}
+use Rattle.trace_report.specs.declared.cause.RefusalCause.{RefusalCause}
+use Rattle.trace_run.specs.Told.{GlimpseValue}
 use Rattle.udsnorm.specs.declared.commands.Job.{Job}
 use Rattle.udsnorm.specs.declared.commands.Job.TheVariants as job
 use Rattle.udsnorm.specs.declared.ended.Known.{Known}
@@ -25,7 +25,7 @@ abbrev pub knows : Which → Matter → Option Known
 knows which about = Some (record { which = which; matter = about })
 
 -- it is known why this log is refused, if anything is
-abbrev pub knows_cause : Which → Option Cause → Option Known
+abbrev pub knows_cause : Which → Option RefusalCause → Option Known
 knows_cause which None = None
 knows_cause which (Some cause) = knows which (matter.Refused cause)
 
@@ -34,7 +34,7 @@ abbrev pub front_of : List ℕ → List ℕ
 front_of given = take 16 given
 
 -- what is seen of a source that gave these bytes and was over or not
-abbrev pub seen_of : List ℕ → Bool → Glimpse
+abbrev pub seen_of : List ℕ → Bool → GlimpseValue
 seen_of given is_over = record { first = front_of given; is_over = is_over }
 
 -- what is known of this log by a fault, whose source gave these bytes and was over or not: the cause

@@ -15,7 +15,7 @@ use std::fs::OpenFile;
 use std::io::Read;
 use trace_io::{Source, Target};
 use trace_log::{CompareFault, Config, Fault, Summary};
-use trace_report::{Cause, cause_of};
+use trace_report::{RefusalCause, cause_of};
 use trace_run::Glimpse;
 
 /// What the words asked for, and how that ended.
@@ -82,7 +82,7 @@ pub enum Matter {
     /// Reading it failed.
     Unread,
     /// It is refused, and this is why.
-    Refused(Cause),
+    Refused(RefusalCause),
     /// No identifier in it answers another one.
     NoPair,
     /// It has no bytes.

@@ -2,7 +2,7 @@
 
 ghost use Rattle.std.specs.Prelude.{◌≡◌, ◌≤◌, ◌++◌, length};
 ghost use Rattle.std.specs.Fmt.{decimal};
-ghost use Rattle.udsnorm.specs.FaultLines.{config_line, fault_line, lacks_line_feed, side_line, unclean_line, unclean_side, words_text};
+ghost use Rattle.udsnorm.specs.FaultLines.{config_line, fault_line, side_line, unclean_line, unclean_side, words_text};
 
 use crate::job::WordsFault;
 use crate::text::{Line, line_of};
@@ -79,7 +79,7 @@ pub(crate) fn unclean_line(log: &'static str, summary: &Summary) -> Line
     let lacking = (
         When(summary.tester_frames == 0, ", no frame of the tester"),
         When(summary.unit_frames == 0, ", no frame of the unit"),
-        When(lacks_line_feed(summary), ", no line feed at the end"),
+        When(summary.lacks_line_feed(), ", no line feed at the end"),
         "\n",
     );
     line_of((log, (lost, lacking)))
@@ -103,13 +103,6 @@ pub(crate) fn unclean_side(log: &'static str, summary: &Summary) -> Line
     } else {
         unclean_line(log, summary)
     }
-}
-
-/// Whether the log has bytes, the last of which is no line feed.
-fn lacks_line_feed(summary: &Summary) -> bool
-    ensures { result ≡ lacks_line_feed summary.now }
-{
-    summary.lines > 0 && !summary.ends_in_line_feed
 }
 
 /// The text of words that ask for nothing: the parser's, which ends with a line feed, or a line.

@@ -22,7 +22,9 @@ use trace_canon::{Compared, Comparison, ComparisonStyle, compare, write_comparis
 use trace_difference::{Side, write_difference};
 use trace_io::{Source, Target};
 use trace_log::{CompareFault, Config, Fault, Summary};
-use trace_report::{Cause, PairTitle, Two, cause_of, keep_two, report_style, write_pair_page};
+use trace_report::{
+    PairTitle, RefusalCause, Two, cause_of, keep_two, report_style, write_pair_page,
+};
 use trace_run::Glimpse;
 use trace_text::Notation;
 use uds_difference::Difference;
@@ -302,7 +304,7 @@ fn cause_in<A: Source, B: Source>(
     most: u64,
     left: &A,
     right: &B,
-) -> Option<Cause>
+) -> Option<RefusalCause>
     ensures { result ≡ cause_in answer.now most (glimpse_of A.Source left.now) (glimpse_of B.Source right.now) }
 {
     match answer {
@@ -313,7 +315,7 @@ fn cause_in<A: Source, B: Source>(
 }
 
 /// The cause of a fault over a log with this limit, by what is seen of its source.
-fn cause_by<R: Source>(why: Fault, most: u64, source: &R) -> Option<Cause>
+fn cause_by<R: Source>(why: Fault, most: u64, source: &R) -> Option<RefusalCause>
     ensures { result ≡ Causes.cause_of why most (glimpse_of R.Source source.now) }
 {
     let seen = Glimpse {
@@ -329,7 +331,7 @@ fn write_page<W: Target>(
     right_name: &str,
     config: &Config,
     answer: &Result<Two, CompareFault>,
-    cause: Option<Cause>,
+    cause: Option<RefusalCause>,
     out: &mut W,
 ) -> bool
     requires { IsLowCount (W.failures out.old) }

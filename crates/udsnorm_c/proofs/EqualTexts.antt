@@ -8,7 +8,7 @@ use Rattle.trace_canon.specs.Compared.{difference}
 use Rattle.trace_canon.specs.InMemory.{ComparesWithCounts, IsCanonicalLogWith, IsRefused, NeedsMemoryForCanonicalLog}
 use Rattle.trace_canon.specs.declared.comparing.Comparison.{Comparison}
 use Rattle.trace_canon.specs.declared.comparing.Comparison.TheVariants.{Same, Different}
-use Rattle.trace_canon.specs.declared.counted.CountedComparison.{CountedComparison}
+use Rattle.trace_canon.specs.declared.in_memory.CountedComparison.{CountedComparison}
 use Rattle.trace_log.specs.Answers.{TellsOutcome}
 use Rattle.trace_log.specs.Laws.{HaveSameMeaning, IsMessageLimit, OutcomeIsOne}
 use Rattle.trace_log.specs.Messages.{HasMeaning}
@@ -89,7 +89,7 @@ no_number : (b : Bool) (n : ℕ) → (if b then n + 1 else 0xFFFFFFFFFFFFFFFF) �
 no_number true n zero = omega (arith, zero)
 no_number false n zero = omega (arith, zero)
 
-item_of_same : (comparison : Comparison) (one other : List ItemValue) → IsFirstDifference one other (difference comparison) → (first_item comparison ≡ 0) ↔ (one ≡ other)
+pub item_of_same : (comparison : Comparison) (one other : List ItemValue) → IsFirstDifference one other (difference comparison) → (first_item comparison ≡ 0) ↔ (one ≡ other)
 item_of_same Same one other same = (λ _. same, λ _. refl)
 item_of_same (Different place) one other differs = (
   λ zero. absurd (no_number (nat_lt place 0xFFFFFFFFFFFFFFFF) place zero),

@@ -1,24 +1,29 @@
 -- What is told of two logs: how they compare, whether both are clean, and whether the sides of one look exchanged.
-use Rattle.std.proofs.Common.{◌≡◌, ◌⊎◌, ℕ, Bool, true, List, Result, Ok, Err, refl, ap, sym, subst, ◌∙◌, inl, inr}
+use Rattle.std.proofs.Common.{◌≡◌, ◌⊎◌, ℕ, Bool, true, List, Option, Some, None, Result, Ok, Err, refl, ap, sym, subst, ◌∙◌, inl, inr}
 use Rattle.std.specs.Prelude.{◌&&◌, ◌||◌}
 use Rattle.std.proofs.lemmas.Bool.{and_parts}
 use Rattle.isotp_receive.specs.declared.TheConstants.{MESSAGE_LIMIT}
 use Rattle.trace_canon.specs.Compared.{Compares}
 use Rattle.trace_canon.specs.InMemory.{ComparesWithCounts}
+use Rattle.trace_canon.specs.Sessions.{IsAcceptedWith}
 use Rattle.trace_canon.specs.declared.comparing.Compared.{Compared}
 use Rattle.trace_canon.specs.declared.comparing.Comparison.{Comparison}
-use Rattle.trace_canon.specs.declared.counted.CountedComparison.{CountedComparison}
+use Rattle.trace_canon.specs.declared.in_memory.CountedComparison.{CountedComparison}
 use Rattle.trace_log.specs.Laws.{CleanLogHasBothSides}
 use Rattle.trace_log.specs.Settings.{Settings}
-use Rattle.trace_log.specs.Summing.{is_clean}
+use Rattle.trace_log.specs.Summing.{is_clean, summary_of}
+use Rattle.trace_log.specs.Trace.{trace}
 use Rattle.trace_log.specs.declared.fault.CompareFault.{CompareFault}
 use Rattle.trace_log.specs.declared.summary.Summary.{Summary}
 use Rattle.trace_report.specs.Held.{HoldsOne, HoldsTwo, TwoValue, comparison_in}
 use Rattle.trace_report.specs.Laws.{AgreesWithCompare}
-use Rattle.trace_report.specs.Session.{SessionValue}
+use Rattle.trace_report.specs.Session.{SessionValue, session_of}
+use Rattle.trace_text.specs.declared.notation.Notation.{Notation}
+use Rattle.uds_exchange.specs.Meaning.{ItemValue}
 use Rattle.udsnorm_c.specs.declared.answer.UdsnormAnswer.{UdsnormAnswer}
-use Rattle.udsnorm_c.specs.Answered.{CompareAnswers, PairPagePuts, ReportPairAnswers, comparison_answer, first_item, flag, refusal_of}
-use Rattle.udsnorm_c.specs.Laws.{CleanCompareIsRecorded, CleanReportPairIsRecorded, IsRecorded, PairPageAgreesWithCompare, settings_of}
+use Rattle.udsnorm_c.specs.Answered.{CompareAnswers, DiffAnswers, DifferencePuts, PairPagePuts, ReportPairAnswers, Styled, comparison_answer, first_item, flag, refusal_of, status_alone}
+use Rattle.udsnorm_c.specs.Laws.{CleanCompareIsRecorded, CleanDiffIsRecorded, CleanReportPairIsRecorded, DiffAgreesWithCompare, IsRecorded, PairPageAgreesWithCompare, settings_of}
+use Rattle.udsnorm_c.specs.Spelled.{notation_of}
 use Rattle.udsnorm_c.proofs.Recorded.{AreCountsOf, flag_set, of_accepted, one_count, recorded}
 use Rattle.udsnorm_c.proofs.Unput.{has_no_text, never_clean, never_put, of_no_page, of_refusal, of_side, so_has}
 
@@ -67,6 +72,36 @@ compared_told tester unit max_bytes left right answer (Ok settings, (is, are), (
     subst (λ (s : Settings). (has_no_text answer ≡ true) ⊎ ComparedSo s left right answer) is (compared_under settings left right answer result compares says)
 compared_told tester unit max_bytes left right answer (Err fault, configures, says) = inl (so_has answer (refusal_of fault) says (of_refusal fault))
 
+-- what is said where it is asked in some notation where two logs differ, if there is such a style
+difference_under : (settings : Settings) (left_name right_name left right old new : List ℕ) (answer : UdsnormAnswer) (found : Option Notation)
+    → Styled found (DifferencePuts MESSAGE_LIMIT left_name right_name left right old new answer settings) old new answer
+    → (has_no_text answer ≡ true) ⊎ ComparedSo settings left right answer
+difference_under settings left_name right_name left right old new answer None (same, says) = inl (so_has answer (status_alone 10) says refl)
+difference_under settings left_name right_name left right old new answer (Some notation) (Ok told, (compared, compares, spelled, counts), (front, says)) =
+    inr (
+      compared,
+      compares,
+      record {
+        one = told.counted.left;
+        other = told.counted.right;
+        of_left = subst (λ (c : CountedComparison). AreCountsOf settings left c.left) (sym counts) (of_accepted settings left compared.left.meaning compared.left.summary compares.0);
+        of_right = subst (λ (c : CountedComparison). AreCountsOf settings right c.right) (sym counts) (of_accepted settings right compared.right.meaning compared.right.summary compares.1);
+        item = ap (λ (a : UdsnormAnswer). a.item) says ∙ ap (λ (c : CountedComparison). first_item c.comparison) counts;
+        clean = ap (λ (a : UdsnormAnswer). a.clean) says;
+        exchanged = ap (λ (a : UdsnormAnswer). a.exchanged) says;
+      },
+    )
+difference_under settings left_name right_name left right old new answer (Some notation) (Err fault, none, (same, says)) = inl (so_has answer _ says (of_side fault))
+
+difference_told : (tester unit max_bytes style : ℕ) (left_name right_name left right old new : List ℕ) (answer : UdsnormAnswer)
+    → DiffAnswers MESSAGE_LIMIT tester unit max_bytes style left_name right_name left right old new answer
+    → (has_no_text answer ≡ true) ⊎ ComparedSo (settings_of tester unit max_bytes) left right answer
+difference_told tester unit max_bytes style left_name right_name left right old new answer (Ok settings, (is, are), puts) =
+    subst (λ (s : Settings). (has_no_text answer ≡ true) ⊎ ComparedSo s left right answer) is
+    (difference_under settings left_name right_name left right old new answer (notation_of style) puts)
+difference_told tester unit max_bytes style left_name right_name left right old new answer (Err fault, configures, (same, says)) =
+    inl (so_has answer (refusal_of fault) says (of_refusal fault))
+
 of_held : (settings : Settings) (log : List ℕ) (session : SessionValue) → HoldsOne MESSAGE_LIMIT settings log (Ok session) → AreCountsOf settings log session.summary
 of_held settings log session (meanings, read, is) = (meanings, read.1, ap (λ (s : SessionValue). s.summary) is)
 
@@ -112,6 +147,13 @@ clean_compare has_both_sides tester unit max_bytes left right answer answers cle
       | inr said ↦ both_recorded has_both_sides (settings_of tester unit max_bytes) left right said.0.comparison answer said.2 clean
     ]
 
+pub clean_diff : CleanLogHasBothSides → CleanDiffIsRecorded
+clean_diff has_both_sides tester unit max_bytes style left_name right_name left right old new answer answers clean =
+    elim (difference_told tester unit max_bytes style left_name right_name left right old new answer answers) [
+      | inl none ↦ absurd (never_clean answer none clean)
+      | inr said ↦ both_recorded has_both_sides (settings_of tester unit max_bytes) left right said.0.comparison answer said.2 clean
+    ]
+
 pub clean_report_pair : CleanLogHasBothSides → CleanReportPairIsRecorded
 clean_report_pair has_both_sides tester unit max_bytes left_name right_name left right old new answer answers clean =
     elim (held_told tester unit max_bytes left_name right_name left right old new answer answers) [
@@ -143,5 +185,35 @@ pair_page_agrees agrees tester unit max_bytes left_name right_name left right ol
         | inl none ↦ absurd (never_put compared none (inl done))
         | inr found ↦ say_the_same settings left right (comparison_in held.0) found.0.comparison page compared
             (agrees settings left right held.0 found.0 held.1 found.1) held.2 found.2
+      ]
+    ]
+
+-- ---- so does the text of where they differ
+
+-- an accepted log can be held
+held_log : (settings : Settings) (log : List ℕ) (items : List ItemValue) (summary : Summary) → IsAcceptedWith MESSAGE_LIMIT settings log items summary
+    → (session : SessionValue) × HoldsOne MESSAGE_LIMIT settings log (Ok session)
+held_log settings log items summary is =
+    let meanings = is.outcome.0 in
+    (session_of MESSAGE_LIMIT (trace settings meanings) (summary_of MESSAGE_LIMIT settings log meanings), (meanings, (is.outcome.1.short, is.outcome.1.means), refl))
+
+-- two logs compare in one way, which is that of what is held of them
+one_comparison : AgreesWithCompare → (settings : Settings) (left right : List ℕ) (one other : Compared) → Compares MESSAGE_LIMIT settings left right (Ok one)
+    → Compares MESSAGE_LIMIT settings left right (Ok other) → one.comparison ≡ other.comparison
+one_comparison agrees settings left right one other is too =
+    let of_left = held_log settings left one.left.meaning one.left.summary is.0 in
+    let of_right = held_log settings right one.right.meaning one.right.summary is.1 in
+    let held : TwoValue = record { left = of_left.0; right = of_right.0 } in
+    sym (agrees settings left right held one (of_left.1, of_right.1) is) ∙ agrees settings left right held other (of_left.1, of_right.1) too
+
+pub diff_agrees : AgreesWithCompare → DiffAgreesWithCompare
+diff_agrees agrees tester unit max_bytes style left_name right_name left right old new told compared puts put answers done =
+    let settings = settings_of tester unit max_bytes in
+    elim (difference_told tester unit max_bytes style left_name right_name left right old new told puts) [
+      | inl none ↦ absurd (never_put told none put)
+      | inr said ↦ elim (compared_told tester unit max_bytes left right compared answers) [
+        | inl none ↦ absurd (never_put compared none (inl done))
+        | inr found ↦ say_the_same settings left right said.0.comparison found.0.comparison told compared
+            (one_comparison agrees settings left right said.0 found.0 said.1 found.1) said.2 found.2
       ]
     ]

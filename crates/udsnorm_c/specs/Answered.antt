@@ -2,8 +2,8 @@
 use Rattle.std.specs.Prelude.{◌≡◌, ℕ, ◌+◌, ◌&&◌, ◌||◌, Bool, true, false, List, length, nat_le, nat_lt, Option, Some, None, Result, Ok, Err, MatchResult, if◌then◌else◌}
 use Rattle.trace_canon.specs.declared.comparing.Comparison.{Comparison}
 use Rattle.trace_canon.specs.declared.comparing.Comparison.TheVariants.{Same, Different}
-use Rattle.trace_canon.specs.declared.counted.CountedComparison.{CountedComparison}
-use Rattle.trace_canon.specs.declared.counted.CountedText.{CountedText}
+use Rattle.trace_canon.specs.declared.in_memory.CountedComparison.{CountedComparison}
+use Rattle.trace_canon.specs.declared.in_memory.CountedText.{CountedText}
 use Rattle.trace_log.specs.declared.fault.CompareFault.{CompareFault}
 use Rattle.trace_log.specs.declared.fault.CompareFault.TheVariants.{Left, Right}
 use Rattle.trace_log.specs.declared.fault.Fault.{Fault}
@@ -12,6 +12,8 @@ use Rattle.trace_log.specs.declared.fault.ConfigFault.{ConfigFault}
 use Rattle.trace_log.specs.declared.fault.ConfigFault.TheVariants.{IdRange, SameId, LimitRange}
 use Rattle.trace_log.specs.declared.summary.Summary.{Summary}
 use Rattle.trace_canon.specs.InMemory.{IsCanonicalLogWith, IsListWith, IsPlacingWith, IsExplanationWith, IsFindingWith, IsRefused, IsUnread, NeedsMemoryForCanonicalLog, NeedsMemoryForList, NeedsMemoryForPlacing, NeedsMemoryForExplanation, NeedsMemoryForFinding, ComparesWithCounts}
+use Rattle.trace_difference.specs.InMemory.{HasNoDifferenceText, IsDifferenceWith}
+use Rattle.trace_difference.specs.declared.in_memory.CountedDifference.{CountedDifference}
 use Rattle.trace_log.specs.Settings.{Settings, Configures}
 use Rattle.trace_log.specs.Summing.{is_clean}
 use Rattle.trace_report.specs.Front.{page_title}
@@ -20,6 +22,7 @@ use Rattle.trace_report.specs.PairPage.{pair_title}
 use Rattle.trace_report.specs.declared.in_memory.CountedPage.{CountedPage}
 use Rattle.trace_report.specs.declared.in_memory.NoPairPage.{NoPairPage}
 use Rattle.trace_report.specs.declared.in_memory.NoPairPage.TheVariants.{OfLog, OfMemory}
+use Rattle.trace_text.specs.declared.notation.Notation.{Notation}
 use Rattle.udsnorm_c.specs.declared.answer.UdsnormAnswer.{UdsnormAnswer}
 use Rattle.udsnorm_c.specs.Spelled.{identifier_of, list_style, notation_of, put_at_front}
 
@@ -117,7 +120,7 @@ abbrev pub comparison_answer : Result CountedComparison CompareFault → Udsnorm
 comparison_answer (Ok counted) = counted_answer counted
 comparison_answer (Err fault) = side_answer fault
 
--- the answer of a page of this length about two logs that compare so, where the buffer has this many bytes
+-- the answer of a text of this length about two logs that compare so, where the buffer has this many bytes
 abbrev pub pair_answer : ℕ → CountedComparison → ℕ → UdsnormAnswer
 pair_answer count counted room = record (counted_answer counted) { status = text_status count room; length = count }
 
@@ -138,6 +141,12 @@ abbrev pub IsPagePut : Result CountedPage NoPairPage → List ℕ → List ℕ �
 IsPagePut (Ok page) old new answer =
     (new ≡ put_at_front page.text.items old) × (answer ≡ pair_answer (length page.text.items) page.counted (length old))
 IsPagePut (Err why) old new answer = (new ≡ old) × (answer ≡ no_pair_answer why)
+
+-- So is the text of where two logs differ.
+abbrev pub IsDifferencePut : Result CountedDifference CompareFault → List ℕ → List ℕ → UdsnormAnswer → Type 0
+IsDifferencePut (Ok told) old new answer =
+    (new ≡ put_at_front told.text.items old) × (answer ≡ pair_answer (length told.text.items) told.counted (length old))
+IsDifferencePut (Err fault) old new answer = (new ≡ old) × (answer ≡ side_answer fault)
 
 -- A text and counts of which this holds are put, or a fault of which that holds.
 abbrev pub TextAnswers : (List ℕ → Summary → Type 0) → (Fault → Type 0) → List ℕ → List ℕ → UdsnormAnswer → Type 0
@@ -192,6 +201,24 @@ abbrev pub CompareAnswers : ℕ → ℕ → ℕ → ℕ → List ℕ → List �
 CompareAnswers limit tester unit max_bytes left right answer = UnderSettings tester unit max_bytes
     (λ settings. (compared : Result CountedComparison CompareFault) × ComparesWithCounts limit settings left right compared × (answer ≡ comparison_answer compared))
     (λ fault. answer ≡ refusal_of fault)
+
+-- with these settings the text of where two accepted logs differ, in this notation and with these names, and how they compare;
+-- or why there is none
+abbrev pub DifferencePuts : ℕ → List ℕ → List ℕ → List ℕ → List ℕ → List ℕ → List ℕ → UdsnormAnswer → Settings → Notation → Type 0
+DifferencePuts limit left_name right_name left right old new answer settings notation =
+    (told : Result CountedDifference CompareFault)
+    × MatchResult told (λ found. IsDifferenceWith notation left_name right_name limit settings left right found.text.items found.counted) (HasNoDifferenceText limit settings left right)
+    × IsDifferencePut told old new answer
+
+-- the same in a style that is named by a number, or that there is no such style
+abbrev pub StyledDifferencePuts : ℕ → ℕ → List ℕ → List ℕ → List ℕ → List ℕ → List ℕ → List ℕ → UdsnormAnswer → Settings → Type 0
+StyledDifferencePuts limit style left_name right_name left right old new answer settings =
+    Styled (notation_of style) (DifferencePuts limit left_name right_name left right old new answer settings) old new answer
+
+-- such a text, or why there is none
+abbrev pub DiffAnswers : ℕ → ℕ → ℕ → ℕ → ℕ → List ℕ → List ℕ → List ℕ → List ℕ → List ℕ → List ℕ → UdsnormAnswer → Type 0
+DiffAnswers limit tester unit max_bytes style left_name right_name left right old new answer =
+    UnderSettings tester unit max_bytes (StyledDifferencePuts limit style left_name right_name left right old new answer) (AnswersRefusal old new answer)
 
 -- with these settings the page of a log that can be read, in some style and with this name, or why it can't be
 abbrev pub PagePuts : ℕ → List ℕ → List ℕ → List ℕ → List ℕ → UdsnormAnswer → Settings → Type 0

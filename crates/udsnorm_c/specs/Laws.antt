@@ -7,7 +7,7 @@ use Rattle.trace_log.specs.Settings.{Settings}
 use Rattle.trace_log.specs.Summing.{frames_of}
 use Rattle.trace_log.specs.Trace.{trace}
 use Rattle.udsnorm_c.specs.declared.answer.UdsnormAnswer.{UdsnormAnswer}
-use Rattle.udsnorm_c.specs.Answered.{CompareAnswers, NormaliseAnswers, ListAnswers, MessagesAnswers, ExplainAnswers}
+use Rattle.udsnorm_c.specs.Answered.{CompareAnswers, DiffAnswers, NormaliseAnswers, ListAnswers, MessagesAnswers, ExplainAnswers}
 use Rattle.udsnorm_c.specs.Answered.{ReportAnswers, ReportPairAnswers}
 use Rattle.udsnorm_c.specs.Spelled.{identifier_of, words_for_c}
 
@@ -78,6 +78,14 @@ CleanCompareIsRecorded = (tester unit max_bytes : ℕ) (left right : List ℕ) (
     → CompareAnswers MESSAGE_LIMIT tester unit max_bytes left right answer → answer.clean ≡ 1
     → IsRecorded (settings_of tester unit max_bytes) left × IsRecorded (settings_of tester unit max_bytes) right
 
+-- where it is asked where they differ
+abbrev pub CleanDiffIsRecorded : Type 0
+CleanDiffIsRecorded = (tester unit max_bytes style : ℕ) (left_name right_name left right old new : List ℕ)
+    (answer : UdsnormAnswer)
+    → DiffAnswers MESSAGE_LIMIT tester unit max_bytes style left_name right_name left right old new answer
+    → answer.clean ≡ 1
+    → IsRecorded (settings_of tester unit max_bytes) left × IsRecorded (settings_of tester unit max_bytes) right
+
 -- and where their page is asked for
 abbrev pub CleanReportPairIsRecorded : Type 0
 CleanReportPairIsRecorded = (tester unit max_bytes : ℕ) (left_name right_name left right old new : List ℕ)
@@ -96,6 +104,22 @@ PairPageAgreesWithCompare = (tester unit max_bytes : ℕ) (left_name right_name 
     → (page.status ≡ 0) ⊎ (page.status ≡ 9)
     → CompareAnswers MESSAGE_LIMIT tester unit max_bytes left right compared → compared.status ≡ 0
     → (page.item ≡ compared.item) × (page.clean ≡ compared.clean) × (page.exchanged ≡ compared.exchanged)
+
+-- and so it is of the text of where two logs differ
+abbrev pub DiffAgreesWithCompare : Type 0
+DiffAgreesWithCompare = (tester unit max_bytes style : ℕ) (left_name right_name left right old new : List ℕ)
+    (told compared : UdsnormAnswer)
+    → DiffAnswers MESSAGE_LIMIT tester unit max_bytes style left_name right_name left right old new told
+    → (told.status ≡ 0) ⊎ (told.status ≡ 9)
+    → CompareAnswers MESSAGE_LIMIT tester unit max_bytes left right compared → compared.status ≡ 0
+    → (told.item ≡ compared.item) × (told.clean ≡ compared.clean) × (told.exchanged ≡ compared.exchanged)
+
+-- in words, what is told of where two logs differ has no byte exactly where no item differs, whether there was room for it or
+-- not
+abbrev pub DiffIsEmptyOfEqualLogs : Type 0
+DiffIsEmptyOfEqualLogs = (tester unit max_bytes : ℕ) (left_name right_name left right old new : List ℕ) (answer : UdsnormAnswer)
+    → DiffAnswers MESSAGE_LIMIT tester unit max_bytes 0 left_name right_name left right old new answer
+    → (answer.status ≡ 0) ⊎ (answer.status ≡ 9) → (answer.item ≡ 0) ↔ (answer.length ≡ 0)
 
 -- two numbers have the same words exactly where they are the same, or neither is a status
 abbrev pub StatusesAreToldApart : Type 0

@@ -4,7 +4,7 @@ ghost use Rattle.udsnorm_c.specs.Answered as Spec;
 ghost use Rattle.udsnorm_c.specs.Spelled.{status_words};
 
 use trace_canon::Comparison;
-use trace_canon::counted::CountedComparison;
+use trace_canon::in_memory::CountedComparison;
 use trace_log::{CompareFault, ConfigFault, Fault, Summary};
 use trace_report::in_memory::NoPairPage;
 
@@ -212,7 +212,7 @@ fn counted_answer(counted: CountedComparison) -> UdsnormAnswer
 }
 
 /// Whose log can't be compared, and why.
-fn side_answer(fault: CompareFault) -> UdsnormAnswer
+pub(crate) fn side_answer(fault: CompareFault) -> UdsnormAnswer
     ensures { result ≡ Spec.side_answer fault }
 {
     match fault {
@@ -227,7 +227,7 @@ fn side_answer(fault: CompareFault) -> UdsnormAnswer
     }
 }
 
-/// The answer of a page of this length about two logs that compare so, where the buffer has this many bytes.
+/// The answer of a text of this length about two logs that compare so, where the buffer has this many bytes.
 pub(crate) fn pair_answer(length: usize, counted: CountedComparison, room: usize) -> UdsnormAnswer
     ensures { result ≡ Spec.pair_answer length counted room }
 {

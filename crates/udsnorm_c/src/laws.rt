@@ -1,8 +1,8 @@
 //! What holds of the answers of several calls, and of words. A law is its contract; a call does nothing. A law of a lower
 //! crate that a proof needs is called.
 
-ghost use Rattle.udsnorm_c.specs.Laws.{CleanCompareIsRecorded, CleanExplainIsRecorded, CleanListIsRecorded, CleanMessagesAreRecorded, CleanNormaliseIsRecorded, CleanReportIsRecorded, CleanReportPairIsRecorded};
-ghost use Rattle.udsnorm_c.specs.Laws.{CompareTellsEqualTexts, EqualMeaningsHaveEqualTexts, PairPageAgreesWithCompare, StatusesAreToldApart};
+ghost use Rattle.udsnorm_c.specs.Laws.{CleanCompareIsRecorded, CleanDiffIsRecorded, CleanExplainIsRecorded, CleanListIsRecorded, CleanMessagesAreRecorded, CleanNormaliseIsRecorded, CleanReportIsRecorded, CleanReportPairIsRecorded};
+ghost use Rattle.udsnorm_c.specs.Laws.{CompareTellsEqualTexts, DiffAgreesWithCompare, DiffIsEmptyOfEqualLogs, EqualMeaningsHaveEqualTexts, PairPageAgreesWithCompare, StatusesAreToldApart};
 
 use trace_log::laws::{clean_log_has_both_sides, outcome_is_one};
 use trace_report::laws::agrees_with_compare;
@@ -24,6 +24,7 @@ pub fn clean_answer_is_recording()
     ensures explain { CleanExplainIsRecorded }
     ensures report { CleanReportIsRecorded }
     ensures compare { CleanCompareIsRecorded }
+    ensures diff { CleanDiffIsRecorded }
     ensures report_pair { CleanReportPairIsRecorded }
 {
     clean_log_has_both_sides();
@@ -35,6 +36,18 @@ pub fn pair_page_agrees_with_compare()
 {
     agrees_with_compare();
 }
+
+/// So does the answer of the text of where they differ.
+pub fn diff_agrees_with_compare()
+    ensures { DiffAgreesWithCompare }
+{
+    agrees_with_compare();
+}
+
+/// In words, the text of where two logs differ has no byte exactly where none of their items does.
+pub fn diff_is_empty_of_equal_logs()
+    ensures { DiffIsEmptyOfEqualLogs }
+{}
 
 /// Each status has words of its own, and no other number has them.
 pub fn statuses_are_told_apart()

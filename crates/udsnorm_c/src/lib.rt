@@ -10,22 +10,24 @@
 
 ghost use Rattle.std.specs.Prelude.{◌≡◌, slice_index_or};
 ghost use Rattle.isotp_receive.specs.declared.TheConstants.{MESSAGE_LIMIT};
-ghost use Rattle.udsnorm_c.specs.Answered.{CompareAnswers, ExplainAnswers, FindAnswers, ListAnswers, MessagesAnswers, NormaliseAnswers, ReportAnswers, ReportPairAnswers};
+ghost use Rattle.udsnorm_c.specs.Answered.{CompareAnswers, DiffAnswers, ExplainAnswers, FindAnswers, ListAnswers, MessagesAnswers, NormaliseAnswers, ReportAnswers, ReportPairAnswers};
 ghost use Rattle.udsnorm_c.specs.Spelled.{version, words_for_c};
 
 mod answer;
+mod differences;
 pub mod laws;
 mod pages;
 mod room;
 mod sides;
 
 use crate::answer::{WORDS, comparison_answer, no_style, refusal_of, status_words};
+use crate::differences::put_pair_difference;
 use crate::pages::{put_pair_report, put_report};
 use crate::room::{put, put_front};
 use crate::sides::{USUAL_TESTER, USUAL_UNIT, config_of, notation_of, style_of};
 pub use answer::{UdsnormAnswer, UdsnormWords};
 use std::alloc::Global;
-use trace_canon::counted;
+use trace_canon::in_memory;
 
 /// The numbers of the version, a byte for each: that of `VERSION` at the top.
 const VERSION: u32 = 0x01_00_00;
@@ -45,7 +47,7 @@ pub extern "C" fn udsnorm_normalise(
     ensures status { result ≡ answer.new.status }
 {
     *answer = match config_of(tester, unit, limit) {
-        Ok(config) => put(counted::canonical_log(alloc, &config, log), out),
+        Ok(config) => put(in_memory::canonical_log(alloc, &config, log), out),
         Err(fault) => refusal_of(fault),
     };
     answer.status
@@ -68,7 +70,7 @@ pub extern "C" fn udsnorm_list(
 {
     *answer = match config_of(tester, unit, limit) {
         Ok(config) => match style_of(style) {
-            Some(style) => put(counted::item_list(alloc, &config, style, log), out),
+            Some(style) => put(in_memory::item_list(alloc, &config, style, log), out),
             None => no_style(),
         },
         Err(fault) => refusal_of(fault),
@@ -93,7 +95,7 @@ pub extern "C" fn udsnorm_messages(
 {
     *answer = match config_of(tester, unit, limit) {
         Ok(config) => match notation_of(style) {
-            Some(notation) => put(counted::message_lines(alloc, &config, notation, log), out),
+            Some(notation) => put(in_memory::message_lines(alloc, &config, notation, log), out),
             None => no_style(),
         },
         Err(fault) => refusal_of(fault),
@@ -118,7 +120,7 @@ pub extern "C" fn udsnorm_explain(
 {
     *answer = match config_of(tester, unit, limit) {
         Ok(config) => match notation_of(style) {
-            Some(notation) => put(counted::explanation(alloc, &config, notation, log), out),
+            Some(notation) => put(in_memory::explanation(alloc, &config, notation, log), out),
             None => no_style(),
         },
         Err(fault) => refusal_of(fault),
@@ -141,7 +143,7 @@ pub extern "C" fn udsnorm_find(
 {
     *answer = match config_of(USUAL_TESTER, USUAL_UNIT, limit) {
         Ok(config) => match notation_of(style) {
-            Some(notation) => put(counted::pair_lines(alloc, &config, notation, log), out),
+            Some(notation) => put(in_memory::pair_lines(alloc, &config, notation, log), out),
             None => no_style(),
         },
         Err(fault) => refusal_of(fault),
@@ -164,7 +166,34 @@ pub extern "C" fn udsnorm_compare(
     ensures status { result ≡ answer.new.status }
 {
     *answer = match config_of(tester, unit, limit) {
-        Ok(config) => comparison_answer(counted::comparison(alloc, &config, left, right)),
+        Ok(config) => comparison_answer(in_memory::comparison(alloc, &config, left, right)),
+        Err(fault) => refusal_of(fault),
+    };
+    answer.status
+}
+
+/// Where two logs differ, which have these names there, in this style, and what they are to each other.
+#[unsafe(no_mangle)]
+pub extern "C" fn udsnorm_diff(
+    alloc: Global,
+    tester: u32,
+    unit: u32,
+    limit: u64,
+    style: u32,
+    left_name: &[u8],
+    left: &[u8],
+    right_name: &[u8],
+    right: &[u8],
+    out: &mut [u8],
+    answer: &mut UdsnormAnswer,
+) -> u32
+    ensures answers { DiffAnswers MESSAGE_LIMIT tester unit limit style left_name.now right_name.now left.now right.now out.old out.new answer.new }
+    ensures status { result ≡ answer.new.status }
+{
+    *answer = match config_of(tester, unit, limit) {
+        Ok(config) => put_pair_difference(
+            alloc, &config, style, left_name, left, right_name, right, out,
+        ),
         Err(fault) => refusal_of(fault),
     };
     answer.status

@@ -1,11 +1,14 @@
 //! Memory of the caller, into which a text is put.
 ghost use Rattle.std.specs.Prelude.{◌≡◌};
-ghost use Rattle.udsnorm_c.specs.Answered.{IsPagePut, IsPut};
+ghost use Rattle.udsnorm_c.specs.Answered.{IsDifferencePut, IsPagePut, IsPut};
 ghost use Rattle.udsnorm_c.specs.Spelled.{put_at_front};
 
-use crate::answer::{UdsnormAnswer, fault_answer, no_pair_answer, pair_answer, text_answer};
-use trace_canon::counted::CountedText;
-use trace_log::Fault;
+use crate::answer::{
+    UdsnormAnswer, fault_answer, no_pair_answer, pair_answer, side_answer, text_answer,
+};
+use trace_canon::in_memory::CountedText;
+use trace_difference::in_memory::CountedDifference;
+use trace_log::{CompareFault, Fault};
 use trace_report::in_memory::{CountedPage, NoPairPage};
 
 /// Puts what was told of a log at the front of a buffer, where it has room, and answers what is known of it.
@@ -31,6 +34,22 @@ pub(crate) fn put_page(told: Result<CountedPage, NoPairPage>, out: &mut [u8]) ->
             pair_answer(text.len(), counted, out.len())
         }
         Err(why) => no_pair_answer(why),
+    }
+}
+
+/// Puts the text of where two logs differ there, and answers how they compare.
+pub(crate) fn put_difference(
+    told: Result<CountedDifference, CompareFault>,
+    out: &mut [u8],
+) -> UdsnormAnswer
+    ensures { IsDifferencePut told out.old out.new result }
+{
+    match told {
+        Ok(CountedDifference { text, counted }) => {
+            put_front(text.as_slice(), out);
+            pair_answer(text.len(), counted, out.len())
+        }
+        Err(fault) => side_answer(fault),
     }
 }
 

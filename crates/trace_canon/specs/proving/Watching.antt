@@ -4,9 +4,9 @@ use Rattle.direction.specs.Dir.{Message}
 use Rattle.isotp_receive.specs.declared.TheConstants.{MESSAGE_LIMIT}
 use Rattle.isotp_receive.specs.Trace.{Entry}
 use Rattle.isotp_receive.specs.Verdict.{messages}
-use Rattle.uds_exchange.specs.Decider.{DeciderValue, decides_after, AreDecidedBy}
+use Rattle.uds_exchange.specs.Decider.{DeciderValue, decider_after, AreDecidedBy}
 use Rattle.uds_exchange.specs.Meaning.{ItemValue}
-use Rattle.trace_text.specs.ListText.{list_text_from}
+use Rattle.trace_text.specs.ItemLines.{list_text_from}
 use Rattle.trace_canon.specs.WatchScript.{decided_of}
 use Rattle.trace_text.specs.declared.item_style.ItemStyle.{ItemStyle}
 
@@ -22,7 +22,7 @@ SaysDecided says style M message number out number_now out_now =
 
 -- This is what a machine that watches keeps of the frames T.
 pub record WatchesItems (style : ItemStyle) (T : List Entry) (decider : DeciderValue) (kept : ItemStyle) (number : ℕ) : Type 0 where
-  pub decides : decider ≡ decides_after (messages MESSAGE_LIMIT T)
+  pub decides : decider ≡ decider_after (messages MESSAGE_LIMIT T)
   pub same : kept ≡ style
   pub numbered : number ≡ 1 + length (decided_of T)
   pub few : length T ≤ 2 ^ 62

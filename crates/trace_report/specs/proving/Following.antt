@@ -7,13 +7,14 @@ use Rattle.isotp_receive.specs.declared.TheConstants.{MESSAGE_LIMIT}
 use Rattle.isotp_receive.specs.StandingReception.{StandingReception, stands}
 use Rattle.isotp_receive.specs.Trace.{Entry, same_direction}
 use Rattle.isotp_receive.specs.Verdict.{EventValue, VerdictValue, message, began, stored, flowed, dropped, messages}
-use Rattle.uds_exchange.specs.Judging.{one_more, step_after, waiting_number}
+use Rattle.uds_exchange.specs.Judging.{one_more, step_after}
+use Rattle.uds_exchange.specs.proving.ItemNumbers.{open_number_if_any}
 use Rattle.uds_exchange.specs.Order.{open_request}
 use Rattle.uds_message.specs.Message.{is_suppressing}
-use Rattle.trace_canon.specs.declared.begun.FramePlace.{FramePlace}
-use Rattle.trace_canon.specs.proving.Begun.{IsBegunAt}
+use Rattle.trace_canon.specs.declared.reception_starts.FramePlace.{FramePlace}
+use Rattle.trace_canon.specs.proving.ReceptionStarts.{IsBegunAt}
 use Rattle.trace_report.specs.Blocks.{blocks_of}
-use Rattle.trace_report.specs.Events.{asked_in, is_request_step, is_there, rows_of}
+use Rattle.trace_report.specs.Events.{asked_in, is_request_step, ends_nothing, rows_of}
 use Rattle.trace_report.specs.Front.{PageTitle}
 use Rattle.trace_report.specs.Page.{last_time}
 use Rattle.trace_report.specs.Rows.{RowValue}
@@ -25,7 +26,7 @@ use Rattle.trace_report.specs.declared.follower.NewRows.{NewRows}
 use Rattle.trace_report.specs.declared.frames.FrameCounts.{FrameCounts}
 use Rattle.trace_report.specs.declared.places.Places.{Places}
 use Rattle.trace_report.specs.declared.reporter.Reporter.{Reporter}
-use Rattle.trace_report.specs.declared.span.Span.{Span}
+use Rattle.trace_report.specs.declared.times.Times.{Times}
 use Rattle.trace_report.specs.declared.row.Row.{Row}
 use Rattle.trace_report.specs.proving.Pages.{row_of, title_of}
 
@@ -69,7 +70,7 @@ IsSilent M silent = IfSome (open_request M) (λ (request : List ℕ). silent ≡
 
 -- the number of the exchange that waits after these messages, if one does
 abbrev pub IsWaiting : List Message → Option ℕ → Type 0
-IsWaiting M waits = waits ≡ waiting_number M
+IsWaiting M waits = waits ≡ open_number_if_any M
 
 -- This is known after these messages: which exchange waits, when the last request was complete, and how it asked.
 pub record KnowsMessages (M : List Message) (asked : ℕ) (follower : Follower) : Type 0 where
@@ -98,15 +99,15 @@ rows_in rows = row_if rows.first ++ row_if rows.second ++ row_if rows.third
 
 -- the row of a frame here of which this became
 abbrev pub dropped_by : FramePlace → Dir → Bool → VerdictValue → List RowValue
-dropped_by here d named (message bytes) = []
-dropped_by here d named began = []
-dropped_by here d named stored = []
-dropped_by here d named flowed = []
-dropped_by here d named (dropped reason) = row.dropped here d named reason ∷ []
+dropped_by here d linked (message bytes) = []
+dropped_by here d linked began = []
+dropped_by here d linked stored = []
+dropped_by here d linked flowed = []
+dropped_by here d linked (dropped reason) = row.dropped here d linked reason ∷ []
 
 -- the row of a frame here, if it was dropped
 abbrev pub dropped_rows : FramePlace → Dir → EventValue → List RowValue
-dropped_rows here d event = dropped_by here d (is_there event.ended) event.verdict
+dropped_rows here d event = dropped_by here d (ends_nothing event.ended) event.verdict
 
 -- the row of a reception that stands at the end, if one does
 abbrev pub unfinished_if : Dir → Option (ℕ × ℕ) → List RowValue
@@ -119,7 +120,7 @@ pub record IsChartOf (rows : List RowValue) (chart : Chart) : Type 0 where
   pub tally : chart.tally ≡ tally_of rows
 
 -- the times of the first frame and the last one, if there are frames
-abbrev pub times_of : List Entry → Option Span
+abbrev pub times_of : List Entry → Option Times
 times_of [] = None
 times_of (e ∷ rest) = Some (record { first = e.micros; last = last_time e.micros rest })
 
@@ -127,6 +128,6 @@ times_of (e ∷ rest) = Some (record { first = e.micros; last = last_time e.micr
 pub record Reports (title : PageTitle) (T : List Entry) (reporter : Reporter) : Type 0 where
   pub few : length T ≤ 2 ^ 62
   pub same : title_of reporter.title ≡ title
-  pub span : reporter.span ≡ times_of T
+  pub times : reporter.times ≡ times_of T
   pub follows : Follows T reporter.follower
   pub chart : IsChartOf (rows_of MESSAGE_LIMIT T) reporter.chart

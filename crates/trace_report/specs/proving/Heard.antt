@@ -12,12 +12,12 @@ use Rattle.trace_report.specs.proving.Following.{Follows, rows_in, times_of}
 
 -- nothing is said
 abbrev pub quiet_script : Script
-quiet_script = record { strict = false; word = λ T e. []; last = λ T summary. []; refused = λ T summary why. [] }
+quiet_script = record { strict = false; word = λ T e. []; last = λ T summary. [] }
 
 -- the rows of the frames T are kept
 pub record Keeps (T : List Entry) (keeper : Keeper) : Type 0 where
   pub few : length T ≤ 2 ^ 62
-  pub span : keeper.span ≡ times_of T
+  pub times : keeper.times ≡ times_of T
   pub follows : Follows T keeper.follower
   pub rows : keeper.rows ≡ rows_of MESSAGE_LIMIT T
 
@@ -26,7 +26,7 @@ pub record IsHeardOf (T : List Entry) (summary : Summary) (heard : Heard) : Type
   pub rows : heard.rows ≡ rows_of MESSAGE_LIMIT T
   pub last : rows_in heard.last ≡ end_rows MESSAGE_LIMIT T
   pub counted : heard.summary ≡ summary
-  pub span : heard.span ≡ times_of T
+  pub times : heard.times ≡ times_of T
 
 -- that is answered
 abbrev pub answers_heard : Answering Heard

@@ -5,7 +5,7 @@ use Rattle.trace_report.specs.Items.{RowMessage, PlacedItem, items_in, message_i
 use Rattle.trace_report.specs.Rows.{RowValue, message, no_answer, dropped, ended, unfinished}
 use Rattle.trace_report.specs.Sorts.{counts_in}
 use Rattle.trace_report.specs.declared.counts.SortCounts.{SortCounts}
-use Rattle.trace_report.specs.declared.kept_rows.KeptItem.{KeptItem}
+use Rattle.trace_report.specs.declared.item_places.ItemPlace.{ItemPlace}
 use Rattle.trace_report.specs.declared.kept_rows.KeptRow.{KeptRow}
 use Rattle.trace_report.specs.declared.kept_rows.KeptRow.TheVariants as kept
 use Rattle.trace_report.specs.declared.row.MessageRole.{MessageRole}
@@ -17,7 +17,7 @@ use Rattle.trace_report.specs.declared.row.MessageRole.TheVariants as role
 abbrev pub row_at : List (List ℕ) → KeptRow → RowValue
 row_at blocks (kept.Message sent) = message sent.role sent.dir sent.place (bytes_at blocks sent.bytes)
 row_at blocks (kept.NoAnswer number silent) = no_answer number silent
-row_at blocks (kept.Dropped place d named why) = dropped place d named why
+row_at blocks (kept.Dropped place d linked why) = dropped place d linked why
 row_at blocks (kept.Ended place end) = ended place end
 row_at blocks (kept.Unfinished d line len) = unfinished d line len
 
@@ -29,7 +29,7 @@ rows_at blocks rows = map (row_at blocks) rows
 abbrev pub IsLaid : List (List ℕ) → KeptRow → Type 0
 IsLaid blocks (kept.Message sent) = IsInside blocks sent.bytes
 IsLaid blocks (kept.NoAnswer number silent) = ⊤
-IsLaid blocks (kept.Dropped place d named why) = ⊤
+IsLaid blocks (kept.Dropped place d linked why) = ⊤
 IsLaid blocks (kept.Ended place end) = ⊤
 IsLaid blocks (kept.Unfinished d line len) = ⊤
 
@@ -60,7 +60,7 @@ part_by role.Stray sent = begins sent
 abbrev pub part_of : RowValue → RowPart
 part_of (message is d place bytes) = part_by is (record { role = is; dir = d; place = place; bytes = bytes })
 part_of (no_answer number silent) = nothing
-part_of (dropped place d named why) = nothing
+part_of (dropped place d linked why) = nothing
 part_of (ended place end) = nothing
 part_of (unfinished d line len) = nothing
 
@@ -119,18 +119,18 @@ item_if rows None answer = None
 item_if rows (Some begin) answer = item_with rows begin answer
 
 -- the item that stands there
-abbrev pub placed_at : List RowValue → KeptItem → Option PlacedItem
+abbrev pub placed_at : List RowValue → ItemPlace → Option PlacedItem
 placed_at rows item = item_if rows (message_at rows item.begin) item.answer
 
 -- these items stand in these places
-abbrev pub ArePlaced : List RowValue → List KeptItem → List PlacedItem → Type 0
+abbrev pub ArePlaced : List RowValue → List ItemPlace → List PlacedItem → Type 0
 ArePlaced rows [] [] = ⊤
 ArePlaced rows [] (item ∷ items) = ⊥
 ArePlaced rows (place ∷ places) [] = ⊥
 ArePlaced rows (place ∷ places) (item ∷ items) = (placed_at rows place ≡ Some item) × ArePlaced rows places items
 
 -- the rows are kept, what they tell of items, and how many there are of each sort
-pub record AreKept (blocks : List (List ℕ)) (rows : List KeptRow) (places : List KeptItem) (waiting : Option ℕ) (counts : SortCounts) : Type 0 where
+pub record AreKept (blocks : List (List ℕ)) (rows : List KeptRow) (places : List ItemPlace) (waiting : Option ℕ) (counts : SortCounts) : Type 0 where
   pub laid : AreLaid blocks rows
   pub placed : ArePlaced (rows_at blocks rows) places (items_in (rows_at blocks rows))
   pub waits : waiting ≡ waiting_in (rows_at blocks rows)
@@ -139,17 +139,17 @@ pub record AreKept (blocks : List (List ℕ)) (rows : List KeptRow) (places : Li
 -- One more row.
 
 -- the place of an item with its answer
-abbrev pub answered_at : KeptItem → ℕ → KeptItem
+abbrev pub answered_at : ItemPlace → ℕ → ItemPlace
 answered_at item at = record { begin = item.begin; answer = Some at }
 
 -- the places of items, of which the one of this number has an answer
-abbrev pub place_answered : List KeptItem → ℕ → ℕ → List KeptItem
+abbrev pub place_answered : List ItemPlace → ℕ → ℕ → List ItemPlace
 place_answered [] number at = []
 place_answered (item ∷ rest) zero at = answered_at item at ∷ rest
 place_answered (item ∷ rest) (suc number) at = item ∷ place_answered rest number at
 
 -- where one waits
-abbrev pub places_answered : List KeptItem → Option ℕ → ℕ → List KeptItem
+abbrev pub places_answered : List ItemPlace → Option ℕ → ℕ → List ItemPlace
 places_answered places None at = places
 places_answered places (Some number) at = place_answered places number at
 
@@ -164,11 +164,11 @@ items_answered items None reply = items
 items_answered items (Some number) reply = item_answered items number reply
 
 -- one item more
-abbrev pub places_begun : List KeptItem → ℕ → List KeptItem
+abbrev pub places_begun : List ItemPlace → ℕ → List ItemPlace
 places_begun places at = places ++ record { begin = at; answer = None } ∷ []
 
 -- the places of items with a message of this role in the row at this place
-abbrev pub places_by : MessageRole → List KeptItem → Option ℕ → ℕ → List KeptItem
+abbrev pub places_by : MessageRole → List ItemPlace → Option ℕ → ℕ → List ItemPlace
 places_by role.Request places waiting at = places_begun places at
 places_by (role.Positive asked) places waiting at = places_answered places waiting at
 places_by (role.Negative asked) places waiting at = places_answered places waiting at
@@ -177,7 +177,7 @@ places_by role.KeepAlive places waiting at = places_begun places at
 places_by role.Stray places waiting at = places_begun places at
 
 -- and which of them waits then
-abbrev pub waiting_by : MessageRole → List KeptItem → Option ℕ → Option ℕ
+abbrev pub waiting_by : MessageRole → List ItemPlace → Option ℕ → Option ℕ
 waiting_by role.Request places waiting = Some (length places)
 waiting_by (role.Positive asked) places waiting = None
 waiting_by (role.Negative asked) places waiting = None
@@ -186,16 +186,16 @@ waiting_by role.KeepAlive places waiting = waiting
 waiting_by role.Stray places waiting = waiting
 
 -- with this row
-abbrev pub places_next : RowValue → List KeptItem → Option ℕ → ℕ → List KeptItem
+abbrev pub places_next : RowValue → List ItemPlace → Option ℕ → ℕ → List ItemPlace
 places_next (message is d place bytes) places waiting at = places_by is places waiting at
 places_next (no_answer number silent) places waiting at = places
-places_next (dropped place d named why) places waiting at = places
+places_next (dropped place d linked why) places waiting at = places
 places_next (ended place end) places waiting at = places
 places_next (unfinished d line len) places waiting at = places
 
-abbrev pub waiting_next : RowValue → List KeptItem → Option ℕ → Option ℕ
+abbrev pub waiting_next : RowValue → List ItemPlace → Option ℕ → Option ℕ
 waiting_next (message is d place bytes) places waiting = waiting_by is places waiting
 waiting_next (no_answer number silent) places waiting = waiting
-waiting_next (dropped place d named why) places waiting = waiting
+waiting_next (dropped place d linked why) places waiting = waiting
 waiting_next (ended place end) places waiting = waiting
 waiting_next (unfinished d line len) places waiting = waiting

@@ -7,7 +7,7 @@ use Rattle.trace_report.specs.declared.items.LentItem.{LentItem}
 use Rattle.trace_report.specs.declared.items.LentMessage.{LentMessage}
 use Rattle.trace_report.specs.declared.items.LentPair.{LentPair}
 use Rattle.trace_report.specs.declared.items.LentPair.TheVariants as lent
-use Rattle.trace_report.specs.declared.span.Span.{Span}
+use Rattle.trace_report.specs.declared.times.Times.{Times}
 use Rattle.trace_report.specs.declared.two.Difference.{Difference}
 
 -- a message that is lent
@@ -46,10 +46,10 @@ contrast_at at None = None
 contrast_at at (Some pair) = contrast_with at pair (contrast_of pair)
 
 -- the times of a first frame and of a last one; 0 where there is no frame
-abbrev pub first_of_span : Option Span → ℕ
-first_of_span None = 0
-first_of_span (Some span) = span.first
+abbrev pub first_of_times : Option Times → ℕ
+first_of_times None = 0
+first_of_times (Some times) = times.first
 
-abbrev pub last_of_span : Option Span → ℕ
-last_of_span None = 0
-last_of_span (Some span) = span.last
+abbrev pub last_of_times : Option Times → ℕ
+last_of_times None = 0
+last_of_times (Some times) = times.last

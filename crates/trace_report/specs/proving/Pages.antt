@@ -13,6 +13,6 @@ title_of title = record { style = title.style.now; name = title.name.now; tester
 abbrev pub row_of : Row → RowValue
 row_of (row.Message is d place lent) = message is d place lent.now
 row_of (row.NoAnswer number silent) = no_answer number silent
-row_of (row.Dropped place d named why) = dropped place d named why
+row_of (row.Dropped place d linked why) = dropped place d linked why
 row_of (row.Ended place end) = ended place end
 row_of (row.Unfinished d line len) = unfinished d line len

@@ -18,9 +18,9 @@ counts_with sort.KeepAlives counts = record counts { keep_alives = one_more coun
 counts_with sort.Strays counts = record counts { strays = one_more counts.strays }
 counts_with sort.Unanswered counts = record counts { unanswered = one_more counts.unanswered }
 counts_with sort.Silent counts = record counts { silent = one_more counts.silent }
-counts_with sort.Drops counts = record counts { drops = one_more counts.drops }
-counts_with sort.Ends counts = record counts { ends = one_more counts.ends }
-counts_with sort.Partials counts = record counts { partials = one_more counts.partials }
+counts_with sort.Dropped counts = record counts { dropped = one_more counts.dropped }
+counts_with sort.Ended counts = record counts { ended = one_more counts.ended }
+counts_with sort.Unfinished counts = record counts { unfinished = one_more counts.unfinished }
 
 -- the first targets of a sort, with one more
 abbrev pub kept : ArrayVec ℕ → ℕ → ArrayVec ℕ
@@ -28,9 +28,9 @@ kept first target = record { items = take most_links (first.items ++ target ∷ 
 
 -- those of each sort that needs a look
 abbrev pub first_with : Sort → ℕ → FirstTargets → FirstTargets
-first_with sort.Drops target first = record first { drops = kept first.drops target }
-first_with sort.Ends target first = record first { ends = kept first.ends target }
-first_with sort.Partials target first = record first { partials = kept first.partials target }
+first_with sort.Dropped target first = record first { dropped = kept first.dropped target }
+first_with sort.Ended target first = record first { ended = kept first.ended target }
+first_with sort.Unfinished target first = record first { unfinished = kept first.unfinished target }
 first_with sort.Negatives target first = record first { negatives = kept first.negatives target }
 first_with sort.Unanswered target first = record first { unanswered = kept first.unanswered target }
 first_with sort.Strays target first = record first { strays = kept first.strays target }

@@ -1,39 +1,94 @@
--- Devices of proof: one more frame is told.
-use Rattle.std.specs.Prelude.{◌≡◌, ◌≤◌, ◌^◌, List, [], ◌∷◌, ◌++◌, Bool, Option, Result, OnOk, IfErr}
+-- Devices of proof: the frames of a trace were told, and one more is.
+use Rattle.std.specs.Prelude.{◌≡◌, ℕ, ◌^◌, ◌≤◌, ◌⊎◌, Bool, true, false, List, [], ◌++◌, Option, Some, None, Result, ◌∷◌, OnOk, IfErr}
 use Rattle.can_log.specs.declared.frame.Stamped.{Stamped}
+use Rattle.isotp_receive.specs.declared.TheConstants.{MESSAGE_LIMIT}
 use Rattle.isotp_receive.specs.Trace.{Entry}
+use Rattle.isotp_receive.specs.Verdict.{messages, VerdictValue}
+use Rattle.isotp_receive.specs.Events.{oversize_in, too_long_in}
+use Rattle.isotp_pdu.specs.Reading.{layout_of}
+use Rattle.std.specs.List.{AllByRecursion}
 use Rattle.trace_io.specs.declared.device.Target.{Ghosts}
 use Rattle.trace_log.specs.declared.fault.Fault.{Fault}
-use Rattle.trace_run.specs.Told.{Script}
-use Rattle.trace_log.specs.proving.Receiving.{IsStart, Receives}
 use Rattle.trace_run.specs.declared.receiver.Receiver.{Receiver}
+use Rattle.uds_exchange.specs.Judging.{IsJudgeOf}
+use Rattle.uds_exchange.specs.declared.judge.Judge.{Judge}
+use Rattle.trace_log.specs.proving.Announcing.{AnnouncesWithin}
+use Rattle.trace_log.specs.proving.Receiving.{Receives, IsStart}
+use Rattle.trace_log.specs.Needing.{IsKeptForMessage}
+use Rattle.trace_run.specs.Told.{Script, told}
 use Rattle.trace_run.specs.Seen.{IsEventOf}
 use Rattle.trace_run.specs.declared.telling.FrameEvent.{FrameEvent}
 use Rattle.trace_run.specs.declared.telling.Telling.{Telling}
-use Rattle.trace_run.specs.proving.Carrying.{IsTellingStart, Tells, StopsTelling, WroteTold}
+use Rattle.trace_log.specs.declared.fault.Fault.TheVariants as fault
+use Rattle.trace_run.specs.proving.Carrying.{Carries}
 
--- the frames of the trace were told, since this start and by what the machine first was
+-- the length for which a run stops at a frame that did this
+abbrev pub stops_for : Bool → VerdictValue → Option ℕ
+stops_for true did = too_long_in did
+stops_for false did = None
+
+-- why a run stopped at the frame e
+abbrev pub StopsFor : Bool → (List Entry → Entry → Type 0) → List Entry → Entry → Fault → Type 0
+StopsFor strict needs T e (fault.Oversize line announced) = (strict ≡ true) × (line ≡ e.line) × (oversize_in MESSAGE_LIMIT (layout_of e.frame) ≡ Some announced)
+StopsFor strict needs T e fault.Memory = (strict ≡ true → AnnouncesWithin e) × (IsKeptForMessage MESSAGE_LIMIT T e ⊎ needs T e)
+StopsFor strict needs T e (fault.BadLine line column) = ⊥
+StopsFor strict needs T e fault.LogLimit = ⊥
+StopsFor strict needs T e fault.OutputLimit = ⊥
+StopsFor strict needs T e fault.Read = ⊥
+StopsFor strict needs T e fault.Write = ⊥
+
+-- A machine stands at its start, no message was judged, and nothing is on the page.
+pub record IsTellingStart (Stands : Type 0) (judge : Judge) (failed : Bool) (held : List ℕ) : Type 0 where
+  pub stands : Stands
+  pub judged : IsJudgeOf [] judge
+  pub well : failed ≡ false
+  pub blank : held ≡ []
+
+-- The frames of the trace were told; of a strict script none announces a message above the limit.
+pub record Tells {M W : Type 0} (stands : List Entry → M → Type 0) (target : Ghosts W) (script : Script) (start : W) (T : List Entry)
+    (machine : M) (judge : Judge) (failed : Bool) (held : List ℕ) (now : W) : Type 0 where
+  pub judged : IsJudgeOf (messages MESSAGE_LIMIT T) judge
+  pub machine_stands : stands T machine
+  pub within : script.strict ≡ true → AllByRecursion AnnouncesWithin T
+  pub carried : Carries target start (told script.word T) failed held now
+
+-- The run stopped at the frame e: nothing of it was said.
+pub record StopsTelling {W : Type 0} (target : Ghosts W) (script : Script) (needs : List Entry → Entry → Type 0) (start : W) (T : List Entry)
+    (e : Entry) (why : Fault) (failed : Bool) (held : List ℕ) (now : W) : Type 0 where
+  pub within : script.strict ≡ true → AllByRecursion AnnouncesWithin T
+  pub reason : StopsFor script.strict needs T e why
+  pub carried : Carries target start (told script.word T) failed held now
+
+-- Since this start, what is told of this trace was written; and after it, what was said to a page that holds this now.
+pub record WroteTold {W : Type 0} (target : Ghosts W) (script : Script) (start : W) (T : List Entry) (failed : Bool) (held : List ℕ) (now : W) : Type 0 where
+  pub within : script.strict ≡ true → AllByRecursion AnnouncesWithin T
+  pub mid : W
+  pub said : List ℕ
+  pub wrote : target.taken mid ≡ target.taken start ++ told script.word T
+  pub carried : Carries target mid said failed held now
+
+-- the frames of the trace were told, since the target was this and by what the machine was at its start
 abbrev pub HasTold : {M W : Type 0} → (M → List Entry → M → Type 0) → (M → Script) → Ghosts W → W → M → List Entry → Telling M W → W → Type 0
-HasTold stands scripts target start first T telling now =
-    Tells (stands first) target (scripts first) start T telling.machine telling.judge telling.page.failed telling.page.block now
+HasTold stands scripts target target_start machine_start T telling now =
+    Tells (stands machine_start) target (scripts machine_start) target_start T telling.machine telling.judge telling.page.failed telling.page.held now
 
 -- and all that was told is written; or writing failed
 abbrev pub HasWritten : {M W : Type 0} → (M → List Entry → M → Type 0) → (M → Script) → Ghosts W → W → M → List Entry → Telling M W → Bool → W → Type 0
-HasWritten stands scripts target start first T telling failed now =
-    Tells (stands first) target (scripts first) start T telling.machine telling.judge failed [] now
+HasWritten stands scripts target target_start machine_start T telling failed now =
+    Tells (stands machine_start) target (scripts machine_start) target_start T telling.machine telling.judge failed [] now
 
--- since this start at least what is told of this trace was written
+-- since the target was this at least what is told of this trace was written
 abbrev pub HasWrittenAtLeast : {M W : Type 0} → (M → Script) → Ghosts W → W → M → List Entry → Telling M W → W → Type 0
-HasWrittenAtLeast scripts target start first T telling now = WroteTold target (scripts first) start T telling.page.failed telling.page.block now
+HasWrittenAtLeast scripts target target_start machine_start T telling now = WroteTold target (scripts machine_start) target_start T telling.page.failed telling.page.held now
 
 -- the run stopped at the frame e, of which nothing was said
 abbrev pub HasStopped : {M W : Type 0} → (M → Script) → (M → List Entry → Entry → Type 0) → Ghosts W → W → M → List Entry → Entry → Fault → Telling M W → W → Type 0
-HasStopped scripts needs target start first T e fault telling now =
-    StopsTelling target (scripts first) (needs first) start T e fault telling.page.failed telling.page.block now
+HasStopped scripts needs target target_start machine_start T e fault telling now =
+    StopsTelling target (scripts machine_start) (needs machine_start) target_start T e fault telling.page.failed telling.page.held now
 
 -- nothing was told: the machine stands at its start, no message is judged and the page is blank
 abbrev pub HasToldNothing : {M W : Type 0} → (M → List Entry → M → Type 0) → Telling M W → Type 0
-HasToldNothing stands telling = IsTellingStart (stands telling.machine [] telling.machine) telling.judge telling.page.failed telling.page.block
+HasToldNothing stands telling = IsTellingStart (stands telling.machine [] telling.machine) telling.judge telling.page.failed telling.page.held
 
 -- this is what the frame e did after the frames T
 abbrev pub IsFrameEvent : List Entry → Entry → FrameEvent → Type 0
@@ -42,11 +97,12 @@ IsFrameEvent T e frame = IsEventOf T e frame.line frame.micros frame.dir frame.e
 -- The frame e was told after the frames T, or the run stopped at it. Whatever was written before is.
 pub record TellsFrame {M W A : Type 0} (stands : M → List Entry → M → Type 0) (scripts : M → Script) (needs : M → List Entry → Entry → Type 0) (target : Ghosts W)
     (T : List Entry) (e : Entry) (before : Telling M W) (old : W) (result : Result A Fault) (after : Telling M W) (new : W) : Type 0 where
-  pub ok : OnOk result ((start : W) (first : M) → HasTold stands scripts target start first T before old → HasTold stands scripts target start first (T ++ e ∷ []) after new)
-  pub err : IfErr result (λ fault. (start : W) (first : M) → HasTold stands scripts target start first T before old
-      → HasStopped scripts needs target start first T e fault after new)
-  pub kept : (start : W) (first : M) (earlier : List Entry) → HasTold stands scripts target start first T before old
-      → HasWrittenAtLeast scripts target start first earlier before old → HasWrittenAtLeast scripts target start first earlier after new
+  pub ok : OnOk result ((target_start : W) (machine_start : M) → HasTold stands scripts target target_start machine_start T before old
+      → HasTold stands scripts target target_start machine_start (T ++ e ∷ []) after new)
+  pub err : IfErr result (λ fault. (target_start : W) (machine_start : M) → HasTold stands scripts target target_start machine_start T before old
+      → HasStopped scripts needs target target_start machine_start T e fault after new)
+  pub kept : (target_start : W) (machine_start : M) (earlier : List Entry) → HasTold stands scripts target target_start machine_start T before old
+      → HasWrittenAtLeast scripts target target_start machine_start earlier before old → HasWrittenAtLeast scripts target target_start machine_start earlier after new
 
 -- A receiver took lines that mean this; where it stood at its start, it received their frames, and this is told of them.
 abbrev pub HasReceived : {M W : Type 0} → (M → List Entry → M → Type 0) → Ghosts W → Receiver M W → W → List (Option Stamped) → Receiver M W → Type 0 → Type 0

@@ -10,32 +10,32 @@ use Rattle.uds_exchange.specs.declared.step.Step.{Step}
 use Rattle.uds_exchange.specs.declared.step.Step.TheVariants as step
 
 -- the items that are decided by this step with a message
-abbrev pub items_for : Step → DeciderValue → Message → List ItemValue
-items_for (step.Request service) standing message = exchange_items standing.request None standing.holds
-items_for step.Answer standing message = exchange_items standing.request (Some message.1) standing.holds
-items_for step.Removed standing message = []
-items_for step.Hold standing message = []
-items_for step.Pass standing message = stray_of message ∷ []
+abbrev pub decided_for : Step → DeciderValue → Message → List ItemValue
+decided_for (step.Request service) standing message = exchange_items standing.request None standing.holds
+decided_for step.Answer standing message = exchange_items standing.request (Some message.1) standing.holds
+decided_for step.Removed standing message = []
+decided_for step.Hold standing message = []
+decided_for step.Pass standing message = stray_of message ∷ []
 
 -- what becomes of a message
 abbrev pub step_in : DeciderValue → Message → Step
 step_in standing message = step_of (option_map sid standing.request) message
 
 -- the items that one more message decides
-abbrev pub items_by : DeciderValue → Message → List ItemValue
-items_by standing message = items_for (step_in standing message) standing message
+abbrev pub decided_by : DeciderValue → Message → List ItemValue
+decided_by standing message = decided_for (step_in standing message) standing message
 
--- what the decider is after this step
-abbrev pub keep_for : Step → DeciderValue → Message → DeciderValue
-keep_for (step.Request service) standing message = record { request = Some message.1; holds = [] }
-keep_for step.Answer standing message = record { request = None; holds = [] }
-keep_for step.Removed standing message = standing
-keep_for step.Hold standing message = record standing { holds = standing.holds ++ message ∷ [] }
-keep_for step.Pass standing message = standing
+-- what the decider is after this step with a message
+abbrev pub decider_after_step : Step → DeciderValue → Message → DeciderValue
+decider_after_step (step.Request service) standing message = record { request = Some message.1; holds = [] }
+decider_after_step step.Answer standing message = record { request = None; holds = [] }
+decider_after_step step.Removed standing message = standing
+decider_after_step step.Hold standing message = record standing { holds = standing.holds ++ message ∷ [] }
+decider_after_step step.Pass standing message = standing
 
--- what the decider is after one more message
-abbrev pub keep : DeciderValue → Message → DeciderValue
-keep standing message = keep_for (step_in standing message) standing message
+-- what the decider is with one more message
+abbrev pub decider_with : DeciderValue → Message → DeciderValue
+decider_with standing message = decider_after_step (step_in standing message) standing message
 
 -- a message begins an exchange by this step
 abbrev pub Begins : Step → Type 0
@@ -43,4 +43,4 @@ Begins became = (service : ℕ) × (became ≡ step.Request service)
 
 -- memory can be refused here: the message is a request, or would be held
 abbrev pub Refuses : Step → DeciderValue → Message → Type 0
-Refuses became standing message = Begins became ⊎ ((keep_for became standing message).holds ≡ standing.holds ++ message ∷ [])
+Refuses became standing message = Begins became ⊎ ((decider_after_step became standing message).holds ≡ standing.holds ++ message ∷ [])

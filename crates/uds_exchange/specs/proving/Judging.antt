@@ -9,15 +9,15 @@ use Rattle.uds_exchange.specs.declared.sides.Sides.{Sides}
 use Rattle.uds_exchange.specs.declared.step.Step.{Step}
 use Rattle.uds_exchange.specs.declared.step.Step.TheVariants as step
 
--- what is kept, after a message of which this becomes
-abbrev pub advanced : Step → Judge → Judge
-advanced (step.Request service) judge = record judge { open_sid = Some service; items = one_more judge.items; held_count = 0 }
-advanced step.Answer judge = record judge { open_sid = None; held_count = 0 }
-advanced step.Removed judge = record judge { removed = one_more judge.removed }
-advanced step.Hold judge = record judge { items = one_more judge.items; held_count = one_more judge.held_count }
-advanced step.Pass judge = record judge { items = one_more judge.items }
+-- what a judge keeps after this step
+abbrev pub judge_after_step : Step → Judge → Judge
+judge_after_step (step.Request service) judge = record judge { open_sid = Some service; items = one_more judge.items; held_count = 0 }
+judge_after_step step.Answer judge = record judge { open_sid = None; held_count = 0 }
+judge_after_step step.Removed judge = record judge { removed = one_more judge.removed }
+judge_after_step step.Hold judge = record judge { items = one_more judge.items; held_count = one_more judge.held_count }
+judge_after_step step.Pass judge = record judge { items = one_more judge.items }
 
--- the number of its item
+-- the number of the item of the message, by what the judge kept before it
 abbrev pub number_in : Step → Judge → ℕ
 number_in (step.Request service) judge = one_more judge.items
 number_in step.Answer judge = judge.items - judge.held_count

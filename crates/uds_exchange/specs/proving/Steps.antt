@@ -8,7 +8,7 @@ use Rattle.uds_exchange.specs.declared.order_fault.OrderFault.TheVariants as fau
 use Rattle.uds_message.specs.Message.{sid}
 use Rattle.uds_exchange.specs.Order.{open_request, held}
 use Rattle.uds_exchange.specs.OneMessage.{step_of}
-use Rattle.uds_exchange.specs.Sink.{AfterOk, AfterErr, Fails}
+use Rattle.uds_exchange.specs.MessageSink.{AfterOk, AfterErr, Fails}
 use Rattle.uds_exchange.specs.Orderer.{JudgedOrdererValue}
 
 -- the messages that have their place by this step with a message, where these are held
@@ -19,23 +19,23 @@ due_for step.Removed holds message = []
 due_for step.Hold holds message = []
 due_for step.Pass holds message = message ∷ []
 
--- what the orderer is after this step
-abbrev pub advance_for : Step → JudgedOrdererValue → Message → JudgedOrdererValue
-advance_for (step.Request service) standing message = record standing { holds = [] }
-advance_for step.Answer standing message = record standing { holds = [] }
-advance_for step.Removed standing message = standing
-advance_for step.Hold standing message = record standing { holds = standing.holds ++ message ∷ [] }
-advance_for step.Pass standing message = standing
+-- what the orderer is after this step with a message
+abbrev pub orderer_after_step : Step → JudgedOrdererValue → Message → JudgedOrdererValue
+orderer_after_step (step.Request service) standing message = record standing { holds = [] }
+orderer_after_step step.Answer standing message = record standing { holds = [] }
+orderer_after_step step.Removed standing message = standing
+orderer_after_step step.Hold standing message = record standing { holds = standing.holds ++ message ∷ [] }
+orderer_after_step step.Pass standing message = standing
 
 -- what a fault leaves, at this step with a message; memory is refused only where the message would be held
 abbrev pub Stops : {Sink Fault : Type 0} → AfterOk Sink → AfterErr Sink Fault → Step → Message → JudgedOrdererValue → Sink → JudgedOrdererValue → Sink → OrderFault Fault → Type 0
 Stops after_ok after_err step message old before new after fault.Memory =
-    (old.has_failed ≡ false) × (new ≡ old) × (after ≡ before) × ((advance_for step old message).holds ≡ old.holds ++ message ∷ [])
+    (old.has_failed ≡ false) × (new ≡ old) × (after ≡ before) × ((orderer_after_step step old message).holds ≡ old.holds ++ message ∷ [])
 Stops after_ok after_err step message old before new after (fault.Sink why) =
     (old.has_failed ≡ false) × (new.has_failed ≡ true) × Fails after_ok after_err before (due_for step old.holds message) why after
 Stops after_ok after_err step message old before new after fault.Failed = (old.has_failed ≡ true) × (new ≡ old) × (after ≡ before)
 
--- which request waits, by its first byte, and what is held behind it
+-- which request is open, by its first byte, and what is held behind it
 pub record Standing : Type 0 where
   pub open_sid : Option ℕ
   pub holds : List Message
@@ -48,14 +48,14 @@ standing_after M = record { open_sid = option_map sid (open_request M); holds = 
 abbrev pub due : Standing → Message → List Message
 due standing message = due_for (step_of standing.open_sid message) standing.holds message
 
--- so it is after this step
-abbrev pub stand_for : Step → Standing → Message → Standing
-stand_for (step.Request service) standing message = record { open_sid = Some service; holds = [] }
-stand_for step.Answer standing message = record { open_sid = None; holds = [] }
-stand_for step.Removed standing message = standing
-stand_for step.Hold standing message = record standing { holds = standing.holds ++ message ∷ [] }
-stand_for step.Pass standing message = standing
+-- so it is after this step with a message
+abbrev pub standing_after_step : Step → Standing → Message → Standing
+standing_after_step (step.Request service) standing message = record { open_sid = Some service; holds = [] }
+standing_after_step step.Answer standing message = record { open_sid = None; holds = [] }
+standing_after_step step.Removed standing message = standing
+standing_after_step step.Hold standing message = record standing { holds = standing.holds ++ message ∷ [] }
+standing_after_step step.Pass standing message = standing
 
--- and after one more message
-abbrev pub advance : Standing → Message → Standing
-advance standing message = stand_for (step_of standing.open_sid message) standing message
+-- and with one more message
+abbrev pub standing_with : Standing → Message → Standing
+standing_with standing message = standing_after_step (step_of standing.open_sid message) standing message

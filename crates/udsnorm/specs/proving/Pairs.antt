@@ -4,8 +4,8 @@ use Rattle.trace_canon.specs.declared.comparing.Compared.{Compared}
 use Rattle.trace_log.specs.declared.fault.CompareFault.{CompareFault}
 use Rattle.trace_report.specs.Held.{TwoValue}
 use Rattle.trace_report.specs.PairPage.{cause_of_pair}
-use Rattle.trace_report.specs.declared.cause.Cause.{Cause}
-use Rattle.trace_run.specs.Told.{Glimpse}
+use Rattle.trace_report.specs.declared.cause.RefusalCause.{RefusalCause}
+use Rattle.trace_run.specs.Told.{GlimpseValue}
 use Rattle.udsnorm.specs.Commands.{TextOfCompared, pair_held, pair_of, text_of_compared}
 use Rattle.udsnorm.specs.declared.pair_jobs.PairAnswer.{PairAnswer}
 
@@ -30,6 +30,6 @@ answer_held (Ok held) = Ok (pair_held held)
 answer_held (Err fault) = Err fault
 
 -- the cause of a refusal of one of two logs with this limit, by what is seen of both sources
-abbrev pub cause_in : Result TwoValue CompareFault → ℕ → Glimpse → Glimpse → Option Cause
+abbrev pub cause_in : Result TwoValue CompareFault → ℕ → GlimpseValue → GlimpseValue → Option RefusalCause
 cause_in (Ok held) most left_seen right_seen = None
 cause_in (Err fault) most left_seen right_seen = cause_of_pair fault most left_seen right_seen

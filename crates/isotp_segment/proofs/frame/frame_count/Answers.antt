@@ -1,3 +1,4 @@
+-- The count is that of the frames of each message of this length.
 use Rattle.std.proofs.Common.{rules}
 use Rattle.isotp_segment.proofs.Frames.{count_of_frames}
 use Rattle.isotp_segment.proofs.frame.frame_count.Goals as goal

@@ -2,4 +2,4 @@ use Rattle.isotp_segment.proofs.Promises.{short_message_is_one_frame}
 use Rattle.isotp_segment.proofs.laws.short_message_is_one_frame.Goals as goal
 
 pub returns : goal.returns
-returns c = record { frame = short_message_is_one_frame }
+returns c = short_message_is_one_frame

@@ -1,3 +1,4 @@
+-- The first four bytes and the last four lie in eight lanes.
 use lib.Lanes.{chunk}
 use Rattle.std.proofs.Common.{◌≡◌, ◌-◌, ◌++◌, true, length, length-append, arith}
 use Rattle.std.specs.Prelude.{nat_le}

@@ -1,3 +1,4 @@
+-- A line that has room is the next one; one that has none fills the log up, and so do all later ones.
 use Rattle.std.proofs.Common.{arith, ◌≡◌, ◌∷◌, ◌<◌, ◌≤◌, List, ℕ, length, ap, sym, subst, ◌∙◌}
 use Rattle.can_log.proofs.Promises.{canonical_line_length}
 use Rattle.can_log.specs.Canonical.{canonical_line, canonical_length}

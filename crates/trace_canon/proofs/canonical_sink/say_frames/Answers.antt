@@ -1,3 +1,4 @@
+-- Frame by frame, and with the full frames behind a continue frame, a front is said until none is left or none fits.
 use Rattle.std.proofs.Common.{◌∷◌, refl, ap, sym, ◌∙◌}
 use Rattle.trace_canon.specs.proving.Saying.{SaysFront}
 use Rattle.trace_canon.specs.proving.Writing.{text_from, progress_after}

@@ -1,3 +1,4 @@
+-- Each full frame is said in three parts that are its canonical line, until another frame comes or none fits.
 use Rattle.std.proofs.Common.{arith, ◌≡◌, ◌∷◌, ◌++◌, ℕ, ◌≤◌, List, length, true, false, refl, ap, sym, subst, ◌∙◌}
 use Rattle.can_log.proofs.Promises.{canonical_line_length, canonical_line_in_parts, canonical_name_length}
 use Rattle.can_log.specs.Canonical.{canonical_stamp}

@@ -1,3 +1,4 @@
+-- The full frames so far were said, and no more are left than there were.
 use Rattle.std.proofs.Common.{◌≤◌, length}
 use Rattle.trace_canon.specs.proving.Saying.{SaysFront}
 use Rattle.trace_canon.proofs.canonical_sink.say_stretch.Given as goal

@@ -1,3 +1,4 @@
+-- The meaning is that of the session.
 use Rattle.std.proofs.Common.{rules}
 use Rattle.trace_canon.proofs.SessionScripts.{meaning_given}
 use Rattle.trace_canon.proofs.collector.meaning_of.Goals as goal

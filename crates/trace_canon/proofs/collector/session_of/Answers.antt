@@ -1,3 +1,4 @@
+-- A run of a machine that says nothing answers the session, and never fails to write.
 use Rattle.std.proofs.Common.{rules}
 use Rattle.isotp_receive.specs.declared.TheConstants.{MESSAGE_LIMIT}
 use Rattle.trace_canon.specs.SessionScript.{answers_session, silent_script}

@@ -1,3 +1,4 @@
+-- The parts that are said are the object of the definition.
 use Rattle.std.proofs.Common.{◌+◌, subst}
 use Rattle.std.specs.Prelude.{slice_get}
 use Rattle.trace_canon.specs.ComparisonText.{shown_value}

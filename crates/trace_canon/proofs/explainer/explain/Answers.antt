@@ -1,9 +1,11 @@
+-- The counts certify what those of a run that is not strict do.
 use Rattle.isotp_receive.specs.declared.TheConstants.{MESSAGE_LIMIT}
 use Rattle.trace_canon.specs.ExplainScript.{explain_script}
 use Rattle.trace_run.proofs.Promises.{certifies}
+use Rattle.trace_run.specs.Told.{tells_no_refusal}
 use Rattle.trace_canon.proofs.explainer.explain.Goals as goal
 
 pub returns-clause-certificate : goal.returns-clause-certificate
 returns-clause-certificate g c = λ log agrees.
     let script = explain_script c.args.notation MESSAGE_LIMIT in
-    certifies script.word script.last script.refused c.args.config.now log _ c.run_lenient.result _ _ (c.run_lenient.ensures.ran.run.answer log agrees)
+    certifies script.word script.last tells_no_refusal c.args.config.now log _ c.run_lenient.result _ _ (c.run_lenient.ensures.ran.run.answer log agrees)

@@ -1,3 +1,4 @@
+-- The receptions that stand, the tester's first, and then the counts.
 use Rattle.std.proofs.Common.{ap, subst}
 use Rattle.direction.specs.declared.Dir.TheVariants as dir
 use Rattle.trace_canon.specs.ExplainScript.{unfinished_line}

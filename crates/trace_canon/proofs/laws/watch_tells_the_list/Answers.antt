@@ -1,3 +1,4 @@
+-- Both are lemmas on what is told as items are decided.
 use Rattle.trace_canon.proofs.WatchScripts.{watch_tells_decided, watch_tells_the_list}
 use Rattle.trace_canon.proofs.laws.watch_tells_the_list.Goals as goal
 

@@ -1,3 +1,4 @@
+-- A message without bytes, or beyond the limit, has no canonical frame.
 use Rattle.std.proofs.Common.{inl, inr, length, sym, ◌∙◌}
 use Rattle.std.proofs.lemmas.Bool.{leb-false, eqb-true}
 use Rattle.isotp_receive.specs.declared.TheConstants.{MESSAGE_LIMIT}

@@ -1,3 +1,4 @@
+-- What a run of the script answers is the canonical log of the meaning; the rest follows from that.
 use Rattle.std.proofs.Common.{refl, sym, ◌∙◌}
 use Rattle.trace_canon.specs.proving.Writing.{start_of}
 use Rattle.trace_canon.proofs.CanonicalScripts.{canonical_tells_the_same, unwritten_some, canonical_again, recording_again, answer_is_certificate, writes_eagerly_told}

@@ -1,3 +1,4 @@
+-- The parts that are said are the object of the definition.
 use Rattle.std.proofs.Common.{subst}
 use Rattle.trace_canon.proofs.PairLines.{object_is}
 use Rattle.trace_canon.proofs.pair_lines.say_pair.Goals as goal

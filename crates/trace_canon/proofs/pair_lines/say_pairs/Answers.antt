@@ -1,3 +1,4 @@
+-- Line by line this is the text of all pairs.
 use Rattle.trace_canon.proofs.pair_lines.say_pairs.Goals as goal
 
 pub pairs-init : goal.pairs-init

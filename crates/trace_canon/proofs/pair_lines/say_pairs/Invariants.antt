@@ -1,5 +1,6 @@
+-- The lines of the pairs so far were said.
 use Rattle.std.proofs.Common.{take}
-use Rattle.trace_canon.specs.Found.{pairs_text}
+use Rattle.trace_canon.specs.Finding.{pairs_text}
 use Rattle.trace_canon.proofs.pair_lines.say_pairs.Given as goal
 
 abbrev pub invariant-pairs : goal.invariant-pairs

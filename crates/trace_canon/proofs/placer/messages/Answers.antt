@@ -1,3 +1,4 @@
+-- Before the first frame no reception stands.
 use Rattle.std.proofs.Common.{refl}
 use Rattle.direction.specs.declared.Dir.TheVariants.{Tester, Unit}
 use Rattle.trace_canon.proofs.placer.messages.Goals as goal

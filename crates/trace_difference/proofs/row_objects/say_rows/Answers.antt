@@ -9,8 +9,8 @@ use Rattle.trace_difference.proofs.row_objects.say_rows.Goals.{then-behind_chang
 pub rows-init : goal.rows-init
 rows-init g c = record {
   few = omega arith;
-  i_small = omega arith;
-  j_small = omega arith;
+  left_small = omega arith;
+  right_small = omega arith;
   left = none-said g.S.TextSink.says c.args.out.now _ _ (g.met.S.TextSink.nothing c.args.out.now) refl;
 }
 
@@ -22,18 +22,18 @@ rows-preserved g c =
     let k = c.rows.row-index in
     let at = drop_more rows k _ c.rows-test.true in
     record {
-      few = omega (arith, c.place_of-places.ensures.few, c.rows.invariant.few);
-      i_small = omega (arith, c.rows.invariant.i_small, c.left_in-i.ensures.one);
-      j_small = omega (arith, c.rows.invariant.j_small, c.right_in-j.ensures.one);
-      left = rw (c.place_of-places.ensures.value, c.is_change-behind_change.ensures, c.left_in-i.ensures.value, c.right_in-j.ensures.value)
+      few = omega (arith, c.next_change_number-change_number.ensures.few, c.rows.invariant.few);
+      left_small = omega (arith, c.rows.invariant.left_small, c.left_in-left_before.ensures.one);
+      right_small = omega (arith, c.rows.invariant.right_small, c.right_in-right_before.ensures.one);
+      left = rw (c.next_change_number-change_number.ensures.value, c.is_change-behind_change.ensures, c.left_in-left_before.ensures.value, c.right_in-right_before.ensures.value)
           (elim c.if-behind_change.branch [
             | then-behind_change w ↦
                 rw w.out-is
-                (turn-change g.S.TextSink.says g.met.S.TextSink.onward xs ys c.args.out.now _ (drop k rows) (drop (k + 1) rows) (get_or rows k _) c.rows.places c.rows.behind_change c.rows.i c.rows.j
-                c.rows.out at _ (sym c.is_change-behind_change.ensures ∙ w.if-behind_change.true) c.rows.invariant.left (rw c.place_of-places.ensures.value at w.say_row.ensures))
+                (turn-change g.S.TextSink.says g.met.S.TextSink.onward xs ys c.args.out.now _ (drop k rows) (drop (k + 1) rows) (get_or rows k _) c.rows.change_number c.rows.behind_change c.rows.left_before c.rows.right_before
+                c.rows.out at _ (sym c.is_change-behind_change.ensures ∙ w.if-behind_change.true) c.rows.invariant.left (rw c.next_change_number-change_number.ensures.value at w.say_row.ensures))
             | else-behind_change w ↦
                 rw w.out-is
-                (turn-none g.S.TextSink.says g.met.S.TextSink.onward xs ys c.args.out.now _ (drop k rows) (drop (k + 1) rows) (get_or rows k _) c.rows.places c.rows.behind_change c.rows.i c.rows.j
+                (turn-none g.S.TextSink.says g.met.S.TextSink.onward xs ys c.args.out.now _ (drop k rows) (drop (k + 1) rows) (get_or rows k _) c.rows.change_number c.rows.behind_change c.rows.left_before c.rows.right_before
                 c.rows.out at (sym c.is_change-behind_change.ensures ∙ w.if-behind_change.false) c.rows.invariant.left)
           ]);
     }
@@ -42,4 +42,4 @@ pub returns : goal.returns
 returns g c =
     said-whole g.S.TextSink.says c.args.out.now c.rows.out _
     (same-rest g.S.TextSink.says c.args.out.now c.rows.out _ _ _
-    (ap (rows_text c.args.left.items.now c.args.right.items.now c.rows.places c.rows.behind_change c.rows.i c.rows.j) (drop_all c.rows.row-index c.args.rows.now c.rows-test.false)) c.rows.invariant.left)
+    (ap (rows_text c.args.left.items.now c.args.right.items.now c.rows.change_number c.rows.behind_change c.rows.left_before c.rows.right_before) (drop_all c.rows.row-index c.args.rows.now c.rows-test.false)) c.rows.invariant.left)

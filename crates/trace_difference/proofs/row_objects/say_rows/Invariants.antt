@@ -5,9 +5,9 @@ use Rattle.trace_difference.proofs.row_objects.say_rows.Given as goal
 
 abbrev pub invariant-rows : goal.invariant-rows
 invariant-rows g l = record {
-  few : l.places ≤ l.row-index;
-  i_small : l.i ≤ l.row-index;
-  j_small : l.j ≤ l.row-index;
-  left : IsLeft g.S.TextSink.says l.initial.out (rows_text l.left.items.now l.right.items.now l.places l.behind_change l.i l.j (drop l.row-index l.rows))
+  few : l.change_number ≤ l.row-index;
+  left_small : l.left_before ≤ l.row-index;
+  right_small : l.right_before ≤ l.row-index;
+  left : IsLeft g.S.TextSink.says l.initial.out (rows_text l.left.items.now l.right.items.now l.change_number l.behind_change l.left_before l.right_before (drop l.row-index l.rows))
       (rows_text l.left.items.now l.right.items.now 0 false 0 0 l.rows) l.out;
 }

@@ -9,8 +9,8 @@ use Rattle.trace_difference.proofs.unified_text.say_hunks.Goals.{then-shown-gt0,
 
 pub rows-init : goal.rows-init
 rows-init g c = record {
-  i_small = omega arith;
-  j_small = omega arith;
+  left_small = omega arith;
+  right_small = omega arith;
   left = none-said g.S.TextSink.says c.args.out.now _ _ (g.met.S.TextSink.nothing c.args.out.now) refl;
 }
 
@@ -21,22 +21,22 @@ rows-preserved g c =
     let k = c.rows.k in
     let at = drop_more rows k _ c.rows-test.true in
     record {
-      i_small = omega (arith, c.rows.invariant.i_small, c.left_in-i.ensures.one);
-      j_small = omega (arith, c.rows.invariant.j_small, c.right_in-j.ensures.one);
-      left = rw (c.left_in-i.ensures.value, c.right_in-j.ensures.value)
+      left_small = omega (arith, c.rows.invariant.left_small, c.left_in-left_before.ensures.one);
+      right_small = omega (arith, c.rows.invariant.right_small, c.right_in-right_before.ensures.one);
+      left = rw (c.left_in-left_before.ensures.value, c.right_in-right_before.ensures.value)
           (elim c.if-shown-gt0.branch [
             | then-shown-gt0 w ↦
                 rw (w.out-is, w.shown-is)
-                (turn-in g.S.TextSink.says g.met.S.TextSink.onward text c.args.out.now _ (drop k rows) (drop (k + 1) rows) (get_or rows k _) c.rows.shown c.rows.i c.rows.j c.rows.out at
+                (turn-in g.S.TextSink.says g.met.S.TextSink.onward text c.args.out.now _ (drop k rows) (drop (k + 1) rows) (get_or rows k _) c.rows.shown c.rows.left_before c.rows.right_before c.rows.out at
                 w.if-shown-gt0.true c.rows.invariant.left)
             | else-shown-gt0+then-changes_within w ↦
                 rw (w.out-is, w.shown-is)
-                (turn-at g.S.TextSink.says g.met.S.TextSink.onward text c.args.out.now _ (drop k rows) (drop (k + 1) rows) (get_or rows k _) c.rows.shown c.rows.i c.rows.j c.rows.out at
+                (turn-at g.S.TextSink.says g.met.S.TextSink.onward text c.args.out.now _ (drop k rows) (drop (k + 1) rows) (get_or rows k _) c.rows.shown c.rows.left_before c.rows.right_before c.rows.out at
                 (omega (arith, w.if-shown-gt0.false)) _ w.changes_within.result w.hunk_length-length.result _ (take_rest rows k) w.changes_within.ensures w.if-changes_within.true
                 w.hunk_length-length.ensures.value c.rows.invariant.left w.say_hunk.ensures)
             | else-shown-gt0+else-changes_within w ↦
                 rw (w.out-is, w.shown-is)
-                (turn-before g.S.TextSink.says g.met.S.TextSink.onward text c.args.out.now _ (drop k rows) (drop (k + 1) rows) (get_or rows k _) c.rows.shown c.rows.i c.rows.j c.rows.out at
+                (turn-before g.S.TextSink.says g.met.S.TextSink.onward text c.args.out.now _ (drop k rows) (drop (k + 1) rows) (get_or rows k _) c.rows.shown c.rows.left_before c.rows.right_before c.rows.out at
                 (omega (arith, w.if-shown-gt0.false)) _ w.changes_within.result (take_rest rows k) w.changes_within.ensures w.if-changes_within.false c.rows.invariant.left)
           ]);
     }
@@ -45,4 +45,4 @@ pub returns : goal.returns
 returns g c =
     let text = hunk_text c.args.left.items.now c.args.right.items.now in
     said-whole g.S.TextSink.says c.args.out.now c.rows.out _
-    (same-rest g.S.TextSink.says c.args.out.now c.rows.out _ _ _ (ap (hunks_left text c.rows.shown c.rows.i c.rows.j) (drop_all c.rows.k c.args.rows.now c.rows-test.false)) c.rows.invariant.left)
+    (same-rest g.S.TextSink.says c.args.out.now c.rows.out _ _ _ (ap (hunks_left text c.rows.shown c.rows.left_before c.rows.right_before) (drop_all c.rows.k c.args.rows.now c.rows-test.false)) c.rows.invariant.left)

@@ -8,8 +8,8 @@ use Rattle.trace_difference.proofs.unified_text.say_hunks.Given as goal
 
 abbrev pub invariant-rows : goal.invariant-rows
 invariant-rows g l = record {
-  i_small : l.i ≤ l.k;
-  j_small : l.j ≤ l.k;
-  left : IsLeft g.S.TextSink.says l.initial.out (hunks_left (hunk_text l.left.items.now l.right.items.now) l.shown l.i l.j (drop l.k l.rows))
+  left_small : l.left_before ≤ l.k;
+  right_small : l.right_before ≤ l.k;
+  left : IsLeft g.S.TextSink.says l.initial.out (hunks_left (hunk_text l.left.items.now l.right.items.now) l.shown l.left_before l.right_before (drop l.k l.rows))
       (flat_map (hunk_text l.left.items.now l.right.items.now) (hunks l.rows)) l.out;
 }

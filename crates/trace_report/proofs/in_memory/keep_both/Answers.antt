@@ -1,3 +1,4 @@
+-- Of logs in memory all is read, so what is kept is of both.
 use Rattle.isotp_receive.specs.declared.TheConstants.{MESSAGE_LIMIT}
 use Rattle.trace_canon.proofs.Promises.{agrees_in_memory}
 use Rattle.trace_report.proofs.PagesInMemory.{held_in_memory}

@@ -1,3 +1,4 @@
+-- The title is made of what the call is handed; the page is that of what both logs say.
 use Rattle.std.proofs.Common.{◌≡◌, ap, ◌∙◌, None}
 use Rattle.isotp_receive.specs.declared.TheConstants.{MESSAGE_LIMIT}
 use Rattle.trace_report.specs.PairPage.{PairTitleValue, pair_page, pair_title}

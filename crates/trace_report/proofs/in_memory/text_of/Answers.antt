@@ -1,3 +1,4 @@
+-- What is written behind nothing is the page itself.
 use Rattle.std.proofs.Common.{ap, sym, ◌∙◌}
 use Rattle.trace_canon.proofs.Promises.{taken_is_held}
 use Rattle.trace_report.proofs.PagesInMemory.{text_in_memory}

@@ -1,3 +1,4 @@
+-- What was heard of a log is its session; else why it can't be read, or that memory was refused.
 use Rattle.std.proofs.Common.{[], Err, ap}
 use Rattle.trace_run.proofs.Promises.{never_write}
 use Rattle.trace_log.proofs.Promises.{given_agrees}

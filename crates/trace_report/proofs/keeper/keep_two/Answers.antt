@@ -1,3 +1,4 @@
+-- What both logs say is that of each.
 use Rattle.trace_report.proofs.keeper.keep_two.Goals as goal
 
 pub returns-clause-answer : goal.returns-clause-answer

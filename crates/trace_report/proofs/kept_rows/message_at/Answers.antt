@@ -1,3 +1,4 @@
+-- The message of a row that is lent is that of the row that was kept.
 use Rattle.std.proofs.Common.{◌≤◌, length, ap, sym, refl, option_map, arith, ◌∙◌, rules}
 use Rattle.std.proofs.lemmas.List.{length-map}
 use Rattle.std.proofs.lemmas.Option.{slice_get_read, slice_get-map, slice_get_past}

@@ -1,3 +1,4 @@
+-- The law is its lemma of identifiers.
 use Rattle.trace_report.proofs.Identifiers.{identifiers_stand_once}
 use Rattle.trace_report.proofs.laws.identifiers_stand_once.Goals as goal
 

@@ -1,3 +1,4 @@
+-- The law is its lemma of identifiers.
 use Rattle.trace_report.proofs.Identifiers.{links_have_targets}
 use Rattle.trace_report.proofs.laws.links_have_targets.Goals as goal
 

@@ -1,3 +1,4 @@
+-- A row is said as its variant.
 use Rattle.std.proofs.Common.{ap, sym, subst}
 use Rattle.trace_report.specs.Rows.{row_text}
 use Rattle.trace_report.specs.proving.Pages.{row_of}

@@ -1,3 +1,4 @@
+-- Where ten targets stand, one more is none of the first ten.
 use Rattle.std.proofs.Common.{◌≡◌, ◌∷◌, [], ◌++◌, length, take, sym, subst, rules}
 use Rattle.std.proofs.Math.Seq.{take-append_seam}
 use Rattle.trace_report.proofs.tally.keep.Goals as goal

@@ -1,3 +1,4 @@
+-- Where one pair differs, and none before it, the sessions differ first there.
 use Rattle.std.proofs.Common.{option_map, ap, sym, ◌∙◌}
 use Rattle.trace_report.specs.Items.{items_in, pairs_of}
 use Rattle.trace_report.specs.proving.Lending.{pair_of}

@@ -1,3 +1,4 @@
+-- The pairs up to the place of the loop are the same.
 use Rattle.std.proofs.Common.{◌-◌}
 use Rattle.trace_report.specs.Items.{items_in, pairs_of}
 use Rattle.trace_report.proofs.Comparing.{IsSameUpTo}

@@ -1,3 +1,4 @@
+-- There are as many pairs as items of the longer session.
 use Rattle.std.proofs.Common.{sym, ◌∙◌}
 use Rattle.std.specs.Prelude.{max}
 use Rattle.trace_report.specs.Items.{items_in}

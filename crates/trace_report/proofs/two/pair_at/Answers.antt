@@ -1,3 +1,4 @@
+-- What both have at a place is what each of them has.
 use Rattle.std.proofs.Common.{◌≡◌, Some, None, Option, option_map, ap, sym, ◌∙◌}
 use Rattle.std.specs.Prelude.{slice_get}
 use Rattle.trace_report.specs.Items.{PlacedItem, items_in}

@@ -1,3 +1,4 @@
+-- The two vectors are the blanks and digits of eight bytes.
 use Rattle.std.proofs.Common.{ap, get_or, sym, ◌∙◌}
 use Rattle.std.specs.List.{flat_map}
 use Rattle.std.proofs.lemmas.Simd.{pick_l_whole}

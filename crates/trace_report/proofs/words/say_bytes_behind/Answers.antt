@@ -1,3 +1,4 @@
+-- Each eight bytes add their blanks and digits, and fewer than eight end the text.
 use Rattle.std.proofs.Common.{[], ◌++◌, refl, ap, sym, subst, ◌∙◌, append_assoc}
 use Rattle.trace_report.specs.Words.{bytes_behind}
 use Rattle.trace_report.proofs.BytesBehind.{eight_more}

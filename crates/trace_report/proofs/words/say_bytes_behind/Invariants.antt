@@ -1,3 +1,4 @@
+-- What is said so far and the text of the rest are that of all bytes.
 use Rattle.std.proofs.Common.{◌≡◌, ◌++◌, List, ℕ, length}
 use Rattle.trace_report.specs.Words.{bytes_behind}
 use Rattle.trace_report.proofs.words.say_bytes_behind.Given as goal

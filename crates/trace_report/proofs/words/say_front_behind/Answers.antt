@@ -1,3 +1,4 @@
+-- The text of the first bytes stands in front of that of eight.
 use Rattle.std.proofs.Common.{◌*◌, ◌∙◌, take, refl, ap, sym, subst, arith}
 use Rattle.std.proofs.lemmas.List.{length-take-le}
 use Rattle.trace_report.proofs.BytesBehind.{front_behind}

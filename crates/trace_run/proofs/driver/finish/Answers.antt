@@ -1,3 +1,4 @@
+-- What was said at the end was settled, or writing failed: by what is carried to the page and what the machine answers.
 use Rattle.std.proofs.Common.{not, [], subst, Ok, Err}
 use Rattle.isotp_receive.specs.declared.TheConstants.{MESSAGE_LIMIT}
 use Rattle.trace_run.specs.declared.machine.Stop.TheVariants.{OutputLimit}
@@ -5,16 +6,17 @@ use Rattle.trace_run.specs.proving.Carrying.{Carries}
 use Rattle.trace_run.specs.Told.{whole_of_lines}
 use Rattle.trace_log.specs.Trace.{trace}
 use Rattle.trace_log.proofs.Promises.{handed_on}
-use Rattle.trace_run.proofs.Tellings.{carried_at_the_end, only_stop, only_more}
+use Rattle.trace_run.proofs.EndedRuns.{carried_at_the_end, only_stop}
+use Rattle.trace_run.proofs.ToldFronts.{only_more}
 use Rattle.trace_run.proofs.driver.finish.Goals as goal
 
 pub returns-then-not-settle-clause-ends : goal.returns-then-not-settle-clause-ends
 returns-then-not-settle-clause-ends g c = λ start first settings log meanings received feed tells.
     let W = g.W.Target in
     let script = g.M.Machine.script first in
-    let counted = c.sum_up-summary.ensures settings log meanings received feed tells.judged in
+    let counted = c.summary-summary.ensures settings log meanings received feed tells.judged in
     subst (λ b. Carries W start (whole_of_lines script MESSAGE_LIMIT settings log meanings) (not b) [] c.settle.new.target) c.if-not-settle.true
-    (carried_at_the_end (g.M.Machine.stands first) W script start settings log meanings _ _ _ _ _ _ _ _ _ c.settle.result c.sum_up-summary.result tells counted
+    (carried_at_the_end (g.M.Machine.stands first) W script start settings log meanings _ _ _ _ _ _ _ _ _ c.settle.result c.summary-summary.result tells counted
     (c.tell_end-answer.ensures.says first (trace settings meanings) tells.machine_stands received.pair_is received.keeps) c.settle.ensures.settled)
 
 pub returns-clause-ends : goal.returns-clause-ends
@@ -22,11 +24,11 @@ returns-clause-ends g c = λ start first settings log meanings received feed tel
     let W = g.W.Target in
     let M = g.M.Machine in
     let script = M.script first in
-    let counted = c.sum_up-summary.ensures settings log meanings received feed tells.judged in (
+    let counted = c.summary-summary.ensures settings log meanings received feed tells.judged in (
       subst (λ s. M.answers first (trace settings meanings) s (Ok c.in_ok-answer.field-0)) counted
           (c.in_ok-answer.ensures.answered first (trace settings meanings) tells.machine_stands received.pair_is),
       subst (λ b. Carries W start (whole_of_lines script MESSAGE_LIMIT settings log meanings) (not b) [] c.settle.new.target) c.if-not-settle.false
-          (carried_at_the_end (M.stands first) W script start settings log meanings _ _ _ _ _ _ _ _ _ c.settle.result c.sum_up-summary.result tells counted
+          (carried_at_the_end (M.stands first) W script start settings log meanings _ _ _ _ _ _ _ _ _ c.settle.result c.summary-summary.result tells counted
           (c.tell_end-answer.ensures.says first (trace settings meanings) tells.machine_stands received.pair_is received.keeps) c.settle.ensures.settled),
     )
 
@@ -35,13 +37,13 @@ returns-in_err-answer-clause-ends g c = λ start first settings log meanings rec
     let W = g.W.Target in
     let M = g.M.Machine in
     let script = M.script first in
-    let counted = c.sum_up-summary.ensures settings log meanings received feed tells.judged in
+    let counted = c.summary-summary.ensures settings log meanings received feed tells.judged in
     rw (handed_on c.from_residual.result _ c.from_residual.ensures.1) (
       subst (λ s. M.answers first (trace settings meanings) s (Err OutputLimit)) counted
-          (subst (λ stop. M.answers first (trace settings meanings) c.sum_up-summary.result (Err stop)) (only_stop c.in_err-answer.field-0.0)
+          (subst (λ stop. M.answers first (trace settings meanings) c.summary-summary.result (Err stop)) (only_stop c.in_err-answer.field-0.0)
           (c.in_err-answer.ensures.answered first (trace settings meanings) tells.machine_stands received.pair_is)),
       subst (λ b. Carries W start (whole_of_lines script MESSAGE_LIMIT settings log meanings) (not b) [] c.settle.new.target) c.if-not-settle.false
-          (carried_at_the_end (M.stands first) W script start settings log meanings _ _ _ _ _ _ _ _ _ c.settle.result c.sum_up-summary.result tells counted
+          (carried_at_the_end (M.stands first) W script start settings log meanings _ _ _ _ _ _ _ _ _ c.settle.result c.summary-summary.result tells counted
           (c.tell_end-answer.ensures.says first (trace settings meanings) tells.machine_stands received.pair_is received.keeps) c.settle.ensures.settled),
     )
 

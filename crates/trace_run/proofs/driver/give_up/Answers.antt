@@ -1,16 +1,17 @@
+-- A bad line and the limit are one arm: each fault is what its own case says.
 use Rattle.std.proofs.Common.{inl, inr, sym, subst}
 use Rattle.trace_log.specs.declared.fault.Fault.{Fault}
-use Rattle.trace_run.specs.proving.Carrying.{GivesUp, RefusesTelling}
+use Rattle.trace_run.specs.proving.Ending.{GivesUp, RefusesTelling}
 use Rattle.trace_run.specs.Seen.{glimpse_value}
-use Rattle.trace_run.specs.Told.{Script, told_with}
+use Rattle.trace_run.specs.Told.{Refusal}
 use Rattle.trace_run.proofs.driver.give_up.Goals as goal
 
 pub returns-in-BadLine : goal.returns-in-BadLine
 returns-in-BadLine g c =
     let M = g.M.Machine in
-    let scripts : g.row.M.Denot → Script = λ start. told_with (M.script start) (M.refusal start) (glimpse_value c.args.source) in
-    let gives_up = λ (why : Fault). GivesUp M.stands scripts g.W.Target why c.args.receiver c.args.target.now c.refuse.result c.refuse.new.target in
-    let refuses = λ (why : Fault). RefusesTelling M.stands scripts g.W.Target why c.args.receiver c.args.target.now c.refuse.result c.refuse.new.target in
+    let refusals : g.row.M.Denot → Refusal = λ start. M.refusal start (glimpse_value c.args.source) in
+    let gives_up = λ (why : Fault). GivesUp M.stands refusals g.W.Target why c.args.receiver c.args.target.now c.refuse.result c.refuse.new.target in
+    let refuses = λ (why : Fault). RefusesTelling M.stands refusals g.W.Target why c.args.receiver c.args.target.now c.refuse.result c.refuse.new.target in
     elim c.in-BadLine.is [
       | inl bad ↦ subst gives_up (sym bad.2) (subst refuses bad.2 c.refuse.ensures)
       | inr long ↦ subst gives_up (sym long) (subst refuses long c.refuse.ensures)

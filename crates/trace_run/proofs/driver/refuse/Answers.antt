@@ -1,5 +1,6 @@
+-- The refusal is told with the counts of the lines before, and settled behind what was said.
 use Rattle.std.proofs.Common.{◌++◌, [], refl, subst}
-use Rattle.trace_run.specs.proving.Carrying.{EndsAs}
+use Rattle.trace_run.specs.proving.Ending.{EndsAs}
 use Rattle.trace_log.specs.Trace.{trace}
 use Rattle.trace_log.specs.declared.fault.Fault.{Fault}
 use Rattle.trace_log.specs.declared.summary.Summary.{Summary}
@@ -10,7 +11,7 @@ pub returns : goal.returns
 returns g c = λ first settings meanings received judged stands start said carried.
     let why = c.args.why in
     let T = trace settings meanings in
-    let refused = λ (summary : Summary) (why : Fault). g.M.Machine.refusal first T summary why (glimpse_value c.args.source) in
-    let counted = c.sum_up-summary.ensures settings [] meanings received refl judged in
+    let refused = λ (summary : Summary) (why : Fault). g.M.Machine.refusal first (glimpse_value c.args.source) T summary why in
+    let counted = c.summary-summary.ensures settings [] meanings received refl judged in
     subst (λ s. EndsAs why g.W.Target start (said ++ refused s why) c.settle_before.result c.settle_before.new.target) counted
-    (c.settle_before.ensures start (said ++ refused c.sum_up-summary.result why) (c.tell_refusal.ensures.says first T stands start said carried))
+    (c.settle_before.ensures start (said ++ refused c.summary-summary.result why) (c.tell_refusal.ensures.says first T stands start said carried))

@@ -1,3 +1,4 @@
+-- A run is what its lines told, and how it ended: each part of `Ran` is read off one of the two.
 use Rattle.std.proofs.Common.{◌⊎◌, ◌≡◌, ◌-◌, List, length, arith, ap, subst, ◌∙◌, Option, Err, ℕ, Bool, true}
 use Rattle.can_log.specs.declared.frame.Stamped.{Stamped}
 use Rattle.std.specs.List.{AllByRecursion}
@@ -8,15 +9,14 @@ use Rattle.trace_log.specs.Needing.{HasFrame, IsKeptForMessage}
 use Rattle.isotp_receive.specs.declared.TheConstants.{MESSAGE_LIMIT}
 use Rattle.trace_run.specs.declared.telling.Telling.{Telling}
 use Rattle.trace_run.specs.declared.receiver.Receiver.{Receiver}
-use Rattle.isotp_receive.specs.Trace.{Entry}
-use Rattle.trace_log.specs.declared.fault.Fault.{Fault}
-use Rattle.trace_log.specs.declared.summary.Summary.{Summary}
-use Rattle.trace_run.specs.proving.Carrying.{EndsTelling, GivesUp}
-use Rattle.trace_run.specs.Told.{Glimpse, Script, StopsNothingWithin, AnswersTold, TellsEagerly, glimpse_of, told_with}
+use Rattle.trace_run.specs.proving.Ending.{EndsTelling, GivesUp}
+use Rattle.trace_run.specs.Told.{GlimpseValue, Script, StopsNothingWithin, AnswersTold, TellsEagerly, glimpse_of}
 use Rattle.trace_log.specs.Answers.{ReadsWhile}
 use Rattle.trace_log.specs.Feeding.{TakesFront}
 use Rattle.trace_run.proofs.Runs.{TookLines, IsRunStart, starts_run, has_received}
-use Rattle.trace_run.proofs.Tellings.{eagerly_with, ends_with, needed, never_memory, eagerly, more_given_up, wrote_no_line, reads_near, ToldEvents, HasToldNothing, told_none, takes_nothing, gives, told_of_fault, known, fails_so, left_alone_so, reads_so, known_then, told_at_the_end}
+use Rattle.trace_run.proofs.ToldRuns.{needed, eagerly, more_given_up, wrote_no_line, ToldEvents, HasToldNothing, told_none, takes_nothing, gives, told_of_fault, known}
+use Rattle.trace_run.proofs.EndedRuns.{never_memory, fails_so, left_alone_so, reads_so, known_then, told_at_the_end}
+use Rattle.trace_run.proofs.StoppedLines.{reads_near}
 use Rattle.trace_log.proofs.Promises.{some_log, when_ok}
 use Rattle.trace_run.proofs.driver.run.Given.{Over}
 use Rattle.trace_run.proofs.driver.run.Goals.{After-start-receiver, After-finish, After-give_up}
@@ -49,10 +49,10 @@ near g c log given failures failures_now reads =
 
 -- how the run ended on a fault, by what was seen of its source
 gives_up : (g : Over) (c : After-give_up g)
-    → GivesUp g.M.Machine.stands (λ m. told_with (g.M.Machine.script m) (g.M.Machine.refusal m) (glimpse_of g.R.Source c.feed_lines.new.reader)) g.W.Target c.in-Err.fault c.feed_lines.new.taker c.feed_lines.new.device c.give_up.result c.give_up.new.target
+    → GivesUp g.M.Machine.stands (λ m. g.M.Machine.refusal m (glimpse_of g.R.Source c.feed_lines.new.reader)) g.W.Target c.in-Err.fault c.feed_lines.new.taker c.feed_lines.new.device c.give_up.result c.give_up.new.target
 gives_up g c =
     let M = g.M.Machine in
-    subst (λ (source : Glimpse). GivesUp M.stands (λ m. told_with (M.script m) (M.refusal m) source) g.W.Target c.in-Err.fault c.feed_lines.new.taker c.feed_lines.new.device c.give_up.result c.give_up.new.target)
+    subst (λ (source : GlimpseValue). GivesUp M.stands (λ m. M.refusal m source) g.W.Target c.in-Err.fault c.feed_lines.new.taker c.feed_lines.new.device c.give_up.result c.give_up.new.target)
     c.of.ensures c.give_up.ensures
 
 pub returns-in-Err : goal.returns-in-Err
@@ -63,30 +63,30 @@ returns-in-Err g c =
     let at = (goal.at.returns-in-Err g c).After-start-receiver in
     let now : Receiver g.row.M.Denot g.row.W.Denot × g.row.W.Denot = (c.feed_lines.new.taker, c.feed_lines.new.device) in
     let source = glimpse_of g.R.Source c.feed_lines.new.reader in
-    let refusal = λ (m : g.row.M.Denot) (T : List Entry) (summary : Summary) (why : Fault). M.refusal m T summary why source in
+    let refusals = λ (m : g.row.M.Denot). M.refusal m source in
     let given_up = gives_up g c in
     let none = takes_nothing M.stands M.script M.needs W (start g at) in
     let known_of =
-    known M.stands M.script M.needs W settings (start g at) now (begun g at) c.requires.writer refusal c.give_up.new.target Bool c.in-Err.fault c.give_up.result
+    known M.stands M.script M.needs W settings (start g at) now (begun g at) c.requires.writer refusals c.give_up.new.target Bool c.in-Err.fault c.give_up.result
     (c.in-Err.ensures.takes (start g at) none) given_up in
     record {
       ran = record {
         answer = λ log agrees.
-            subst (λ m. AnswersTold (told_with (M.script m) (M.refusal m) source) (M.answers m) MESSAGE_LIMIT settings log (length (g.R.Source.given c.feed_lines.new.reader) - length (g.R.Source.given c.args.reader.now)) (Err c.give_up.result)
+            subst (λ m. AnswersTold (M.script m) (M.refusal m source) (M.answers m) MESSAGE_LIMIT settings log (length (g.R.Source.given c.feed_lines.new.reader) - length (g.R.Source.given c.args.reader.now)) (Err c.give_up.result)
             (W.taken c.args.writer.now) (W.taken c.give_up.new.target)) (same_machine g at)
-            (told_of_fault M.stands M.script M.needs W settings (start g at) now (begun g at) c.requires.writer refusal c.give_up.new.target (M.answers c.start-receiver.result.telling.machine) log
+            (told_of_fault M.stands M.script M.needs W settings (start g at) now (begun g at) c.requires.writer refusals c.give_up.new.target (M.answers c.start-receiver.result.telling.machine) log
             (length (g.R.Source.given c.feed_lines.new.reader) - length (g.R.Source.given c.args.reader.now)) c.in-Err.fault c.give_up.result c.max_bytes.result c.max_bytes.ensures.value
             (c.in-Err.ensures.lines log agrees (start g at) none) given_up);
         eager = λ log agrees.
-            eagerly_with (M.script c.args.machine) (refusal c.args.machine) MESSAGE_LIMIT settings log _ _ _ (subst (λ (script : Script). TellsEagerly script MESSAGE_LIMIT settings log (length (g.R.Source.given c.feed_lines.new.reader) - length (g.R.Source.given c.args.reader.now))
+            subst (λ (script : Script). TellsEagerly script MESSAGE_LIMIT settings log (length (g.R.Source.given c.feed_lines.new.reader) - length (g.R.Source.given c.args.reader.now))
             (W.taken c.args.writer.now) (W.taken c.give_up.new.target)) (same_script g at)
             (eagerly M.stands M.script M.needs W settings (start g at) now (begun g at) c.requires.writer log (length (g.R.Source.given c.feed_lines.new.reader) - length (g.R.Source.given c.args.reader.now))
             (c.in-Err.ensures.eager log agrees (start g at) none (wrote_no_line M.stands M.script M.needs W (start g at))) c.give_up.new.target
-            (more_given_up M.stands M.script M.needs W settings (start g at) now (begun g at) c.requires.writer refusal c.give_up.new.target Bool c.in-Err.fault c.give_up.result
-            (c.in-Err.ensures.takes (start g at) none) given_up)));
+            (more_given_up M.stands M.script M.needs W settings (start g at) now (begun g at) c.requires.writer refusals c.give_up.new.target Bool c.in-Err.fault c.give_up.result
+            (c.in-Err.ensures.takes (start g at) none) given_up));
         memory = λ log agrees refused.
             subst (λ m. HasFrame (λ T e. IsKeptForMessage MESSAGE_LIMIT T e ⊎ M.needs m T e) settings log) (same_machine g at)
-            (needed M.stands M.script M.needs W settings (start g at) now (begun g at) c.requires.writer refusal c.give_up.new.target log
+            (needed M.stands M.script M.needs W settings (start g at) now (begun g at) c.requires.writer refusals c.give_up.new.target log
             (length (g.R.Source.given c.feed_lines.new.reader) - length (g.R.Source.given c.args.reader.now)) c.in-Err.fault c.give_up.result c.max_bytes.result c.max_bytes.ensures.value
             (c.in-Err.ensures.lines log agrees (start g at) none) given_up (cc refused));
         near = λ log agrees. near g at log _ _ _ (c.in-Err.ensures.near log agrees (start g at) none);
@@ -112,7 +112,7 @@ returns-in-Err g c =
     }
 
 -- how the run ends, after lines that mean this
-ends : (g : Over) (c : After-finish g) (log : List ℕ) (meanings : List (Option Stamped)) → c.in-Ok.ended ≡ ends_in_line_feed log
+ends : (g : Over) (c : After-finish g) (log : List ℕ) (meanings : List (Option Stamped)) → c.in-Ok.ends_in_line_feed ≡ ends_in_line_feed log
     → TookLines (ToldEvents g.M.Machine.stands g.M.Machine.script g.M.Machine.needs g.W.Target) (c.start-receiver.result, c.args.writer.now) meanings (c.feed_lines.new.taker, c.feed_lines.new.device)
     → EndsTelling g.W.Target (g.M.Machine.script c.args.machine) (g.M.Machine.answers c.args.machine) c.args.writer.now c.args.config.now log meanings c.finish.result c.finish.new.target
 ends g c log meanings feed lines =
@@ -142,10 +142,10 @@ returns-in-Ok g c =
     let W = g.W.Target in
     let settings = c.args.config.now in
     let at = (goal.at.returns-in-Ok g c).After-start-receiver in
-    let refused = λ (T : List Entry) (summary : Summary) (why : Fault). M.refusal c.args.machine T summary why (glimpse_of g.R.Source c.feed_lines.new.reader) in
+    let refusal = M.refusal c.args.machine (glimpse_of g.R.Source c.feed_lines.new.reader) in
     let none = takes_nothing M.stands M.script M.needs W (start g at) in
     let takes = c.in-Ok.ensures.takes (start g at) none in
-    let some = some_log c.in-Ok.ended in
+    let some = some_log c.in-Ok.ends_in_line_feed in
     let end = ends g c some.0 takes.0 some.1 takes.2 in
     let script = M.script c.args.machine in
     let known_of = known_then W script (M.answers c.args.machine) c.args.writer.now c.finish.new.target settings some.0 takes.0 c.finish.result end in
@@ -153,19 +153,19 @@ returns-in-Ok g c =
       ran = record {
         answer = λ log agrees.
             let read = c.in-Ok.ensures.lines log agrees (start g at) none in
-            told_at_the_end W (record script { refused = refused }) (M.answers c.args.machine) c.args.writer.now c.finish.new.target settings log (length (g.R.Source.given c.feed_lines.new.reader) - length (g.R.Source.given c.args.reader.now)) read.0 c.finish.result
+            told_at_the_end W script (M.answers c.args.machine) c.args.writer.now c.finish.new.target settings refusal log (length (g.R.Source.given c.feed_lines.new.reader) - length (g.R.Source.given c.args.reader.now)) read.0 c.finish.result
             (omega (arith, read.1, c.max_bytes.ensures.value)) read.2 read.3 (within g c read.0 read.5)
-            (ends_with W script refused (M.answers c.args.machine) c.args.writer.now settings log read.0 c.finish.result c.finish.new.target (ends g c log read.0 read.6 read.5));
+            (ends g c log read.0 read.6 read.5);
         eager = λ log agrees.
             let lines = c.in-Ok.ensures.lines log agrees (start g at) none in
             let now : Receiver g.row.M.Denot g.row.W.Denot × g.row.W.Denot = (c.feed_lines.new.taker, c.feed_lines.new.device) in
-            eagerly_with script refused MESSAGE_LIMIT settings log _ _ _ (subst (λ (script : Script). TellsEagerly script MESSAGE_LIMIT settings log (length (g.R.Source.given c.feed_lines.new.reader) - length (g.R.Source.given c.args.reader.now))
+            subst (λ (script : Script). TellsEagerly script MESSAGE_LIMIT settings log (length (g.R.Source.given c.feed_lines.new.reader) - length (g.R.Source.given c.args.reader.now))
             (W.taken c.args.writer.now) (W.taken c.finish.new.target)) (same_script g at)
             (eagerly M.stands M.script M.needs W settings (start g at) now (begun g at) c.requires.writer log (length (g.R.Source.given c.feed_lines.new.reader) - length (g.R.Source.given c.args.reader.now))
             (c.in-Ok.ensures.eager log agrees (start g at) none (wrote_no_line M.stands M.script M.needs W (start g at))) c.finish.new.target
             (λ mid said carried. c.finish.ensures.more mid said c.start-receiver.result.telling.machine settings lines.0
             (has_received (ToldEvents M.stands M.script M.needs W) settings (start g at) now (begun g at) lines.0 lines.5)
-            (gives M.stands M.script M.needs W settings (start g at) now (begun g at) c.requires.writer lines.0 lines.5).machine_stands carried)));
+            (gives M.stands M.script M.needs W settings (start g at) now (begun g at) c.requires.writer lines.0 lines.5).machine_stands carried));
         memory = λ log agrees refused. absurd (never_memory W script (M.answers c.args.machine) c.args.writer.now c.finish.new.target settings some.0 takes.0 c.finish.result end refused);
         near = λ log agrees. near g at log _ _ _ (c.in-Ok.ensures.near log agrees (start g at) none);
         configured = c.max_bytes.ensures.settings;

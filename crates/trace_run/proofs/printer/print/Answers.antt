@@ -1,3 +1,4 @@
+-- On a blank page all of the text was said; it is settled, or a front of it is written.
 use Rattle.std.proofs.Common.{[], subst}
 use Rattle.std.specs.Prelude.{not}
 use Rattle.trace_run.specs.proving.Carrying.{Carries}

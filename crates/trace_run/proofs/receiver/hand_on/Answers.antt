@@ -1,3 +1,4 @@
+-- The event that is built anew in an arm is the one that was given.
 use Rattle.std.proofs.Common.{ap, sym, ◌∙◌}
 use Rattle.isotp_receive.specs.EventSeen.{seen_event}
 use Rattle.trace_run.proofs.receiver.hand_on.Goals as goal

@@ -1,3 +1,4 @@
+-- The counts of the lines, with what stands and what is pending, are the summary.
 use Rattle.std.proofs.Common.{arith, ◌∙◌}
 use Rattle.isotp_receive.specs.declared.TheConstants.{MESSAGE_LIMIT}
 use Rattle.trace_log.specs.Messages.{messages_of_lines}
@@ -7,5 +8,5 @@ use Rattle.trace_run.proofs.summing.sum_up.Goals as goal
 
 pub returns : goal.returns
 returns c = λ settings log meanings received feed judged.
-    summed_up settings log meanings c.args.pair.now c.args.lines c.saturating_add.result c.args.counts c.unfinished.result c.removed.result c.args.ended c.look_exchanged.result received feed (omega arith) c.saturating_add.ensures
-    (c.unfinished.ensures (trace settings meanings) received.pair_is) (c.removed.ensures ∙ judged.judged.removed) (c.look_exchanged.ensures (messages_of_lines MESSAGE_LIMIT settings meanings) (c.sides.ensures ∙ judged.sides))
+    summed_up settings log meanings c.args.pair.now c.args.lines c.saturating_add.result c.args.counts c.unfinished.result c.removed.result c.args.ends_in_line_feed c.look_exchanged.result received feed (omega arith) c.saturating_add.ensures
+    (c.unfinished.ensures (trace settings meanings) received.pair_is) (c.removed.ensures ∙ judged.counted.removed) (c.look_exchanged.ensures (messages_of_lines MESSAGE_LIMIT settings meanings) (c.sides.ensures ∙ judged.sides))

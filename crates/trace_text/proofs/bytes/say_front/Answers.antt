@@ -1,3 +1,4 @@
+-- The digits of the first bytes stand in front of those of eight.
 use Rattle.std.proofs.Common.{◌≡◌, ℕ, ◌*◌, ◌/◌, ◌%◌, List, [], ◌∷◌, take, arith, ap, subst, refl, ◌∙◌}
 use Prim.Native.Nat.{zero, suc}
 use Rattle.std.specs.List.{flat_map}

@@ -1,3 +1,4 @@
+-- The pairs of the table are the digits of their numbers.
 use Rattle.trace_text.proofs.Pairs.{pair_at}
 use Rattle.trace_text.proofs.digits.two_decimals.Goals as goal
 

@@ -1,5 +1,6 @@
+-- Each item adds its line, numbered by its place.
 use Rattle.std.proofs.Common.{sym, arith, ap, subst, take_all}
-use Rattle.trace_text.specs.ListText.{list_text}
+use Rattle.trace_text.specs.ItemLines.{list_text}
 use Rattle.trace_text.proofs.ItemLines.{more_lines, is_there}
 use Rattle.trace_text.proofs.item_lines.say_items.Goals as goal
 use Rattle.trace_text.proofs.item_lines.say_items.Goals.{in-Some, in_default}
@@ -13,8 +14,8 @@ items-preserved g c =
     elim c.match-item.branch [
       | in-Some w ↦
           rw w.out-is
-          (subst (λ text. g.S.TextSink.says c.args.out.now text w.say_item.new.out) (sym (more_lines c.args.style its c.items.i _ (sym w.in-Some.ensures)))
-          (g.met.S.TextSink.onward _ _ _ _ _ c.items.invariant w.say_item.ensures))
+          (subst (λ text. g.S.TextSink.says c.args.out.now text w.say_item_line.new.out) (sym (more_lines c.args.style its c.items.i _ (sym w.in-Some.ensures)))
+          (g.met.S.TextSink.onward _ _ _ _ _ c.items.invariant w.say_item_line.ensures))
       | in_default w ↦ absurd (is_there its c.items.i (omega (arith, c.len-i-end.ensures)) (sym w.in_default.ensures))
     ]
 

@@ -1,3 +1,4 @@
+-- The open object and its end are the object of the definition.
 use Rattle.std.proofs.Common.{subst}
 use Rattle.uds_exchange.specs.ItemSeen.{item_value}
 use Rattle.trace_text.proofs.ItemObjects.{object_is}
@@ -5,5 +6,5 @@ use Rattle.trace_text.proofs.item_objects.say_item_object.Goals as goal
 
 pub returns : goal.returns
 returns g c =
-    subst (λ text. g.S.TextSink.says c.args.out.now text c.say.new.out) (object_is c.args.numbering c.args.number (item_value c.args.item))
-    c.say.ensures
+    subst (λ text. g.S.TextSink.says c.args.out.now text c.say_closed.new.out) (object_is c.args.numbering c.args.number (item_value c.args.item))
+    c.say_closed.ensures

@@ -1,3 +1,4 @@
+-- A number of up to twelve digits is its front and two times four digits behind.
 use Rattle.std.proofs.Common.{◌++◌, ◌/◌, ◌%◌, arith, ap₂, refl, subst, ◌∙◌}
 use Rattle.std.specs.Fmt.{decimal}
 use Rattle.trace_text.proofs.Decimals.{and_eight}

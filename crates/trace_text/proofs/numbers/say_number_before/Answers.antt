@@ -1,3 +1,4 @@
+-- By its length, a number is one digit, a pair of the table, or the last of four digits.
 use Rattle.std.proofs.Common.{◌++◌, take, drop, arith, ap, subst, ◌∙◌}
 use Rattle.trace_text.proofs.Decimals.{one_digit, two_digits, three_digits, four_digits}
 use Rattle.trace_text.proofs.numbers.say_number_before.Goals as goal

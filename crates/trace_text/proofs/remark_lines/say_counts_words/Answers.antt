@@ -1,3 +1,4 @@
+-- The first count, and the others each behind a space.
 use Rattle.std.proofs.Common.{subst}
 use Rattle.trace_text.proofs.RemarkLines.{counts_are}
 use Rattle.trace_text.proofs.remark_lines.say_counts_words.Goals as goal

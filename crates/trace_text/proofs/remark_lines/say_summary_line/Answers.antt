@@ -1,5 +1,6 @@
+-- The counts that are said are those that have names.
 use Rattle.std.proofs.Common.{◌++◌, ap, codes, subst}
-use Rattle.trace_text.specs.ExplainText.{counts_text}
+use Rattle.trace_text.specs.RemarkLines.{counts_text}
 use Rattle.trace_text.proofs.remark_lines.say_summary_line.Goals as goal
 
 pub returns : goal.returns

@@ -1,3 +1,4 @@
+-- The counts that are said are the members behind the first one.
 use Rattle.std.proofs.Common.{subst}
 use Rattle.trace_text.proofs.RemarkObjects.{counts_object}
 use Rattle.trace_text.proofs.remark_objects.say_summary_object.Goals as goal

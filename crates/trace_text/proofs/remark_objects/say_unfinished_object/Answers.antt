@@ -1,3 +1,4 @@
+-- The members that are said are those of the definition.
 use Rattle.std.proofs.Common.{subst}
 use Rattle.trace_text.proofs.RemarkObjects.{unfinished_object}
 use Rattle.trace_text.proofs.remark_objects.say_unfinished_object.Goals as goal

@@ -1,3 +1,4 @@
+-- Messages that were put as strays are these items.
 use Rattle.std.proofs.Common.{map, sym, subst}
 use Rattle.uds_exchange.specs.ItemSink.{PutsItems}
 use Rattle.uds_exchange.specs.Meaning.{stray_of}

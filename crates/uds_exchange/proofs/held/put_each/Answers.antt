@@ -1,3 +1,4 @@
+-- The messages so far were put; the next one is put, or its fault is handed on.
 use Rattle.std.proofs.Common.{sym, subst, ◌∙◌, ap, arith}
 use Rattle.direction.specs.declared.Dir.TheVariants.{Tester}
 use Rattle.uds_exchange.specs.declared.held.HeldMessage.{HeldMessage}

@@ -1,3 +1,4 @@
+-- The message was put and then those that are held, or a front of them, and then came the fault.
 use Rattle.uds_exchange.proofs.Putting.{fails-first, fails-cons}
 use Rattle.uds_exchange.proofs.Variants.{if_err_along, handed_on}
 use Rattle.uds_exchange.proofs.judged_orderer.put_before.Goals as goal

@@ -1,3 +1,4 @@
+-- Those that are held were put and then the message, or a front of them, and then came the fault.
 use Rattle.std.proofs.Common.{refl}
 use Rattle.uds_exchange.proofs.Putting.{fails-front, puts-append}
 use Rattle.uds_exchange.proofs.Variants.{on_ok_along, handed_on}

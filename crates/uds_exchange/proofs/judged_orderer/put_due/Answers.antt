@@ -1,3 +1,4 @@
+-- What is put by each step is what is due by it.
 use Rattle.uds_exchange.specs.Judging.{sent}
 use Rattle.uds_exchange.proofs.Putting.{fails-first}
 use Rattle.uds_exchange.proofs.Variants.{if_err_along}

@@ -4,7 +4,7 @@ use Rattle.uds_find.specs.Finding.{credit_line}
 use Rattle.uds_find.proofs.finder.lines_of.Given as goal
 
 abbrev pub invariant-pairs : goal.invariant-pairs
-invariant-pairs l = l.lines.items ++ map credit_line l.rest.entries ≡ map credit_line l.fn.pairs.entries
+invariant-pairs l = l.lines.items ++ map credit_line l.rest.entries ≡ map credit_line l.fn.credits.entries
 
 abbrev pub decreases-pairs : goal.decreases-pairs
 decreases-pairs l = length l.rest.entries

@@ -2,7 +2,7 @@ use Rattle.std.proofs.Common.{◌-◌, ℕ, List, length, subst}
 use Rattle.isotp_receive.specs.declared.TheConstants.{MESSAGE_LIMIT}
 use Rattle.trace_run.specs.Told.{AnswersTold, TellsEagerly, answers_counts}
 use Rattle.trace_report.specs.Front.{page_title}
-use Rattle.trace_report.specs.Page.{report_script}
+use Rattle.trace_report.specs.Page.{refused_text, report_script}
 use Rattle.trace_run.specs.Told.{glimpse_of}
 use Rattle.udsnorm.proofs.commands.call_engine.Goals as goal
 
@@ -32,12 +32,12 @@ returns-in-Report g c =
       ran = rw c.in-Report.is (record {
         answer = λ log agrees. (
           c.report_style.result.now,
-          subst (λ (name : List ℕ). AnswersTold (report_script (page_title c.report_style.result.now name settings) MESSAGE_LIMIT seen) answers_counts MESSAGE_LIMIT settings log (length (g.R.Source.given c.report.new.reader) - length (g.R.Source.given c.args.input.now)) c.report.result (g.W.Target.taken c.args.out.now) (g.W.Target.taken c.report.new.writer)) c.as_bytes.ensures.value
+          subst (λ (name : List ℕ). AnswersTold (report_script (page_title c.report_style.result.now name settings) MESSAGE_LIMIT) (refused_text (page_title c.report_style.result.now name settings) MESSAGE_LIMIT seen) answers_counts MESSAGE_LIMIT settings log (length (g.R.Source.given c.report.new.reader) - length (g.R.Source.given c.args.input.now)) c.report.result (g.W.Target.taken c.args.out.now) (g.W.Target.taken c.report.new.writer)) c.as_bytes.ensures.value
               (ran.answer log agrees),
         );
         eager = λ log agrees. (
           c.report_style.result.now,
-          subst (λ (name : List ℕ). TellsEagerly (report_script (page_title c.report_style.result.now name settings) MESSAGE_LIMIT seen) MESSAGE_LIMIT settings log (length (g.R.Source.given c.report.new.reader) - length (g.R.Source.given c.args.input.now)) (g.W.Target.taken c.args.out.now) (g.W.Target.taken c.report.new.writer)) c.as_bytes.ensures.value
+          subst (λ (name : List ℕ). TellsEagerly (report_script (page_title c.report_style.result.now name settings) MESSAGE_LIMIT) MESSAGE_LIMIT settings log (length (g.R.Source.given c.report.new.reader) - length (g.R.Source.given c.args.input.now)) (g.W.Target.taken c.args.out.now) (g.W.Target.taken c.report.new.writer)) c.as_bytes.ensures.value
               (ran.eager log agrees),
         );
         memory = c.report.ensures.ran.memory (λ T e none. none);

@@ -1,7 +1,8 @@
 use Rattle.std.proofs.Common.{◌≤◌, ◌==◌, ◌++◌, ◌∙◌, List, ℕ, length, ap, sym, subst}
 use Rattle.std.specs.Prelude.{codes}
 use Rattle.std.specs.Fmt.{decimal}
-use Rattle.udsnorm.specs.FaultLines.{clause, lacks_line_feed}
+use Rattle.trace_log.specs.Summing.{lacks_line_feed}
+use Rattle.udsnorm.specs.FaultLines.{clause}
 use Rattle.udsnorm.proofs.LineParts.{are_unclean_text, clause_is_short, unclean_text_fits}
 use Rattle.udsnorm.proofs.fault_lines.unclean_line.Goals as goal
 

@@ -7,7 +7,7 @@ use Rattle.trace_log.specs.declared.fault.Fault.TheVariants as fault
 use Rattle.trace_report.specs.PairPage.{pair_page, pair_title}
 use Rattle.udsnorm.specs.Commands.{ComparesPair, PagesPair, text_of_difference}
 use Rattle.udsnorm.specs.proving.Pairs.{answer_held, cause_in, text_of_answer}
-use Rattle.trace_report.specs.declared.cause.Cause.{Cause}
+use Rattle.trace_report.specs.declared.cause.RefusalCause.{RefusalCause}
 use Rattle.trace_run.specs.Told.{glimpse_of}
 use Rattle.udsnorm.specs.declared.pair_jobs.PairAnswer.{PairAnswer}
 use Rattle.udsnorm.proofs.Pairs.{compared_pair, fault_compared, fault_held, pages_pair, read_told, refused_pair}
@@ -92,7 +92,7 @@ returns-clause-engine g c =
     rw c.in-Report.is (
       text,
       λ one other agrees_one agrees_other. subst (λ (told : Result PairAnswer CompareFault). PagesPair left right left_seen right_seen c.args.strict MESSAGE_LIMIT settings one other told text) (sym c.answer_held.ensures)
-          (subst (λ (cause : Option Cause). PagesPair left right left_seen right_seen c.args.strict MESSAGE_LIMIT settings one other (answer_held c.keep_two-answer.result) (page_with cause)) (sym cause_is)
+          (subst (λ (cause : Option RefusalCause). PagesPair left right left_seen right_seen c.args.strict MESSAGE_LIMIT settings one other (answer_held c.keep_two-answer.result) (page_with cause)) (sym cause_is)
           (pages_pair page.0 left right left_seen right_seen c.args.strict MESSAGE_LIMIT settings one other c.keep_two-answer.result (c.keep_two-answer.ensures.answer one other agrees_one agrees_other))),
       page.1,
     )

@@ -1,4 +1,4 @@
-use Rattle.udsnorm_c.proofs.PairsTold.{clean_compare, clean_report_pair}
+use Rattle.udsnorm_c.proofs.PairsTold.{clean_compare, clean_diff, clean_report_pair}
 use Rattle.udsnorm_c.proofs.Recorded.{clean_explain, clean_list, clean_messages, clean_normalise, clean_report}
 use Rattle.udsnorm_c.proofs.laws.clean_answer_is_recording.Goals as goal
 
@@ -19,6 +19,9 @@ returns-clause-report c = clean_report c.clean_log_has_both_sides.ensures
 
 pub returns-clause-compare : goal.returns-clause-compare
 returns-clause-compare c = clean_compare c.clean_log_has_both_sides.ensures
+
+pub returns-clause-diff : goal.returns-clause-diff
+returns-clause-diff c = clean_diff c.clean_log_has_both_sides.ensures
 
 pub returns-clause-report_pair : goal.returns-clause-report_pair
 returns-clause-report_pair c = clean_report_pair c.clean_log_has_both_sides.ensures

@@ -1,3 +1,4 @@
+-- The parts up to the place of the loop are said.
 use Rattle.std.proofs.Common.{take}
 use Rattle.std.specs.List.{flat_map}
 use Rattle.text_parts.proofs.choices.EachPart.say.Given as goal

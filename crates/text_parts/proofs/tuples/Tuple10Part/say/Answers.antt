@@ -1,3 +1,4 @@
+-- The ten texts are said one after another.
 use Rattle.text_parts.proofs.tuples.Tuple10Part.say.Goals as goal
 
 pub returns : goal.returns

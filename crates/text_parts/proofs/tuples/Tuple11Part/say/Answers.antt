@@ -1,3 +1,4 @@
+-- The eleven texts are said one after another.
 use Rattle.text_parts.proofs.tuples.Tuple11Part.say.Goals as goal
 
 pub returns : goal.returns

@@ -1,3 +1,4 @@
+-- The twelve texts are said one after another.
 use Rattle.text_parts.proofs.tuples.Tuple12Part.say.Goals as goal
 
 pub returns : goal.returns

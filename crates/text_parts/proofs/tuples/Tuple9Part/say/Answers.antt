@@ -1,3 +1,4 @@
+-- The nine texts are said one after another.
 use Rattle.text_parts.proofs.tuples.Tuple9Part.say.Goals as goal
 
 pub returns : goal.returns

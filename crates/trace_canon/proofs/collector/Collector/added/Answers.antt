@@ -1,3 +1,4 @@
+-- A message adds the lines that it has where it has a place, and else nothing.
 use Rattle.std.proofs.Common.{ap, sym, ◌∙◌}
 use Rattle.uds_exchange.specs.Judging.{sent, step_after}
 use Rattle.uds_exchange.proofs.Promises.{one_more_is_put_in}

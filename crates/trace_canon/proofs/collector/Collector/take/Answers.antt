@@ -1,3 +1,4 @@
+-- Beyond the limit nothing is kept any more; within it the items are those of one more message.
 use Rattle.std.proofs.Common.{◌≡◌, ◌<◌, ◌≤◌, arith, ap, sym, subst, ◌+◌, ◌++◌, ◌∷◌, [], inl, inr}
 use Rattle.std.proofs.lemmas.Bool.{cases_lt}
 use Rattle.uds_exchange.specs.Judging.{sent}

@@ -1,3 +1,4 @@
+-- What was collected is answered where its canonical log is within the limit.
 use Rattle.std.proofs.Common.{arith, ap}
 use Rattle.isotp_receive.specs.declared.TheConstants.{MESSAGE_LIMIT}
 use Rattle.isotp_receive.specs.Verdict.{messages}

@@ -1,3 +1,4 @@
+-- A frame that completes a message has it collected; another one leaves all as it was.
 use Rattle.std.proofs.Common.{sym, subst}
 use Rattle.std.proofs.lemmas.Result.{on_ok_weaker}
 use Rattle.isotp_receive.specs.declared.TheConstants.{MESSAGE_LIMIT}

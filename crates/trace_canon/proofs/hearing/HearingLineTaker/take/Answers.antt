@@ -1,3 +1,4 @@
+-- A line with a frame has one more heard, or needs memory for it; a blank one has none.
 use Rattle.std.proofs.Common.{refl}
 use Rattle.trace_log.proofs.Promises.{handed_on}
 use Rattle.trace_canon.proofs.Hearings.{heard_blank, heard_frame, heard_first}

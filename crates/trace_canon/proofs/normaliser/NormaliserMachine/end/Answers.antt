@@ -1,3 +1,4 @@
+-- What is held is said, and whether a line did not fit is whether the canonical log is too long.
 use Rattle.std.proofs.Common.{◌≡◌, Bool, true, false, ap, sym, ◌∙◌, Ok, Err}
 use Rattle.std.specs.Prelude.{if◌then◌else◌}
 use Rattle.isotp_receive.specs.declared.TheConstants.{MESSAGE_LIMIT}
@@ -10,13 +11,13 @@ use Rattle.trace_canon.proofs.normaliser.NormaliserMachine.end.Goals as goal
 pub returns-then-is_over-clause-answered : goal.returns-then-is_over-clause-answered
 returns-then-is_over-clause-answered g c = λ start T stands pair.
     let self = c.args.self in
-    let over = over_at_end start.config self.config T self.orderer self.progress c.finish_to.new.progress stands (c.finish_to.ensures.progress (messages MESSAGE_LIMIT T) stands.ordered) in
+    let over = over_at_end start.config self.config T self.orderer self.progress c.say_held.new.progress stands (c.say_held.ensures.progress (messages MESSAGE_LIMIT T) stands.ordered) in
     let is : is_too_long start.config T ≡ true = sym over ∙ sym c.is_over.ensures ∙ c.if-is_over.true in
     ap (λ (b : Bool). if b then Err OutputLimit else Ok c.args.summary.now) (sym is)
 
 pub returns-clause-answered : goal.returns-clause-answered
 returns-clause-answered g c = λ start T stands pair.
     let self = c.args.self in
-    let over = over_at_end start.config self.config T self.orderer self.progress c.finish_to.new.progress stands (c.finish_to.ensures.progress (messages MESSAGE_LIMIT T) stands.ordered) in
+    let over = over_at_end start.config self.config T self.orderer self.progress c.say_held.new.progress stands (c.say_held.ensures.progress (messages MESSAGE_LIMIT T) stands.ordered) in
     let is : is_too_long start.config T ≡ false = sym over ∙ sym c.is_over.ensures ∙ c.if-is_over.false in
     ap (λ (b : Bool). if b then Err OutputLimit else Ok c.args.summary.now) (sym is)

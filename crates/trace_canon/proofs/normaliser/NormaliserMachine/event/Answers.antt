@@ -1,3 +1,4 @@
+-- A frame that completes a message has what is then due said; another one says nothing.
 use Rattle.std.proofs.lemmas.Result.{on_err_weaker}
 use Rattle.isotp_receive.specs.declared.TheConstants.{MESSAGE_LIMIT}
 use Rattle.isotp_receive.specs.Verdict.{messages}
@@ -8,22 +9,22 @@ use Rattle.trace_canon.proofs.CanonicalMachines.{completes_held, says_next, says
 use Rattle.trace_canon.proofs.normaliser.NormaliserMachine.event.Goals as goal
 
 pub returns-clause-ok : goal.returns-clause-ok
-returns-clause-ok g c = two_ok c.order_to.result (λ stands says start T e seen stood.
+returns-clause-ok g c = two_ok c.say_due.result (λ stands says start T e seen stood.
     let M = messages MESSAGE_LIMIT T in
     let self = c.args.self.now in
     let message = c.in-Some.message in
     let completes = completes_judged T e c.args.seen message seen c.in-Some.is in
     says_next g.S.TextSink.says start.config self.config T e (sent message) self.orderer _ self.progress _ c.args.out.now _ completes.next stood
-    (stands M stood.ordered completes.step) (says M stood.ordered completes.step)) c.order_to.ensures.stands c.order_to.ensures.says
+    (stands M stood.ordered completes.step) (says M stood.ordered completes.step)) c.say_due.ensures.stands c.say_due.ensures.says
 
 pub returns-clause-err : goal.returns-clause-err
-returns-clause-err g c = on_err_weaker c.order_to.result (λ refused start T stood. refused.1) c.order_to.ensures.refused
+returns-clause-err g c = on_err_weaker c.say_due.result (λ refused start T stood. refused.1) c.say_due.ensures.refused
 
 pub returns-clause-needs : goal.returns-clause-needs
-returns-clause-needs g c = on_err_weaker c.order_to.result (λ held start T e seen stood.
+returns-clause-needs g c = on_err_weaker c.say_due.result (λ held start T e seen stood.
     let message = c.in-Some.message in
     let completes = completes_judged T e c.args.seen message seen c.in-Some.is in
-    completes_held T e message completes (held (messages MESSAGE_LIMIT T) stood.ordered completes.step)) c.order_to.ensures.held
+    completes_held T e message completes (held (messages MESSAGE_LIMIT T) stood.ordered completes.step)) c.say_due.ensures.held
 
 pub returns-in_default-clause-ok : goal.returns-in_default-clause-ok
 returns-in_default-clause-ok g c = λ start T e seen stood.

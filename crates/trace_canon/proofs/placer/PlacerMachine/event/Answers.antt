@@ -1,3 +1,4 @@
+-- The message that a frame completes is said with the place of its first frame; then the starts are moved.
 use Rattle.std.proofs.Common.{subst, sym}
 use Rattle.trace_canon.proofs.PlacingScripts.{begun_next, judged_said, nothing_said}
 use Rattle.isotp_receive.specs.EventSeen.{seen_event}

@@ -1,3 +1,4 @@
+-- A frame that completes a message has the items said that it decides; another one says nothing.
 use Rattle.std.proofs.lemmas.Result.{on_err_weaker}
 use Rattle.isotp_receive.specs.declared.TheConstants.{MESSAGE_LIMIT}
 use Rattle.isotp_receive.specs.Verdict.{messages}
@@ -8,22 +9,22 @@ use Rattle.trace_canon.proofs.WatchScripts.{completes_kept, watches_next, watche
 use Rattle.trace_canon.proofs.watcher.WatcherMachine.event.Goals as goal
 
 pub returns-clause-ok : goal.returns-clause-ok
-returns-clause-ok g c = two_ok c.decide_to.result (λ stands says start T e seen stood.
+returns-clause-ok g c = two_ok c.say_decided.result (λ stands says start T e seen stood.
     let M = messages MESSAGE_LIMIT T in
     let self = c.args.self.now in
     let message = c.in-Some.message in
     let completes = completes_judged T e c.args.seen message seen c.in-Some.is in
     watches_next g.S.TextSink.says start.style self.style T e (sent message) self.decider _ self.number _ c.args.out.now _ seen.event.few completes.next stood
-    (stands M stood.decides completes.step) (says M stood.decides completes.step)) c.decide_to.ensures.stands c.decide_to.ensures.says
+    (stands M stood.decides completes.step) (says M stood.decides completes.step)) c.say_decided.ensures.stands c.say_decided.ensures.says
 
 pub returns-clause-err : goal.returns-clause-err
-returns-clause-err g c = on_err_weaker c.decide_to.result (λ quiet start T stood. quiet) c.decide_to.ensures.quiet
+returns-clause-err g c = on_err_weaker c.say_decided.result (λ quiet start T stood. quiet) c.say_decided.ensures.quiet
 
 pub returns-clause-needs : goal.returns-clause-needs
-returns-clause-needs g c = on_err_weaker c.decide_to.result (λ kept start T e seen stood.
+returns-clause-needs g c = on_err_weaker c.say_decided.result (λ kept start T e seen stood.
     let message = c.in-Some.message in
     let completes = completes_judged T e c.args.seen message seen c.in-Some.is in
-    completes_kept T e message completes (kept (messages MESSAGE_LIMIT T) stood.decides completes.step)) c.decide_to.ensures.kept
+    completes_kept T e message completes (kept (messages MESSAGE_LIMIT T) stood.decides completes.step)) c.say_decided.ensures.kept
 
 pub returns-in_default-clause-ok : goal.returns-in_default-clause-ok
 returns-in_default-clause-ok g c = λ start T e seen stood.

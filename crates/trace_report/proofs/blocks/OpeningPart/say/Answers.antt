@@ -1,3 +1,4 @@
+-- What begins before a row is by the tests that the definitions name.
 use Rattle.trace_report.proofs.blocks.OpeningPart.say.Goals as goal
 
 pub returns : goal.returns

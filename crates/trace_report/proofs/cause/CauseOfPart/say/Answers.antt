@@ -1,3 +1,4 @@
+-- The row that is said is that of the table of causes.
 use Rattle.std.proofs.Common.{subst}
 use Rattle.trace_report.specs.Causes.{CauseRowValue, row_text}
 use Rattle.trace_report.proofs.cause.CauseOfPart.say.Goals as goal

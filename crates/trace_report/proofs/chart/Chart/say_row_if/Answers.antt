@@ -1,3 +1,4 @@
+-- A row that is said is one more of the chart, with what its blocks begin.
 use Rattle.std.proofs.Common.{Option, arith, ap, subst, sym, [], ◌∷◌, ◌++◌, ◌∙◌}
 use Rattle.trace_report.specs.declared.blocks.Blocks.{Blocks}
 use Rattle.trace_report.specs.declared.row.Row.{Row}

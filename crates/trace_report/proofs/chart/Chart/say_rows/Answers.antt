@@ -1,3 +1,4 @@
+-- Three rows at the most are said one after another, each behind those before it.
 use Rattle.std.proofs.Common.{◌≡◌, ◌≤◌, Option, Some, None, List, arith, ap, subst, sym, ◌++◌, ◌∙◌, append_assoc, length}
 use Rattle.std.proofs.lemmas.List.{length-append}
 use Rattle.trace_report.specs.Rows.{RowValue}

@@ -1,10 +1,11 @@
+-- The rows of a frame, by whether it completed a message, and what the follower knows behind it.
 use Rattle.std.proofs.Common.{◌≡◌, refl, List, ap, sym, subst, ◌∙◌, [], ◌∷◌, ◌++◌}
 use Rattle.isotp_receive.specs.declared.TheConstants.{MESSAGE_LIMIT}
 use Rattle.isotp_receive.specs.EventSeen.{seen_event}
 use Rattle.isotp_receive.specs.Trace.{Entry}
 use Rattle.isotp_receive.specs.Verdict.{EventValue, messages, verdict}
 use Rattle.trace_canon.specs.MessageLines.{place_of}
-use Rattle.trace_canon.specs.declared.begun.FramePlace.{FramePlace}
+use Rattle.trace_canon.specs.declared.reception_starts.FramePlace.{FramePlace}
 use Rattle.trace_run.specs.Seen.{IsSeen}
 use Rattle.trace_run.specs.declared.machine.Seen.{Seen}
 use Rattle.trace_run.proofs.Promises.{completes_judged}

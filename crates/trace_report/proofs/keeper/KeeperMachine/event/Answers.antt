@@ -1,3 +1,4 @@
+-- The rows of a frame are kept behind those before it; only for rows is memory needed.
 use Rattle.std.proofs.Common.{◌∷◌, ◌++◌, [], arith, sym, ◌∙◌}
 use Rattle.std.proofs.lemmas.List.{length-append}
 use Rattle.isotp_receive.specs.declared.TheConstants.{MESSAGE_LIMIT}
@@ -9,7 +10,7 @@ returns-clause-ok g c = λ start T e seen known.
     let rows = c.take-rows.ensures.rows T e seen known.follows in (
       record {
         few = omega (arith, seen.event.few, length-append T (e ∷ []));
-        span = c.span_with.ensures T e known.span seen.event.micros;
+        times = c.times_with.ensures T e known.times seen.event.micros;
         follows = c.take-rows.ensures.next T e seen known.follows;
         rows = c.in_ok-keep_rows.ensures.kept ∙ (λ i. known.rows i ++ rows i) ∙ sym (rows_next MESSAGE_LIMIT T e);
       },

@@ -1,3 +1,4 @@
+-- The item at a place is the one of the messages that stand where it was noted.
 use Rattle.std.proofs.Common.{◌≤◌, length, ap, sym, refl, ◌∙◌, rules}
 use Rattle.std.specs.Prelude.{slice_get}
 use Rattle.std.proofs.lemmas.Option.{slice_get_read, slice_get_past}

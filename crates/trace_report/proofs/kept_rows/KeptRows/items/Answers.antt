@@ -1,3 +1,4 @@
+-- There are as many places of items as items.
 use Rattle.std.proofs.Common.{◌≡◌, length, ap, ◌∙◌, rules}
 use Rattle.trace_report.specs.Items.{items_in}
 use Rattle.trace_report.specs.proving.Keeping.{rows_at}

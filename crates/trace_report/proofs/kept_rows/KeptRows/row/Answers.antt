@@ -1,3 +1,4 @@
+-- A row that is lent is the one that was kept.
 use Rattle.std.proofs.Common.{◌≤◌, Some, length, ap, sym, refl, option_map, arith, ◌∙◌, rules}
 use Rattle.std.specs.Prelude.{slice_get}
 use Rattle.std.proofs.lemmas.List.{length-map}

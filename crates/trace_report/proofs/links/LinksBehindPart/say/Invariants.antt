@@ -1,3 +1,4 @@
+-- The links up to the place of the loop are said.
 use Rattle.std.proofs.Common.{take}
 use Rattle.trace_report.specs.Links.{links_behind}
 use Rattle.trace_report.proofs.links.LinksBehindPart.say.Given as goal

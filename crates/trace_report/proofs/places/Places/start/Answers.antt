@@ -1,3 +1,4 @@
+-- Before the first frame nothing has begun, and no frame is counted.
 use Rattle.direction.specs.declared.Dir.TheVariants.{Tester, Unit}
 use Rattle.trace_report.proofs.places.Places.start.Goals as goal
 

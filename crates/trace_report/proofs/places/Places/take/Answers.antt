@@ -1,7 +1,8 @@
+-- Where a message begins and how many frames carry it is known by what stood before.
 use Rattle.std.proofs.Common.{arith, ap, ◌∙◌}
 use Rattle.isotp_receive.specs.EventSeen.{seen_event}
 use Rattle.isotp_receive.specs.Verdict.{EventValue}
-use Rattle.trace_canon.specs.Begun.{begun_of}
+use Rattle.trace_canon.specs.ReceptionStarts.{begun_of}
 use Rattle.trace_canon.proofs.Promises.{begun_next, begins_at}
 use Rattle.trace_report.proofs.FrameCounting.{frames_next, frames_known}
 use Rattle.trace_report.specs.proving.Following.{frames_with}

@@ -1,3 +1,4 @@
+-- The words are by the tests of the summary that the definitions name.
 use Rattle.trace_report.proofs.reasons.MeaningWordsPart.say.Goals as goal
 
 pub returns : goal.returns

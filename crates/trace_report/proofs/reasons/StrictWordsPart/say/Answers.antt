@@ -1,3 +1,4 @@
+-- The words are by the test of the summary that the definitions name.
 use Rattle.trace_report.proofs.reasons.StrictWordsPart.say.Goals as goal
 
 pub returns : goal.returns

@@ -1,3 +1,4 @@
+-- The reasons are by the test of the summary that the definitions name.
 use Rattle.trace_report.proofs.reasons.UncleanReasonsPart.say.Goals as goal
 
 pub returns : goal.returns

@@ -1,3 +1,4 @@
+-- Behind the last frame come the rows of the end, and what closes the page.
 use Rattle.std.proofs.Common.{◌<◌, ◌^◌, ◌-◌, List, arith, ap, subst, ◌++◌, length, refl}
 use Rattle.isotp_receive.specs.declared.TheConstants.{MESSAGE_LIMIT}
 use Rattle.trace_report.specs.Blocks.{blocks_of, rows_text}
@@ -12,15 +13,15 @@ use Rattle.trace_report.proofs.reporter.ReporterMachine.end.Goals as goal
 
 pub returns-clause-says : goal.returns-clause-says
 returns-clause-says g c = λ start T known stand within.
-    let origin = c.say_front_before-origin.ensures.first T known.span refl in
+    let origin = c.say_front_before-origin.ensures.first T known.times refl in
     let rows = c.end.ensures T known.follows stand in
     let low : length (rows_of MESSAGE_LIMIT T) < 2 ^ 64 - 3 = omega (arith, known.few, few_rows MESSAGE_LIMIT T) in
     let chart = subst (λ (l : List RowValue). IsChartOf l c.say_rows.new.self) (ap (λ l. rows_of MESSAGE_LIMIT T ++ l) rows)
     (c.say_rows.ensures.stands (rows_of MESSAGE_LIMIT T) low known.chart) in
-    let first = first_known T c.args.self.span known.span in
-    let last = last_known T c.args.self.span known.span in
+    let first = first_known T c.args.self.times known.times in
+    let last = last_known T c.args.self.times known.times in
     let front = subst (λ (title : PageTitle). g.S.TextSink.says c.args.out.now (front_before title T) c.say_front_before-origin.new.out) known.same
-    (c.say_front_before-origin.ensures.says T known.span) in
+    (c.say_front_before-origin.ensures.says T known.times) in
     g.met.S.TextSink.onward _ _ _ _ _ (g.met.S.TextSink.onward _ _ _ _ _ front
     (subst (λ text. g.S.TextSink.says c.say_front_before-origin.new.out text c.say_rows.new.out)
     (λ i. rows_text (origin i) (blocks_of (rows_of MESSAGE_LIMIT T)) (rows i)) (c.say_rows.ensures.says (rows_of MESSAGE_LIMIT T) low known.chart)))

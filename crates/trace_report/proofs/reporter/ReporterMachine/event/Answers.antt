@@ -1,3 +1,4 @@
+-- A frame adds the front, where it is the first, and its rows.
 use Rattle.std.proofs.Common.{◌<◌, ◌^◌, ◌-◌, List, arith, ap, sym, subst, ◌∙◌, [], ◌∷◌, ◌++◌, length}
 use Rattle.std.proofs.lemmas.List.{length-append}
 use Rattle.isotp_receive.specs.declared.TheConstants.{MESSAGE_LIMIT}
@@ -7,21 +8,21 @@ use Rattle.trace_report.specs.Front.{PageTitle}
 use Rattle.trace_report.specs.Page.{front_before}
 use Rattle.trace_report.specs.Rows.{RowValue}
 use Rattle.trace_report.specs.proving.Following.{IsChartOf}
-use Rattle.trace_report.proofs.Steps.{few_rows, rows_next, span_next}
+use Rattle.trace_report.proofs.Steps.{few_rows, rows_next, times_next}
 use Rattle.trace_report.proofs.reporter.ReporterMachine.event.Goals as goal
 
 pub returns-clause-ok : goal.returns-clause-ok
 returns-clause-ok g c = λ start T e seen known.
-    let origin = c.say_front_before-origin.ensures.origin T e known.span seen.event.micros in
+    let origin = c.say_front_before-origin.ensures.origin T e known.times seen.event.micros in
     let rows = c.take-rows.ensures.rows T e seen known.follows in
     let low : length (rows_of MESSAGE_LIMIT T) < 2 ^ 64 - 3 = omega (arith, seen.event.few, few_rows MESSAGE_LIMIT T) in
     let chart = c.say_rows.ensures.stands (rows_of MESSAGE_LIMIT T) low known.chart in
     let front = subst (λ (title : PageTitle). g.S.TextSink.says c.args.out.now (front_before title T) c.say_front_before-origin.new.out) known.same
-    (c.say_front_before-origin.ensures.says T known.span) in (
+    (c.say_front_before-origin.ensures.says T known.times) in (
       record {
         few = omega (arith, seen.event.few, length-append T (e ∷ []));
         same = known.same;
-        span = span_next T e c.say_front_before-origin.result c.args.seen.micros origin (sym seen.event.micros);
+        times = times_next T e c.say_front_before-origin.result c.args.seen.micros origin (sym seen.event.micros);
         follows = c.take-rows.ensures.next T e seen known.follows;
         chart =
             subst (λ (l : List RowValue). IsChartOf l c.say_rows.new.self) (ap (λ l. rows_of MESSAGE_LIMIT T ++ l) rows ∙ sym (rows_next MESSAGE_LIMIT T e)) chart;

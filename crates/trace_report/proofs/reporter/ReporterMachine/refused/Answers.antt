@@ -1,3 +1,4 @@
+-- Where the log is refused, the page ends with the rows so far and the cause.
 use Rattle.std.proofs.Common.{subst, ap, ◌∙◌}
 use Rattle.trace_report.specs.Causes.{cause_of}
 use Rattle.trace_report.specs.Front.{PageTitle}
@@ -9,10 +10,10 @@ use Rattle.trace_report.proofs.reporter.ReporterMachine.refused.Goals as goal
 pub returns : goal.returns
 returns g c = record {
   says = λ start T known.
-      let first = first_known T c.args.self.span known.span in
-      let last = last_known T c.args.self.span known.span in
+      let first = first_known T c.args.self.times known.times in
+      let last = last_known T c.args.self.times known.times in
       let front = subst (λ (title : PageTitle). g.S.TextSink.says c.args.out.now (front_before title T) c.say_front_before.new.out) known.same
-      (c.say_front_before.ensures.says T known.span) in
+      (c.say_front_before.ensures.says T known.times) in
       g.met.S.TextSink.onward _ _ _ _ _ front
       (subst (λ text. g.S.TextSink.says c.say_front_before.new.out text c.say.new.out)
       (λ i. refused_end c.args.why ((c.cause_of.ensures ∙ ap (λ (title : PageTitle). cause_of c.args.why title.most (glimpse_value c.args.source)) known.same) i) (known.chart.blocks i) (known.chart.tally i) c.args.summary.now (first i) (last i)) c.say.ensures);

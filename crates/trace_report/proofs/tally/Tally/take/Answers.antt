@@ -1,3 +1,4 @@
+-- One more row is one more of its sort, and one more target of that.
 use Rattle.std.proofs.Common.{◌∙◌}
 use Rattle.trace_report.specs.proving.Pages.{row_of}
 use Rattle.trace_report.specs.proving.Tallying.{counts_with, first_with}

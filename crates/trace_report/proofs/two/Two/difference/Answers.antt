@@ -1,3 +1,4 @@
+-- The first difference is at the place that was found when both were compared.
 use Rattle.std.proofs.Common.{ap, sym, ◌∙◌}
 use Rattle.std.specs.Prelude.{slice_get}
 use Rattle.trace_report.specs.Contrast.{first_contrast}

@@ -1,3 +1,4 @@
+-- Before the first difference the items are the same.
 use Rattle.std.proofs.Common.{true, subst, sym, ◌∙◌}
 use Rattle.std.specs.Prelude.{nat_lt, slice_get}
 use Rattle.std.proofs.lemmas.Bool.{ltb-true}

@@ -1,3 +1,4 @@
+-- The times that are said are those of the first frame and of the last one.
 use Rattle.std.proofs.Common.{subst}
 use Rattle.trace_report.specs.Verdict.{findings_text}
 use Rattle.trace_report.proofs.verdict.FindingsPart.say.Goals as goal

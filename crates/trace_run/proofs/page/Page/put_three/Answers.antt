@@ -1,8 +1,9 @@
+-- Three texts that found room are held behind what was, as one.
 use Rattle.std.proofs.Common.{◌++◌}
 use Rattle.trace_run.proofs.Carryings.{held_more}
 use Rattle.trace_run.proofs.page.Page.put_three.Goals as goal
 
-pub returns-else-not-take_three : goal.returns-else-not-take_three
-returns-else-not-take_three g c = λ start said carries.
-    held_more g.W.Target start c.args.target.now said (c.args.first.now ++ c.args.second.now ++ c.args.third.now) c.args.self.now.block c.take_three.new.self
-    c.args.self.now.failed (c.take_three.ensures.took c.if-not-take_three.false) carries
+pub returns-else-not-try_append_three : goal.returns-else-not-try_append_three
+returns-else-not-try_append_three g c = λ start said carries.
+    held_more g.W.Target start c.args.target.now said (c.args.first.now ++ c.args.second.now ++ c.args.third.now) c.args.self.now.held c.try_append_three.new.self
+    c.args.self.now.failed (c.try_append_three.ensures.took c.if-not-try_append_three.false) carries

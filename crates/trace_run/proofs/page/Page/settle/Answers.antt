@@ -1,8 +1,9 @@
+-- Nothing is held, all that was is written, or a front of it, where writing failed.
 use Rattle.std.proofs.Common.{arith, refl, ◌+◌, ◌++◌, append-nil, false, [], Err, ap, sym, subst, ◌∙◌}
 use Rattle.trace_io.proofs.Promises.{took_more}
 use Rattle.trace_io.specs.Written.{HasFront}
 use Rattle.trace_run.specs.proving.Carrying.{Carries}
-use Rattle.trace_run.proofs.WrittenFronts.{block_written, gathered_written, rest_along}
+use Rattle.trace_run.proofs.WrittenFronts.{held_written, gathered_written, rest_along}
 use Rattle.trace_run.proofs.page.Page.settle.Goals as goal
 
 pub returns-in-Err-clause-settled : goal.returns-in-Err-clause-settled
@@ -10,8 +11,8 @@ returns-in-Err-clause-settled g c = λ start said carries.
     let W = g.W.Target in
     let page = c.args.self.now in
     let failed = c.in-Err.ensures in
-    let so_far : Carries W start said false page.block c.args.target.now =
-    subst (λ b. Carries W start said b page.block c.args.target.now) c.if-self.false carries in
+    let so_far : Carries W start said false page.held c.args.target.now =
+    subst (λ b. Carries W start said b page.held c.args.target.now) c.if-self.false carries in
     record {
       low = so_far.low;
       held_some = λ some. absurd (omega arith);
@@ -21,7 +22,7 @@ returns-in-Err-clause-settled g c = λ start said carries.
       no_empty_write = failed.no_empty_write ∙ so_far.no_empty_write;
       flushes = failed.flushes ∙ so_far.flushes;
       took = took_more so_far.took failed.took;
-      written = gathered_written {A = Unit {0}} (Err c.in-Err._fault) (W.taken start) said (W.taken c.args.target.now) page.block (W.taken c.write_all.new.target) so_far.written
+      written = gathered_written {A = Unit {0}} (Err c.in-Err._fault) (W.taken start) said (W.taken c.args.target.now) page.held (W.taken c.write_all.new.target) so_far.written
           (subst (λ t. HasFront (W.taken c.args.target.now) t (W.taken c.write_all.new.target)) c.as_slice.ensures.value failed.taken);
     }
 
@@ -30,8 +31,8 @@ returns-clause-settled g c = λ start said carries.
     let W = g.W.Target in
     let page = c.args.self.now in
     let wrote = c.in_default.ensures in
-    let so_far : Carries W start said false page.block c.args.target.now =
-    subst (λ b. Carries W start said b page.block c.args.target.now) c.if-self.false carries in
+    let so_far : Carries W start said false page.held c.args.target.now =
+    subst (λ b. Carries W start said b page.held c.args.target.now) c.if-self.false carries in
     record {
       low = so_far.low;
       held_some = λ some. absurd (omega arith);
@@ -41,8 +42,8 @@ returns-clause-settled g c = λ start said carries.
       no_empty_write = wrote.no_empty_write ∙ so_far.no_empty_write;
       flushes = wrote.flushes ∙ so_far.flushes;
       took = took_more so_far.took wrote.took;
-      written = block_written (W.taken start) said (W.taken c.args.target.now) page.block [] (W.taken c.write_all.new.target)
-          (rest_along (W.taken start) said (W.taken c.args.target.now) page.block (page.block ++ []) so_far.written (sym (append-nil page.block)))
+      written = held_written (W.taken start) said (W.taken c.args.target.now) page.held [] (W.taken c.write_all.new.target)
+          (rest_along (W.taken start) said (W.taken c.args.target.now) page.held (page.held ++ []) so_far.written (sym (append-nil page.held)))
           (wrote.taken ∙ ap (λ t. W.taken c.args.target.now ++ t) c.as_slice.ensures.value);
     }
 

@@ -1,8 +1,9 @@
+-- The frame was handed on as an event, or memory was refused to its reception, and nothing was told.
 use Rattle.std.proofs.Common.{refl, inl}
 use Rattle.trace_log.specs.proving.Receiving.{entry_at}
 use Rattle.trace_log.specs.declared.fault.Fault.TheVariants.{Memory}
 use Rattle.trace_log.proofs.Promises.{announces_kept, handed_on}
-use Rattle.trace_run.proofs.Tellings.{stops_before}
+use Rattle.trace_run.proofs.ToldFrames.{stops_before}
 use Rattle.trace_run.proofs.receiver.Receiver.receive.Goals as goal
 
 pub returns-clause-told : goal.returns-clause-told

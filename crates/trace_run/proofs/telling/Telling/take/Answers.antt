@@ -1,12 +1,14 @@
+-- The message is judged; then the run stops for its length, or the machine says its word, or is refused memory.
 use Rattle.std.proofs.Common.{◌<◌, ◌^◌, length, ◌++◌, [], ◌≡◌, arith, sym, subst, ◌∙◌, None, Some}
 use Rattle.isotp_receive.specs.declared.TheConstants.{MESSAGE_LIMIT}
 use Rattle.isotp_receive.specs.EventSeen.{seen_event}
 use Rattle.isotp_receive.specs.Verdict.{messages}
 use Rattle.isotp_receive.proofs.Promises.{messages_are_few}
 use Rattle.trace_log.specs.declared.fault.Fault.TheVariants.{Oversize}
-use Rattle.trace_run.specs.proving.Carrying.{stops_for}
+use Rattle.trace_run.specs.proving.Telling.{stops_for}
 use Rattle.trace_log.proofs.Promises.{handed_on}
-use Rattle.trace_run.proofs.Tellings.{tells_next, stops_at, stops_before, stopped_for, not_stopped_for}
+use Rattle.trace_run.proofs.ToldFrames.{tells_next, stops_at, stops_before}
+use Rattle.trace_run.proofs.StoppedLines.{stopped_for, not_stopped_for}
 use Rattle.trace_run.proofs.telling.Telling.take.Goals as goal
 
 pub returns-in-Some-clause-told : goal.returns-in-Some-clause-told
@@ -18,9 +20,9 @@ returns-in-Some-clause-told g c = λ T e seen.
           let script = M.script first in
           let strict = c.is_strict.ensures first T tells.machine_stands in
           let why = stopped_for script.strict T e (seen_event c.args.frame.event) c.in-Some.announced seen.did
-          (subst (λ b. stops_for b (seen_event c.args.frame.event).verdict ≡ Some c.in-Some.announced) strict (sym c.refusal.ensures ∙ c.in-Some.is)) in
+          (subst (λ b. stops_for b (seen_event c.args.frame.event).verdict ≡ Some c.in-Some.announced) strict (sym c.stops_for.ensures ∙ c.in-Some.is)) in
           stops_before (M.stands first) g.W.Target script (M.needs first) start T e c.args.self.now.machine c.args.self.now.judge
-          c.args.self.now.page.failed c.args.self.now.page.block c.args.target.now (Oversize c.args.frame.line c.in-Some.announced) tells (why.0, sym seen.line, why.1);
+          c.args.self.now.page.failed c.args.self.now.page.held c.args.target.now (Oversize c.args.frame.line c.in-Some.announced) tells (why.0, sym seen.line, why.1);
       kept = λ start first earlier tells sure. sure;
     }
 
@@ -32,14 +34,14 @@ returns-in_ok-tell-in-None-clause-told g c = λ T e seen.
       ok = λ start first tells.
           let script = M.script first in
           let strict = c.is_strict.ensures first T tells.machine_stands in
-          let said = c.in_ok-tell-in-None.ensures.ok first T e (record { event = seen; message = c.judged_message-message.ensures.judged (messages MESSAGE_LIMIT T) few tells.judged.judged }) tells.machine_stands in
+          let said = c.in_ok-tell-in-None.ensures.ok first T e (record { event = seen; message = c.judged_message-message.ensures.judged (messages MESSAGE_LIMIT T) few tells.judged.counted }) tells.machine_stands in
           tells_next (M.stands first) g.W.Target script (M.needs first) start T e c.args.frame.line c.args.frame.dir (seen_event c.args.frame.event) seen.dir seen.did
           _ _ _ _ _ _ _ _ _ _ tells (c.judged_message-message.ensures.next (messages MESSAGE_LIMIT T) few tells.judged) said.0
           (not_stopped_for script.strict T e (seen_event c.args.frame.event) seen.did
-          (subst (λ b. stops_for b (seen_event c.args.frame.event).verdict ≡ None) strict (sym c.refusal.ensures ∙ c.in-None.is))) said.1;
+          (subst (λ b. stops_for b (seen_event c.args.frame.event).verdict ≡ None) strict (sym c.stops_for.ensures ∙ c.in-None.is))) said.1;
       err = tt;
       kept = λ start first earlier tells sure.
-          let said = c.in_ok-tell-in-None.ensures.ok first T e (record { event = seen; message = c.judged_message-message.ensures.judged (messages MESSAGE_LIMIT T) few tells.judged.judged }) tells.machine_stands in
+          let said = c.in_ok-tell-in-None.ensures.ok first T e (record { event = seen; message = c.judged_message-message.ensures.judged (messages MESSAGE_LIMIT T) few tells.judged.counted }) tells.machine_stands in
           record { within = sure.within; mid = sure.mid; said = sure.said ++ (M.script first).word T e; wrote = sure.wrote; carried = said.1 sure.mid sure.said sure.carried };
     }
 
@@ -52,10 +54,10 @@ returns-in_err-tell-in-None-clause-told g c = λ T e seen.
       err = λ start first tells.
           let script = M.script first in
           let strict = c.is_strict.ensures first T tells.machine_stands in
-          let needs = c.in_err-tell-in-None.ensures.needs first T e (record { event = seen; message = c.judged_message-message.ensures.judged (messages MESSAGE_LIMIT T) few tells.judged.judged }) tells.machine_stands in
+          let needs = c.in_err-tell-in-None.ensures.needs first T e (record { event = seen; message = c.judged_message-message.ensures.judged (messages MESSAGE_LIMIT T) few tells.judged.counted }) tells.machine_stands in
           stops_at (M.stands first) g.W.Target script (M.needs first) start T e _ _ _ _ _ _ _ _ tells
           (not_stopped_for script.strict T e (seen_event c.args.frame.event) seen.did
-          (subst (λ b. stops_for b (seen_event c.args.frame.event).verdict ≡ None) strict (sym c.refusal.ensures ∙ c.in-None.is)))
+          (subst (λ b. stops_for b (seen_event c.args.frame.event).verdict ≡ None) strict (sym c.stops_for.ensures ∙ c.in-None.is)))
           needs (c.in_err-tell-in-None.ensures.err first T tells.machine_stands);
       kept = λ start first earlier tells sure.
           let said = c.in_err-tell-in-None.ensures.err first T tells.machine_stands in

@@ -1,3 +1,4 @@
+-- Each eight bytes add their digits, and fewer than eight end the text.
 use Rattle.std.proofs.Common.{◌≡◌, List, ℕ, [], ◌++◌, take, drop, refl, ap, sym, subst, ◌∙◌, append_assoc}
 use Rattle.std.specs.List.{flat_map}
 use Rattle.std.proofs.lemmas.Grind.{flat_map-append}

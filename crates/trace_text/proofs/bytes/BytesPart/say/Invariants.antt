@@ -1,3 +1,4 @@
+-- What is said so far and the digits of the rest are those of all bytes.
 use Rattle.std.proofs.Common.{◌≡◌, ◌++◌, List, ℕ, length}
 use Rattle.trace_text.specs.Words.{bytes_text}
 use Rattle.trace_text.proofs.bytes.BytesPart.say.Given as goal

@@ -1,3 +1,4 @@
+-- A length is the same number in the wider type.
 use Rattle.std.proofs.Common.{ap, subst}
 use Rattle.std.specs.Fmt.{decimal}
 use Rattle.trace_text.proofs.numbers.LengthPart.say.Goals as goal

@@ -1,3 +1,4 @@
+-- A number of up to eight digits is its front and four digits behind.
 use Rattle.std.proofs.Common.{◌++◌, ◌/◌, ◌%◌, arith, ap, refl, subst, append-nil, ◌∙◌}
 use Rattle.std.specs.Fmt.{decimal}
 use Rattle.trace_text.proofs.Decimals.{and_four}

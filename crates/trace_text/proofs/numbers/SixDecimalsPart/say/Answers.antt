@@ -1,3 +1,4 @@
+-- The first six of the eight bytes are the digits.
 use Rattle.std.proofs.Common.{◌≡◌, ℕ, [], ◌∷◌, ◌++◌, take, refl, ap, subst, ◌∙◌}
 use Rattle.can_log.specs.Digits.{digits, decimal}
 use Rattle.trace_text.proofs.numbers.SixDecimalsPart.say.Goals as goal

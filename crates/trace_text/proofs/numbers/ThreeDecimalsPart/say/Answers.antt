@@ -1,3 +1,4 @@
+-- The bytes that are put are the digits.
 use Rattle.std.proofs.Common.{subst}
 use Rattle.trace_text.proofs.numbers.ThreeDecimalsPart.say.Goals as goal
 

@@ -1,6 +1,7 @@
+-- A reason with numbers has them as members; every other one is a word.
 use Rattle.std.proofs.Common.{◌≡◌, refl, ap, sym, subst, inl, inr, ◌∙◌}
 use Rattle.isotp_receive.specs.declared.event.Reason.{Reason}
-use Rattle.trace_text.specs.ExplainText.{named_reason, reason_members, reason_text}
+use Rattle.trace_text.specs.RemarkLines.{named_reason, reason_members, reason_text}
 use Rattle.trace_text.specs.Json.{later_text}
 use Rattle.trace_text.proofs.RemarkObjects.{announced_reason, named_is, sequence_reason}
 use Rattle.trace_text.proofs.remark_objects.ReasonMembersPart.say.Goals as goal

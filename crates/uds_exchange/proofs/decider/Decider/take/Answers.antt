@@ -1,6 +1,7 @@
+-- What a step does is what the messages say, where the message was judged behind them.
 use Rattle.std.proofs.Common.{◌∙◌}
 use Rattle.uds_exchange.specs.Judging.{sent}
-use Rattle.uds_exchange.specs.proving.Deciding.{items_for}
+use Rattle.uds_exchange.specs.proving.Deciding.{decided_for}
 use Rattle.uds_exchange.proofs.Deciding.{decided-found, keeps-found, refuses-kept}
 use Rattle.uds_exchange.proofs.Variants.{on_ok_along, on_err_along}
 use Rattle.uds_exchange.proofs.decider.Decider.take.Goals as goal
@@ -13,7 +14,7 @@ pub returns-clause-puts : goal.returns-clause-puts
 returns-clause-puts g c =
     let x = sent c.args.message in
     let by = c.args.message.step in
-    on_ok_along c.advance.result _ _ (λ h M is judged. (items_for by c.args.self.now x, decided-found M x by c.args.self.now is judged, h)) c.advance.ensures.puts
+    on_ok_along c.advance.result _ _ (λ h M is judged. (decided_for by c.args.self.now x, decided-found M x by c.args.self.now is judged, h)) c.advance.ensures.puts
 
 pub returns-clause-kept_only : goal.returns-clause-kept_only
 returns-clause-kept_only g c =

@@ -1,3 +1,4 @@
+-- One more message lies behind those before, and its length is in the sum.
 use Rattle.std.proofs.Common.{◌∙◌, ◌++◌, ◌∷◌, [], ap, rules}
 use Rattle.uds_exchange.specs.declared.held.HeldMessage.{HeldMessage}
 use Rattle.uds_exchange.proofs.HeldMessages.{pushed, pushed-held}

@@ -1,3 +1,4 @@
+-- What a step does is what the messages say, where the message was judged behind them.
 use Rattle.std.proofs.Common.{◌∙◌}
 use Rattle.uds_exchange.specs.Judging.{sent}
 use Rattle.uds_exchange.specs.proving.Steps.{due_for}

@@ -1,3 +1,4 @@
+-- An exchange that has its answer is kept where it was, and the other items as they were.
 use Rattle.std.proofs.Common.{◌∙◌, ◌<◌, ap, Some, arith, length}
 use Rattle.std.specs.Prelude.{slice_get, slice_set}
 use Rattle.uds_exchange.specs.Meaning.{exchange}

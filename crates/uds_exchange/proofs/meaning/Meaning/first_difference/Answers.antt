@@ -1,3 +1,4 @@
+-- Items that are equal lengthen the front that is; where one list ends, only it does.
 use Rattle.std.proofs.Common.{◌≡◌, ◌≢◌, ◌<◌, [], min, length, sym, ◌∙◌, arith, refl}
 use Rattle.direction.specs.declared.Dir.TheVariants.{Tester}
 use Rattle.uds_exchange.specs.Meaning.{stray}

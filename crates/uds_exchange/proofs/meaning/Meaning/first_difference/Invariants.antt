@@ -1,3 +1,4 @@
+-- The items before this place are equal.
 use Rattle.std.proofs.Common.{◌≡◌, take}
 use Rattle.uds_exchange.proofs.meaning.Meaning.first_difference.Given as goal
 

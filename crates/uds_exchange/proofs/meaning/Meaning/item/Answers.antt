@@ -1,3 +1,4 @@
+-- The item at a place is that of the list, lent from where its messages lie.
 use Rattle.std.proofs.Common.{◌∙◌, ◌≤◌, ap, sym, refl, Some, option_map, arith, length, rules}
 use Rattle.std.specs.Prelude.{slice_get}
 use Rattle.std.proofs.lemmas.Option.{slice_get_read, slice_get-map, slice_get_past}

@@ -1,3 +1,4 @@
+-- One more exchange is kept behind the items before.
 use Rattle.std.proofs.Common.{◌∙◌, ◌++◌, ◌∷◌, [], ap, None}
 use Rattle.uds_exchange.specs.declared.meaning.KeptItem.TheVariants as kept
 use Rattle.uds_exchange.specs.Meaning.{exchange}

@@ -1,3 +1,4 @@
+-- One more stray is kept behind the items before.
 use Rattle.std.proofs.Common.{◌∙◌, ◌++◌, ◌∷◌, [], ap}
 use Rattle.uds_exchange.specs.declared.meaning.KeptItem.TheVariants as kept
 use Rattle.uds_exchange.specs.Meaning.{stray}

@@ -1,3 +1,4 @@
+-- The judge judges behind the messages so far, so what the inner orderer says of them holds.
 use Rattle.std.proofs.Common.{Err, ap, subst, ◌∙◌}
 use Rattle.direction.specs.Dir.{Message}
 use Rattle.uds_exchange.specs.Judging.{IsOpenSid}
@@ -14,7 +15,7 @@ returns-clause-stands g c = λ M is.
     let waits : IsOpenSid M c.self.inside.judge.open_sid = ap (λ (o : OrdererValue). o.open_sid) stood in
     let judged = judged-after M x c.take.result c.take.ensures.sent (c.take.ensures.step M waits) in
     stands-with M x c.take.result c.take-2.new.self c.take.new.self.open_sid c.take.ensures.sent
-    (c.in_ok-take.ensures.stands M (stands-without M _ stood) judged) (c.take.ensures.waits M waits)
+    (c.in_ok-take.ensures.stands M (stands-without M _ stood) judged) (c.take.ensures.is_open M waits)
 
 pub returns-in_err-take-clause-held_only : goal.returns-in_err-take-clause-held_only
 returns-in_err-take-clause-held_only g c = λ refused M is.

@@ -1,3 +1,4 @@
+-- The judge judges behind the messages so far, so what the inner pairing says of them holds.
 use Rattle.std.proofs.Common.{◌∷◌, [], ◌++◌, ◌∙◌, ap}
 use Rattle.uds_exchange.specs.Meaning.{meaning}
 use Rattle.uds_exchange.proofs.Fronts.{judged-after, open-in}

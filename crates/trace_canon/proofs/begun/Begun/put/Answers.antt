@@ -1,8 +1,0 @@
-use Rattle.trace_canon.proofs.Begins.{of_tester, of_unit}
-use Rattle.trace_canon.proofs.begun.Begun.put.Goals as goal
-
-pub returns-in-Tester : goal.returns-in-Tester
-returns-in-Tester c = λ d. rw (c.in-Tester.is) (of_tester c.args.begun c.args.self.now d)
-
-pub returns-in-Unit : goal.returns-in-Unit
-returns-in-Unit c = λ d. rw (c.in-Unit.is) (of_unit c.args.begun c.args.self.now d)

@@ -1,6 +1,0 @@
-use Rattle.trace_canon.proofs.comparison_lines.say_items_at.Goals as goal
-
-pub returns : goal.returns
-returns g c =
-    let onward = g.met.S.TextSink.onward in
-    onward _ _ _ _ _ (onward _ _ _ _ _ (onward _ _ _ _ _ c.say_text.ensures c.say_item_at.ensures) c.say_text-2.ensures) c.say_item_at-2.ensures

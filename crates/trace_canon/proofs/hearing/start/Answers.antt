@@ -1,6 +1,0 @@
-use Rattle.std.proofs.Common.{refl}
-use Rattle.trace_canon.proofs.Hearings.{heard_none}
-use Rattle.trace_canon.proofs.hearing.start.Goals as goal
-
-pub returns : goal.returns
-returns c = heard_none c.new.result 0 c.new.ensures refl

@@ -1,0 +1,6 @@
+-- No reception stands.
+use Rattle.trace_canon.proofs.Begins.{none_begun}
+use Rattle.trace_canon.proofs.reception_starts.ReceptionStarts.start.Goals as goal
+
+pub returns : goal.returns
+returns c = none_begun

@@ -1,0 +1,28 @@
+-- For which frames of a log a command needs memory, beyond those whose bytes are kept.
+use Rattle.std.specs.Prelude.{◌≡◌, ℕ, ◌⊎◌, List}
+use Rattle.isotp_receive.specs.Trace.{Entry}
+use Rattle.isotp_receive.specs.Verdict.{message, messages, verdict}
+use Rattle.uds_exchange.specs.Decider.{IsKept}
+use Rattle.uds_exchange.specs.Orderer.{IsHeld}
+use Rattle.trace_log.specs.Settings.{Settings}
+use Rattle.trace_log.specs.Needing.{HasFrame, IsKeptForMessage}
+
+-- The frame completes a message that is held: a stray behind a request that waits for its answer.
+abbrev pub CompletesHeld : ℕ → List Entry → Entry → Type 0
+CompletesHeld limit T e = (bytes : List ℕ) × ((verdict limit T e).verdict ≡ message bytes) × IsHeld (messages limit T) (e.dir, bytes)
+
+-- The frame completes a message that is kept: a request, or a stray behind a request that waits for its answer.
+abbrev pub CompletesKept : ℕ → List Entry → Entry → Type 0
+CompletesKept limit T e = (bytes : List ℕ) × ((verdict limit T e).verdict ≡ message bytes) × IsKept (messages limit T) (e.dir, bytes)
+
+-- The frame completes a message.
+abbrev pub CompletesMessage : ℕ → List Entry → Entry → Type 0
+CompletesMessage limit T e = (bytes : List ℕ) × ((verdict limit T e).verdict ≡ message bytes)
+
+-- the log has a frame whose bytes are kept, or one that completes a message which is held
+abbrev pub NeedsMemoryToOrder : ℕ → Settings → List ℕ → Type 0
+NeedsMemoryToOrder limit = HasFrame (λ T e. IsKeptForMessage limit T e ⊎ CompletesHeld limit T e)
+
+-- or one that completes any message
+abbrev pub NeedsMemoryToCollect : ℕ → Settings → List ℕ → Type 0
+NeedsMemoryToCollect limit = HasFrame (λ T e. IsKeptForMessage limit T e ⊎ CompletesMessage limit T e)

@@ -1,0 +1,84 @@
+//! The text of a comparison, in words or as an object.
+ghost use Rattle.trace_canon.specs.ComparisonText.{comparison_lines, comparison_text, shown_lines};
+ghost use Rattle.trace_run.specs.Printed.{Prints};
+ghost use Rattle.trace_io.specs.Counted.{IsLowCount};
+
+use crate::compared_items::say_item_at;
+use crate::comparing::{Compared, Comparison};
+use crate::comparison_objects::say_comparison_object;
+use text_parts::{Part, say};
+use trace_io::{Target, TextSink};
+use trace_log::Fault;
+use trace_run::print;
+use trace_text::values::say_text;
+use trace_text::{Notation, Place};
+
+/// How a comparison is written.
+#[derive(Clone, Copy, Debug, PartialEq, Eq)]
+pub struct ComparisonStyle {
+    /// Whether the items are shown at which two logs differ.
+    pub shows_items: bool,
+    pub notation: Notation,
+}
+
+/// Writes how two logs compare, in this style.
+///
+/// The target is not flushed.
+pub fn write_comparison<W: Target>(
+    compared: &Compared,
+    style: ComparisonStyle,
+    target: &mut W,
+) -> Result<(), Fault>
+    requires { IsLowCount (W.failures target.old) }
+
+    // Its text was written, or a front of it where writing failed; and what that did with the target.
+    ensures printed { Prints W.Target (comparison_text style compared.now) target.old result target.new }
+{
+    print(InStyle { compared, style }, target)
+}
+
+/// A comparison in a style.
+#[derive(Clone, Copy)]
+struct InStyle<'a> {
+    compared: &'a Compared,
+    style: ComparisonStyle,
+}
+
+impl<'a> Part for InStyle<'a> {
+    ghost use Rattle.trace_canon.specs.ComparisonText.{comparison_text};
+
+    ghost text = { λ t. comparison_text t.style t.compared.now };
+
+    fn say<S: TextSink>(self, out: &mut S) {
+        match self.style.notation {
+            Notation::Text => say_lines(self.compared, self.style.shows_items, out),
+            Notation::Json => say_comparison_object(self.compared, self.style.shows_items, out),
+        }
+    }
+}
+
+/// Says it in words.
+fn say_lines<S: TextSink>(compared: &Compared, shows_items: bool, out: &mut S)
+    ensures { S.says out.old
+        (comparison_lines shows_items compared.now.comparison compared.now.left.meaning compared.now.right.meaning) out.new }
+{
+    match compared.comparison {
+        Comparison::Same => say_text(out, "same\n"),
+        Comparison::Different { item } => {
+            say(out, ("different at item ", Place(item), "\n"));
+            if shows_items {
+                say_items_at(compared, item, out);
+            }
+        }
+    }
+}
+
+/// Says the items of both logs at a place.
+fn say_items_at<S: TextSink>(compared: &Compared, place: usize, out: &mut S)
+    ensures { S.says out.old (shown_lines place compared.now.left.meaning compared.now.right.meaning) out.new }
+{
+    say_text(out, "left: ");
+    say_item_at(&compared.left.meaning, place, Notation::Text, out);
+    say_text(out, "right: ");
+    say_item_at(&compared.right.meaning, place, Notation::Text, out);
+}

@@ -1,0 +1,103 @@
+//! Where the receptions that stand began.
+ghost use Rattle.std.specs.Prelude.{◌≡◌, None, if◌then◌else◌};
+ghost use Rattle.direction.specs.declared.Dir.{Dir as DirValue};
+ghost use Rattle.isotp_receive.specs.EventSeen.{seen_event, seen_verdict};
+ghost use Rattle.isotp_receive.specs.Trace.{same_direction};
+ghost use Rattle.trace_canon.specs.ReceptionStarts.{began_at, begun_after, begun_of, left_by, moved_by};
+
+use direction::Dir;
+use isotp_receive::{Ended, Event, Verdict};
+
+/// Where a frame stands: its line and its time in microseconds.
+#[derive(Clone, Copy, Debug)]
+pub struct FramePlace {
+    pub line: u64,
+    pub micros: u64,
+}
+
+/// Of each direction the place of the first frame of the reception that stands, if one does.
+#[derive(Clone, Copy, Debug)]
+pub struct ReceptionStarts {
+    pub tester: Option<FramePlace>,
+    pub unit: Option<FramePlace>,
+}
+
+impl ReceptionStarts {
+    /// Before the first frame.
+    pub fn start() -> ReceptionStarts
+        ensures { (d : DirValue) → begun_of result d ≡ None }
+    {
+        ReceptionStarts {
+            tester: None,
+            unit: None,
+        }
+    }
+
+    /// Where the reception of a direction began, if one stands.
+    pub fn of(&self, dir: Dir) -> Option<FramePlace>
+        ensures { result ≡ begun_of self.now dir }
+    {
+        match dir {
+            Dir::Tester => self.tester,
+            Dir::Unit => self.unit,
+        }
+    }
+
+    /// Takes what a frame in this place did, and answers where the message began that it completed. Where it completed
+    /// none, the answer says nothing.
+    #[inline(always)]
+    pub fn take(&mut self, here: FramePlace, dir: Dir, event: Event<'_>) -> FramePlace
+        ensures stands { (d : DirValue)
+            → begun_of self.new d ≡ begun_after d dir (seen_event event.entry) here (begun_of self.old d) }
+        ensures first { result ≡ began_at dir (seen_event event.entry) here (begun_of self.old dir) }
+    {
+        self.end(event.ended);
+        let begun = self.of(dir);
+        self.move_by(here, dir, event.verdict);
+        begun.unwrap_or(here)
+    }
+
+    /// Takes the end of a reception, if one ended.
+    #[inline(always)]
+    fn end(&mut self, ended: Option<Ended>)
+        ensures { (d : DirValue) → begun_of self.new d ≡ left_by d ended (begun_of self.old d) }
+    {
+        if let Some(ended) = ended {
+            self.set(ended.dir, None);
+        }
+    }
+
+    /// Takes what became of a frame, beside such an end.
+    #[inline(always)]
+    fn move_by(&mut self, here: FramePlace, dir: Dir, verdict: Verdict<'_>)
+        ensures { (d : DirValue)
+            → begun_of self.new d ≡ moved_by (same_direction d dir) (seen_verdict verdict.entry) here (begun_of self.old d) }
+    {
+        match verdict {
+            Verdict::Message(_) => self.set(dir, None),
+            Verdict::Began => self.set(dir, Some(here)),
+            Verdict::Stored | Verdict::Flow | Verdict::Dropped(_) => {}
+        }
+    }
+
+    /// Takes where the reception of a direction began, if one stands.
+    #[inline(always)]
+    fn set(&mut self, dir: Dir, begun: Option<FramePlace>)
+        ensures { (d : DirValue) → begun_of self.new d ≡ (if same_direction d dir then begun else begun_of self.old d) }
+    {
+        match dir {
+            Dir::Tester => self.tester = begun,
+            Dir::Unit => self.unit = begun,
+        }
+    }
+}
+
+/// Where the reception of a direction began, if it still stands after this end.
+pub fn still_begun(dir: Dir, ended: Option<Ended>, begun: Option<FramePlace>) -> Option<FramePlace>
+    ensures { result ≡ left_by dir ended begun }
+{
+    match ended {
+        Some(ended) if ended.dir == dir => None,
+        _ => begun,
+    }
+}

@@ -1,0 +1,110 @@
+//! Where two logs differ that lie in memory: the text of that, gathered there. No device is asked.
+ghost use Rattle.std.specs.Prelude.{◌≡◌, IfOk, MatchResult};
+ghost use Rattle.isotp_receive.specs.declared.TheConstants.{MESSAGE_LIMIT};
+ghost use Rattle.trace_canon.specs.InMemory as Spec;
+ghost use Rattle.trace_difference.specs.InMemory.{ComparesInMemory, HasNoDifferenceText, IsDifferenceWith};
+ghost use Rattle.trace_difference.specs.Written.{difference_text, written_rows};
+
+use crate::written::{Side, write_difference};
+use std::alloc::{AllocError, Global};
+use trace_canon::in_memory::CountedComparison;
+use trace_canon::{Compared, compare};
+use trace_io::{Bytes, Writing};
+use trace_log::{CompareFault, Config, Fault};
+use trace_text::Notation;
+use uds_difference::Difference;
+
+/// The text of where two logs differ, how they compare, and the counts of each.
+#[derive(Debug, Drop)]
+pub struct CountedDifference {
+    pub text: Vec<u8>,
+    pub counted: CountedComparison,
+}
+
+/// Where two logs differ, which have these names, in this notation, as [`write_difference`](crate::write_difference) writes
+/// it; how they compare, and the counts of each. Memory that is refused to their difference is told of the right one.
+pub fn pair_difference(
+    alloc: Global,
+    config: &Config,
+    notation: Notation,
+    left_name: &[u8],
+    right_name: &[u8],
+    left: &[u8],
+    right: &[u8],
+) -> Result<CountedDifference, CompareFault>
+    ensures { MatchResult result (λ told. IsDifferenceWith notation left_name.now right_name.now MESSAGE_LIMIT config.now left.now right.now told.text.items told.counted) (HasNoDifferenceText MESSAGE_LIMIT config.now left.now right.now) }
+{
+    let answer = compare_both(alloc, config, left, right);
+    match &answer {
+        Ok(compared) => match text_of(alloc, notation, left_name, right_name, compared) {
+            Ok(text) => Ok(CountedDifference {
+                text,
+                counted: counted_comparison(compared),
+            }),
+            Err(_refused) => Err(CompareFault::Right(Fault::Memory)),
+        },
+        Err(fault) => Err(*fault),
+    }
+}
+
+/// What two logs are to each other, as [`compare`](trace_canon::compare) answers it.
+fn compare_both(
+    alloc: Global,
+    config: &Config,
+    left: &[u8],
+    right: &[u8],
+) -> Result<Compared, CompareFault>
+    ensures { ComparesInMemory MESSAGE_LIMIT config.now left.now right.now result }
+{
+    compare(alloc, config, &mut Bytes::new(left), &mut Bytes::new(right))
+}
+
+/// The text of where two accepted logs differ, unless memory was refused.
+fn text_of(
+    alloc: Global,
+    notation: Notation,
+    left_name: &[u8],
+    right_name: &[u8],
+    compared: &Compared,
+) -> Result<Vec<u8>, AllocError>
+    ensures { IfOk result (λ text. text.items ≡ difference_text notation left_name.now right_name.now compared.now.left.meaning compared.now.right.meaning) }
+{
+    let left = Side {
+        name: left_name,
+        items: &compared.left.meaning,
+    };
+    let right = Side {
+        name: right_name,
+        items: &compared.right.meaning,
+    };
+    let difference = Difference::between(alloc, left.items, right.items)?;
+    gathered(alloc, &difference, left, right, notation)
+}
+
+/// The text of a difference of two sessions, unless memory for it was refused.
+fn gathered(
+    alloc: Global,
+    difference: &Difference,
+    left: Side<'_>,
+    right: Side<'_>,
+    notation: Notation,
+) -> Result<Vec<u8>, AllocError>
+    ensures { IfOk result (λ text. text.items ≡ written_rows notation left.entry.name.now right.entry.name.now difference.now.shortest difference.now.rows.items left.entry.items.now right.entry.items.now) }
+{
+    let mut writer = Writing::new(Vec::new(alloc));
+    match write_difference(difference, left, right, notation, &mut writer) {
+        Ok(()) => Ok(writer.into_inner()),
+        Err(_fault) => Err(AllocError),
+    }
+}
+
+/// What two logs are to each other, without what they mean.
+fn counted_comparison(compared: &Compared) -> CountedComparison
+    ensures { result ≡ Spec.counted_comparison compared.now }
+{
+    CountedComparison {
+        comparison: compared.comparison,
+        left: compared.left.summary,
+        right: compared.right.summary,
+    }
+}

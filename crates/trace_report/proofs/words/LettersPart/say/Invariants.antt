@@ -1,9 +1,0 @@
-use Rattle.std.proofs.Common.{◌≡◌, ◌++◌, List, ℕ, length}
-use Rattle.trace_report.specs.Words.{letters}
-use Rattle.trace_report.proofs.words.LettersPart.say.Given as goal
-
-abbrev pub invariant-eights : goal.invariant-eights
-invariant-eights g l = (text : List ℕ) × (letters l.self.0.now ≡ text ++ letters l.rest) × g.S.TextSink.says l.initial.out text l.out
-
-abbrev pub decreases-eights : goal.decreases-eights
-decreases-eights g l = length l.rest

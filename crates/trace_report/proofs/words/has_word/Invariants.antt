@@ -1,9 +1,0 @@
-use Rattle.std.proofs.Common.{◌≡◌, length}
-use Rattle.trace_report.specs.Words.{has_word}
-use Rattle.trace_report.proofs.words.has_word.Given as goal
-
-abbrev pub invariant-places : goal.invariant-places
-invariant-places l = has_word l.bytes ≡ has_word l.rest
-
-abbrev pub decreases-places : goal.decreases-places
-decreases-places l = length l.rest

@@ -1,6 +1,0 @@
-use Rattle.std.proofs.Common.{take}
-use Rattle.trace_report.specs.Words.{letters}
-use Rattle.trace_report.proofs.words.say_few_letters.Given as goal
-
-abbrev pub invariant-bytes : goal.invariant-bytes
-invariant-bytes g l = g.S.TextSink.says l.initial.out (letters (take l.byte-index l.bytes)) l.out

@@ -1,0 +1,7 @@
+-- The style of pages (CSS), which stands in `style/report.css`: one for all logs.
+use Rattle.std.specs.Prelude.{ℕ, List}
+use Rattle.trace_report.specs.declared.style.TheConstants.{STYLE}
+
+-- its text, which only a law opens
+unfoldable pub page_style : List ℕ
+page_style = STYLE.now

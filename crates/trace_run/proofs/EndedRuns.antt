@@ -1,0 +1,143 @@
+-- What a run answers at the end of a log, and what it did with its devices.
+use Rattle.std.proofs.Common.{◌≡◌, ◌≢◌, ℕ, ◌≤◌, Bool, true, false, List, [], ◌++◌, length, arith, refl, ap, sym, subst, ◌∙◌, Option, Result, Ok, Err, inl, inr, length-append}
+use Rattle.std.specs.Prelude.{not}
+use Rattle.std.proofs.Math.Nat.{le-min}
+use Rattle.can_log.specs.Log.{LogMeans}
+use Rattle.can_log.specs.declared.frame.Stamped.{Stamped}
+use Rattle.isotp_receive.specs.Trace.{Entry}
+use Rattle.isotp_receive.specs.declared.TheConstants.{MESSAGE_LIMIT}
+use Rattle.trace_io.specs.declared.device.Target.{Ghosts}
+use Rattle.trace_log.specs.declared.fault.Fault.{Fault}
+use Rattle.trace_log.specs.declared.fault.Fault.TheVariants as fault
+use Rattle.uds_exchange.specs.declared.judge.Judge.{Judge}
+use Rattle.trace_run.specs.declared.machine.Stop.{Stop}
+use Rattle.trace_run.specs.declared.machine.Stop.TheVariants as end_stop
+use Rattle.trace_log.specs.declared.summary.Summary.{Summary}
+use Rattle.trace_run.specs.proving.Carrying.{Carries, Says, Settles}
+use Rattle.trace_run.specs.proving.Telling.{Tells}
+use Rattle.trace_run.specs.proving.Ending.{EndsSaying, EndsTelling}
+use Rattle.trace_log.specs.Feeding.{CountsRead}
+use Rattle.trace_log.specs.Failing.{FailedIf}
+use Rattle.trace_log.specs.Settings.{Settings}
+use Rattle.trace_log.specs.Summing.{summary_of}
+use Rattle.trace_run.specs.Told.{Answering, EndsWith, passing, Script, Refusal, told, whole_of_lines, AnswersTold}
+use Rattle.trace_log.specs.Trace.{trace}
+use Rattle.std.specs.List.{AllByRecursion}
+use Rattle.trace_log.specs.proving.Announcing.{AnnouncesWithin}
+use Rattle.trace_log.proofs.Promises.{writes_front_of_all}
+use Rattle.trace_log.specs.Refusal.{EachPasses}
+use Rattle.trace_run.proofs.Carryings.{wrote_all, wrote_front}
+use Rattle.trace_run.proofs.StoppedLines.{all_pass, read_to_end}
+use Rattle.trace_run.proofs.ToldFronts.{IsOutcomeOf, IsReadOnly}
+
+-- so the fault of the target is answered exactly where it failed
+pub fails_so : {A W : Type 0} (target : Ghosts W) (start new : W) (answer : Fault) (said : List ℕ) (failed : Bool) → Carries target start said failed [] new → IsOutcomeOf failed answer
+    → FailedIf {A = A} fault.Write (Err answer) (target.failures start) (target.failures new)
+fails_so target start new answer said false carries apart = record { risen = λ is. (let same : answer ≡ fault.Write = cc in absurd (apart same)); same = λ _. carries.failures }
+fails_so target start new answer said true carries write = record { risen = λ _. carries.failures; same = λ other. absurd (other (ap Err write)) }
+
+-- a target that took nothing, where writing did not fail, was left alone
+pub left_alone_so : {A W : Type 0} (target : Ghosts W) (start new : W) (result : Result A Fault) (said : List ℕ) (failed : Bool) → Carries target start said failed [] new
+    → FailedIf fault.Write result (target.failures start) (target.failures new) → result ≢ Err fault.Write → target.taken new ≡ target.taken start → new ≡ start
+left_alone_so target start new result said true carries write other same = absurd (omega (arith, carries.failures, write.same other))
+left_alone_so target start new result said false carries write other same =
+    let wrote = wrote_all target start new said carries in
+    let long = ap length (sym wrote ∙ same) in
+    let parts = length-append (target.taken start) said in
+    carries.still (omega (arith, long, parts))
+
+reads_other : {A : Type 0} (answer : Fault) (before after : ℕ) → after ≡ before → answer ≢ fault.Read → FailedIf {A = A} fault.Read (Err answer) before after
+reads_other answer before after same_count apart = record { risen = λ is. (let same : answer ≡ fault.Read = cc in absurd (apart same)); same = λ _. same_count }
+
+-- and that of the source
+pub reads_so : {A : Type 0} (why : Fault) (answer : Fault) (before after : ℕ) → CountsRead why before after → IsReadOnly why answer
+    → FailedIf {A = A} fault.Read (Err answer) before after
+reads_so fault.Read answer before after counts is = record { risen = λ _. counts; same = λ other. absurd (other (ap Err is)) }
+reads_so (fault.BadLine line column) answer before after counts apart = reads_other answer before after counts apart
+reads_so (fault.Oversize line announced) answer before after counts apart = reads_other answer before after counts apart
+reads_so fault.LogLimit answer before after counts apart = reads_other answer before after counts apart
+reads_so fault.OutputLimit answer before after counts apart = reads_other answer before after counts apart
+reads_so fault.Write answer before after counts apart = reads_other answer before after counts apart
+reads_so fault.Memory answer before after counts apart = reads_other answer before after counts apart
+
+-- ---- the end
+
+module _ {A W : Type 0} (target : Ghosts W) (script : Script) (answers : Answering A) (start new : W) (settings : Settings) where
+  -- what it answers at the end of the log
+  pub told_at_the_end : (refusal : Refusal) (log : List ℕ) (given : ℕ) (meanings : List (Option Stamped)) (result : Result A Fault) → length log ≤ settings.max_bytes
+      → given ≡ length log → LogMeans log meanings → (script.strict ≡ true → AllByRecursion AnnouncesWithin (trace settings meanings))
+      → EndsTelling target script answers start settings log meanings result new
+      → AnswersTold script refusal answers MESSAGE_LIMIT settings log given result (target.taken start) (target.taken new)
+  told_at_the_end refusal log given meanings result short all means within = by result
+    where
+      each : EachPasses (passing script.strict MESSAGE_LIMIT settings) meanings
+      each = all_pass script.strict settings meanings within
+
+      with_answer : (reply : Result A Stop) → EndsSaying target script answers start settings log meanings reply new
+          → EndsWith script answers MESSAGE_LIMIT settings log given reply (target.taken start) (target.taken new)
+      with_answer reply ends = (
+        omega (arith, all),
+        meanings,
+        read_to_end settings log script.strict meanings short means each,
+        ends.0,
+        wrote_all target start new (whole_of_lines script MESSAGE_LIMIT settings log meanings) ends.1,
+      )
+
+      by : (result : Result A Fault) → EndsTelling target script answers start settings log meanings result new
+          → AnswersTold script refusal answers MESSAGE_LIMIT settings log given result (target.taken start) (target.taken new)
+      by (Ok value) ends = with_answer (Ok value) ends
+      by (Err fault.OutputLimit) ends = with_answer (Err end_stop.OutputLimit) ends
+      by (Err fault.Write) ends =
+          let front = wrote_front target start new (whole_of_lines script MESSAGE_LIMIT settings log meanings) true ends in
+          inl (
+            writes_front_of_all (passing script.strict MESSAGE_LIMIT settings) (whole_of_lines script MESSAGE_LIMIT settings log) settings log given meanings (target.taken start)
+                (target.taken new) fault.Write front.front means (le-min (omega arith) short) refl each front.wrote (front.rest, front.parts),
+            inr (record { meanings = meanings; read = read_to_end settings log script.strict meanings short means each; some = ends.spoke refl; front = front }),
+          )
+      by (Err fault.Read) ends = absurd ends
+      by (Err fault.Memory) ends = absurd ends
+      by (Err fault.LogLimit) ends = absurd ends
+      by (Err (fault.BadLine line column)) ends = absurd ends
+      by (Err (fault.Oversize line announced)) ends = absurd ends
+
+  -- what is carried to the end: writing failed exactly where that is answered
+  pub known_then : (log : List ℕ) (meanings : List (Option Stamped)) (result : Result A Fault) → EndsTelling target script answers start settings log meanings result new
+      → (said : List ℕ) × (failed : Bool) × Carries target start said failed [] new × FailedIf fault.Write result (target.failures start) (target.failures new)
+      × (result ≢ Err fault.Read)
+  known_then log meanings (Ok value) ends = (_, false, ends.1, record { risen = λ is. absurd (cc is); same = λ _. ends.1.failures }, λ is. absurd (cc is))
+  known_then log meanings (Err fault.OutputLimit) ends = (_, false, ends.1, record { risen = λ is. absurd (cc is); same = λ _. ends.1.failures }, λ is. absurd (cc is))
+  known_then log meanings (Err fault.Write) ends = (_, true, ends, record { risen = λ _. ends.failures; same = λ other. absurd (other refl) }, λ is. absurd (cc is))
+  known_then log meanings (Err fault.Read) ends = absurd ends
+  known_then log meanings (Err fault.Memory) ends = absurd ends
+  known_then log meanings (Err fault.LogLimit) ends = absurd ends
+  known_then log meanings (Err (fault.BadLine line column)) ends = absurd ends
+  known_then log meanings (Err (fault.Oversize line announced)) ends = absurd ends
+
+-- memory is not refused at the end
+pub never_memory : {A W : Type 0} (target : Ghosts W) (script : Script) (answers : Answering A) (start new : W) (settings : Settings) (log : List ℕ) (meanings : List (Option Stamped)) (result : Result A Fault)
+    → EndsTelling target script answers start settings log meanings result new → result ≢ Err fault.Memory
+never_memory target script answers start new settings log meanings (Ok value) ends = λ is. absurd (cc is)
+never_memory target script answers start new settings log meanings (Err fault.Memory) ends = absurd ends
+never_memory target script answers start new settings log meanings (Err fault.OutputLimit) ends = λ is. absurd (cc is)
+never_memory target script answers start new settings log meanings (Err fault.Write) ends = λ is. absurd (cc is)
+never_memory target script answers start new settings log meanings (Err fault.Read) ends = λ is. absurd (cc is)
+never_memory target script answers start new settings log meanings (Err fault.LogLimit) ends = λ is. absurd (cc is)
+never_memory target script answers start new settings log meanings (Err (fault.BadLine line column)) ends = λ is. absurd (cc is)
+never_memory target script answers start new settings log meanings (Err (fault.Oversize line announced)) ends = λ is. absurd (cc is)
+
+-- there is one reason to stop at the end
+pub only_stop : (why : Stop) → why ≡ end_stop.OutputLimit
+only_stop end_stop.OutputLimit = refl
+
+-- all that is said at the end was said
+module _ {M W : Type 0} (stands : List Entry → M → Type 0) (target : Ghosts W) (script : Script) (start : W) (settings : Settings) (log : List ℕ) (meanings : List (Option Stamped)) where
+  -- and settled so
+  pub carried_at_the_end : (machine : M) (judge : Judge) (failed failed_then : Bool) (held held_then : List ℕ) (old mid new : W) (settled : Bool) (summary : Summary)
+      → Tells stands target script start (trace settings meanings) machine judge failed held old → summary ≡ summary_of MESSAGE_LIMIT settings log meanings
+      → Says target failed held old (script.last (trace settings meanings) summary) failed_then held_then mid → Settles target failed_then held_then mid settled new
+      → Carries target start (whole_of_lines script MESSAGE_LIMIT settings log meanings) (not settled) [] new
+  carried_at_the_end machine judge failed failed_then held held_then old mid new settled summary so_far is speaks settles =
+      let T = trace settings meanings in
+      subst (λ s. Carries target start (told script.word T ++ script.last T s) (not settled) [] new) is
+      (settles start (told script.word T ++ script.last T summary)
+      (speaks start (told script.word T) so_far.carried))

@@ -1,4 +1,0 @@
-use Rattle.trace_run.proofs.page.Page.put_whole_anew.Goals as goal
-
-pub returns : goal.returns
-returns g c = λ start said carries. c.put.ensures start said (c.settle.ensures.no_more start said carries)

@@ -1,9 +1,0 @@
-use Rattle.std.proofs.Common.{subst}
-use Rattle.uds_exchange.specs.ItemSeen.{item_value}
-use Rattle.trace_text.proofs.ItemObjects.{object_line_is}
-use Rattle.trace_text.proofs.item_objects.say_object_line.Goals as goal
-
-pub returns : goal.returns
-returns g c =
-    subst (λ text. g.S.TextSink.says c.args.out.now text c.say.new.out) (object_line_is c.args.numbering c.args.number (item_value c.args.item))
-    c.say.ensures

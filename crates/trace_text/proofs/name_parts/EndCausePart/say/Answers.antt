@@ -1,0 +1,6 @@
+-- The name that is said is the text of the cause.
+use Rattle.std.proofs.Common.{subst}
+use Rattle.trace_text.proofs.name_parts.EndCausePart.say.Goals as goal
+
+pub returns : goal.returns
+returns g c = subst (λ text. g.S.TextSink.says c.args.out.now text c.say.new.out) c.cause_name.ensures c.say.ensures

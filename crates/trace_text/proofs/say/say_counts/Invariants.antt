@@ -1,6 +1,0 @@
-use Rattle.std.proofs.Common.{take}
-use Rattle.trace_text.specs.Counts.{counts_between}
-use Rattle.trace_text.proofs.say.say_counts.Given as goal
-
-abbrev pub invariant-counts : goal.invariant-counts
-invariant-counts g l = g.S.TextSink.says l.initial.out (counts_between l.before l.between (take l.count-index l.counts)) l.out

@@ -1,0 +1,134 @@
+//! What has a name, as parts of a text.
+use crate::digits::{numbered_code, numbered_service};
+use crate::names::{cause_name, direction_name, layout_fault_name};
+use crate::numbers::{HexadecimalDigit, Length};
+use can_log::{Id, identifier_text};
+use direction::Dir;
+use isotp_pdu::PduFault;
+use isotp_receive::{Cause, Reason};
+use text_parts::{Part, say};
+use trace_io::TextSink;
+use uds_message::{code_name, service_name};
+
+/// The name of a service (ISO 14229-1), or `service_` and two digits where it has none.
+#[derive(Clone, Copy)]
+pub struct Service(pub u8);
+
+impl Part for Service {
+    ghost use Rattle.trace_text.specs.Words.{service_text};
+
+    ghost text = { λ service. service_text service.0 };
+
+    #[inline(never)]
+    fn say<S: TextSink>(self, out: &mut S) {
+        match service_name(self.0) {
+            Some(name) => say(out, name),
+            None => out.put(&numbered_service(self.0)),
+        }
+    }
+}
+
+/// The name of a response code (ISO 14229-1, Annex A.1), or `code_` and two digits where it has none.
+#[derive(Clone, Copy)]
+pub struct ResponseCode(pub u8);
+
+impl Part for ResponseCode {
+    ghost use Rattle.trace_text.specs.Words.{code_text};
+
+    ghost text = { λ code. code_text code.0 };
+
+    #[inline(never)]
+    fn say<S: TextSink>(self, out: &mut S) {
+        match code_name(self.0) {
+            Some(name) => say(out, name),
+            None => out.put(&numbered_code(self.0)),
+        }
+    }
+}
+
+/// The name of who sent something.
+#[derive(Clone, Copy)]
+pub struct Sender(pub Dir);
+
+impl Part for Sender {
+    ghost use Rattle.trace_text.specs.Words.{direction_text};
+
+    ghost text = { λ sender. direction_text sender.0 };
+
+    fn say<S: TextSink>(self, out: &mut S) {
+        say(out, direction_name(self.0));
+    }
+}
+
+/// The identifier of a side.
+#[derive(Clone, Copy)]
+pub struct Identifier(pub Id);
+
+impl Part for Identifier {
+    ghost use Rattle.can_log.specs.Canonical.{identifier_text};
+
+    ghost text = { λ id. identifier_text id.0 };
+
+    fn say<S: TextSink>(self, out: &mut S) {
+        out.put(identifier_text(self.0).as_slice());
+    }
+}
+
+/// Why a reception ended.
+#[derive(Clone, Copy)]
+pub struct EndCause(pub Cause);
+
+impl Part for EndCause {
+    ghost use Rattle.trace_text.specs.RemarkLines.{cause_text};
+
+    ghost text = { λ end. cause_text end.0 };
+
+    fn say<S: TextSink>(self, out: &mut S) {
+        say(out, cause_name(self.0));
+    }
+}
+
+/// Why a frame has no layout.
+#[derive(Clone, Copy)]
+pub struct LayoutFault(pub PduFault);
+
+impl Part for LayoutFault {
+    ghost use Rattle.trace_text.specs.RemarkLines.{layout_fault_text};
+
+    ghost text = { λ fault. layout_fault_text fault.0 };
+
+    fn say<S: TextSink>(self, out: &mut S) {
+        say(out, layout_fault_name(self.0));
+    }
+}
+
+/// Why a frame was dropped.
+#[derive(Clone, Copy)]
+pub struct DropReason(pub Reason);
+
+impl Part for DropReason {
+    ghost use Rattle.trace_text.specs.RemarkLines.{reason_text};
+
+    ghost text = { λ why. reason_text why.0 };
+
+    fn say<S: TextSink>(self, out: &mut S) {
+        match self.0 {
+            Reason::Pdu(fault) => say(out, LayoutFault(fault)),
+            Reason::FlowUnexpected => say(out, "flow control unexpected"),
+            Reason::NextUnexpected => say(out, "consecutive frame unexpected"),
+            Reason::NextLate => say(out, "consecutive frame late"),
+            Reason::NextSequence { expected, found } => say(
+                out,
+                (
+                    "sequence number ",
+                    HexadecimalDigit(expected),
+                    " expected, ",
+                    HexadecimalDigit(found),
+                    " found",
+                ),
+            ),
+            Reason::NextLength => say(out, "consecutive frame length"),
+            Reason::TooLong { announced } => say(out, (Length(announced), " bytes announced")),
+        }
+    }
+}
