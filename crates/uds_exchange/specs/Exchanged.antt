@@ -23,7 +23,7 @@ look_exchanged M = not (list_any is_tester_request M) && (list_any is_tester_res
 -- the three facts of these messages
 abbrev pub sides_of : List Message → Sides
 sides_of M = record {
-  asked = list_any is_tester_request M;
+  tester_asked = list_any is_tester_request M;
   tester_responds = list_any is_tester_response M;
   unit_sends_other = list_any is_unit_non_response M;
 }

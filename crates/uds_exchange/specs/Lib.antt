@@ -8,10 +8,9 @@ pub mod Orderer
 pub mod Decided
 pub mod ItemSink
 pub mod Decider
-pub mod Laws
 pub mod OneMessage
-pub mod OpenExchange
 pub mod Exchanged
 pub mod Judging
 pub mod Blocks
+pub mod Laws
 pub mod proving

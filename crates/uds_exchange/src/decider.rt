@@ -62,7 +62,7 @@ impl Decider {
 
         ensures err { OnErr result (self.new ≡ self.old) }
         ensures unput { OnErr result (sink.new ≡ sink.old) }
-        ensures kept_only { OnErr result ((M : List Message) → self.old ≡ decider_after M → IsJudgedAfter M message.entry → IsKept M (sent message.entry)) }
+        ensures needs { OnErr result ((M : List Message) → self.old ≡ decider_after M → IsJudgedAfter M message.entry → IsKept M (sent message.entry)) }
     {
         self.advance(message, sink)
     }
@@ -85,7 +85,7 @@ impl Decider {
         ensures puts { OnOk result (PutsItems S.takes sink.old (decided_for message.entry.step self.old (sent message.entry)) sink.new) }
         ensures err { OnErr result (self.new ≡ self.old) }
         ensures unput { OnErr result (sink.new ≡ sink.old) }
-        ensures kept { OnErr result (Refuses message.entry.step self.old (sent message.entry)) }
+        ensures needs { OnErr result (Refuses message.entry.step self.old (sent message.entry)) }
     {
         let Judged { dir, bytes, .. } = message;
         match message.step {

@@ -68,7 +68,7 @@ impl JudgedOrderer {
             → PutsDue S.after_ok M (sent message.entry) sink.old sink.new) }
 
         ensures memory { result ≡ Err Memory → (self.new ≡ self.old) × (sink.new ≡ sink.old) }
-        ensures held_only { result ≡ Err Memory → (M : List Message) → self.old ≡ judged_orderer_after M → IsJudgedAfter M message.entry
+        ensures needs { result ≡ Err Memory → (M : List Message) → self.old ≡ judged_orderer_after M → IsJudgedAfter M message.entry
             → IsHeld M (sent message.entry) }
         ensures stops { IfErr result (λ fault. (M : List Message) → self.old ≡ judged_orderer_after M → IsJudgedAfter M message.entry
             → StopsDue S.after_ok S.after_err M (sent message.entry) sink.old sink.new fault) }

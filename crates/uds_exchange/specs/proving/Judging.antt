@@ -35,7 +35,7 @@ noted_other message sides = record sides {
 -- and with any message more
 abbrev pub noted : Message → Sides → Sides
 noted message sides = record {
-  asked = sides.asked || is_tester_request message;
+  tester_asked = sides.tester_asked || is_tester_request message;
   tester_responds = sides.tester_responds || is_tester_response message;
   unit_sends_other = sides.unit_sends_other || is_unit_non_response message;
 }
