@@ -52,7 +52,7 @@ pub record HasCounted (M : List Message) (judge : Judge) : Type 0 where
   pub held_count : judge.held_count ≡ length (held M)
   pub removed : judge.removed ≡ length (removed_messages M)
 
--- It is the judge of these messages: it has also gathered what tells whether tester and unit look exchanged.
+-- A judge is that of these messages: it has counted them, and has gathered what tells whether tester and unit look exchanged.
 pub record IsJudgeOf (M : List Message) (judge : Judge) : Type 0 where
   pub counted : HasCounted M judge
   pub sides : judge.sides ≡ sides_of M
@@ -61,7 +61,7 @@ pub record IsJudgeOf (M : List Message) (judge : Judge) : Type 0 where
 abbrev pub sent : Judged → Message
 sent judged = (judged.dir, judged.bytes.now)
 
--- what becomes of it is right behind the messages M
+-- A message was judged after the messages M: its step is what becomes of it there.
 abbrev pub IsJudgedAfter : List Message → Judged → Type 0
 IsJudgedAfter M judged = judged.step ≡ step_after M (sent judged)
 

@@ -1,6 +1,6 @@
 //! The items of a meaning, each as soon as it is decided.
 
-ghost use Rattle.std.specs.Prelude.{◌≡◌, ◌++◌, ◌∷◌, [], List, OnOk, OnErr, IfOk, map, option_map};
+ghost use Rattle.std.specs.Prelude.{◌≡◌, ◌++◌, ◌∷◌, [], List, OnOk, OnErr, map, option_map};
 ghost use Rattle.direction.specs.Dir.{Message};
 ghost use Rattle.uds_exchange.specs.Meaning.{stray_of};
 ghost use Rattle.uds_exchange.specs.Decided.{exchange_items, undecided};
@@ -14,6 +14,7 @@ use crate::item::Item;
 use crate::item_sink::ItemSink;
 use crate::judge::Judged;
 use crate::message_sink::{MessageSink, NoFault};
+use crate::messages::block_with;
 use crate::step::Step;
 use direction::Dir;
 use std::alloc::{AllocError, Global};
@@ -90,7 +91,7 @@ impl Decider {
         let Judged { dir, bytes, .. } = message;
         match message.step {
             Step::Request(_) => {
-                let request = copy(self.alloc, bytes)?;
+                let request = block_with(self.alloc, bytes.len(), bytes)?;
                 put_exchange(&self.request, None, &self.held, sink);
                 self.request = Some(request);
                 self.held.clear();
@@ -141,7 +142,7 @@ fn put_strays<S: ItemSink>(held: &HeldMessages, sink: &mut S)
     }
 }
 
-/// Puts each message as a stray.
+/// What takes messages and puts each into a sink of items, as a stray.
 #[derive(Drop)]
 pub(crate) struct StraySink<'a, S> {
     pub sink: &'a mut S,
@@ -164,13 +165,4 @@ impl<'a, S: ItemSink> MessageSink for StraySink<'a, S> {
         });
         Ok(())
     }
-}
-
-/// The bytes, copied into new memory of their length.
-fn copy(alloc: Global, bytes: &[u8]) -> Result<Vec<u8>, AllocError>
-    ensures { IfOk result (λ v. v.items ≡ bytes.now) }
-{
-    let mut copied = Vec::with_capacity(alloc, bytes.len())?;
-    copied.extend_from_slice(bytes)?;
-    Ok(copied)
 }

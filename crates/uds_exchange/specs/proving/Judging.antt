@@ -32,7 +32,7 @@ noted_other message sides = record sides {
   unit_sends_other = sides.unit_sends_other || is_unit_non_response message;
 }
 
--- and with any message more
+-- what tells whether tester and unit are exchanged, with any one more message
 abbrev pub noted : Message → Sides → Sides
 noted message sides = record {
   tester_asked = sides.tester_asked || is_tester_request message;
