@@ -18,7 +18,8 @@ use Rattle.uds_exchange.specs.Meaning.{meaning, flattened}
 use Rattle.uds_exchange.proofs.Promises.{early_grows, early_then_held}
 use Rattle.trace_canon.specs.CanonicalScript.{StandsCanonical, is_too_long, answers_canonical, CanonicalTellsTheSame, canonical_script, place_behind, lines_due, text_of_early, CanonicalTellsEarly}
 use Rattle.trace_canon.specs.InMemory.{HasTextOf}
-use Rattle.trace_run.specs.Told.{tells_no_refusal, told_after, told, told_of_lines, whole_of_lines, AnswersTold, EndsWith, FailsToTell, WritesTold, WritesToldAndRefusal, WritesFrontOfWhole, TellsEagerly}
+use Rattle.trace_run.specs.Script.{tells_no_refusal, told_after, told, told_of_lines, whole_of_lines}
+use Rattle.trace_run.specs.Told.{AnswersTold, EndsWith, FailsToTell, WritesTold, WritesToldAndRefusal, WritesFrontOfWhole, TellsEagerly}
 use Rattle.trace_canon.specs.proving.Writing.{Progress, start_of, text_from, progress_after}
 use Rattle.trace_canon.proofs.CanonicalWriting.{text_none, text_append, place_append}
 use Rattle.trace_canon.proofs.Answered.{answers_accepted, answers_output_limit}
@@ -27,7 +28,7 @@ use Rattle.trace_canon.proofs.FittingLines.{over_when, within_when}
 use Rattle.trace_run.proofs.Promises.{front_of_whole}
 use Rattle.trace_log.specs.declared.fault.Fault.{Fault}
 use Rattle.trace_log.specs.declared.fault.Fault.TheVariants.{BadLine, Oversize, LogLimit, OutputLimit, Read, Write, Memory}
-use Rattle.trace_run.specs.declared.machine.Stop.TheVariants as end_stop
+use Rattle.trace_run.specs.declared.machine.NoAnswer.TheVariants as no_answer
 use Rattle.trace_log.specs.declared.summary.Summary.{Summary}
 use Rattle.trace_log.specs.Answers.{Answers, WritesFront, WritesEagerly}
 use Rattle.trace_log.specs.LinesRead.{WritesTextOfRead}
@@ -187,25 +188,25 @@ module _ (settings : Settings) where
       where
         by : (b : Bool) → is_too_long settings (trace settings meanings) ≡ b → Answers MESSAGE_LIMIT settings log given (Ok summary) old new
         by true is =
-            let same : Ok summary ≡ Err end_stop.OutputLimit =
-            answer ∙ ap (λ (b : Bool). if b then Err end_stop.OutputLimit else Ok (summary_of MESSAGE_LIMIT settings log meanings)) is in
+            let same : Ok summary ≡ Err no_answer.OutputLimit =
+            answer ∙ ap (λ (b : Bool). if b then Err no_answer.OutputLimit else Ok (summary_of MESSAGE_LIMIT settings log meanings)) is in
             absurd (cc same)
         by false is =
             let same : Ok summary ≡ Ok (summary_of MESSAGE_LIMIT settings log meanings) =
-            answer ∙ ap (λ (b : Bool). if b then Err end_stop.OutputLimit else Ok (summary_of MESSAGE_LIMIT settings log meanings)) is in
+            answer ∙ ap (λ (b : Bool). if b then Err no_answer.OutputLimit else Ok (summary_of MESSAGE_LIMIT settings log meanings)) is in
             let counted : summary ≡ summary_of MESSAGE_LIMIT settings log meanings = cc same in
             let fits = whole_when settings (flattened (meaning (messages MESSAGE_LIMIT (trace settings meanings)))) is in
             subst (λ s. Answers MESSAGE_LIMIT settings log given (Ok s) old new) (sym counted)
             (answers_accepted MESSAGE_LIMIT settings log given meanings old new read fits.0 (wrote ∙ ap (λ x. old ++ x) (whole_said log meanings ∙ fits.1)))
 
-    ends_over : EndsWith (canonical_script settings) (answers_canonical settings) MESSAGE_LIMIT settings log given (Err end_stop.OutputLimit) old new
+    ends_over : EndsWith (canonical_script settings) (answers_canonical settings) MESSAGE_LIMIT settings log given (Err no_answer.OutputLimit) old new
         → Answers MESSAGE_LIMIT settings log given (Err OutputLimit) old new
     ends_over (all, meanings, read, answer, wrote) = by (is_too_long settings (trace settings meanings)) refl
       where
         by : (b : Bool) → is_too_long settings (trace settings meanings) ≡ b → Answers MESSAGE_LIMIT settings log given (Err OutputLimit) old new
         by false is =
-            let same : Err end_stop.OutputLimit ≡ Ok (summary_of MESSAGE_LIMIT settings log meanings) =
-            answer ∙ ap (λ (b : Bool). if b then Err end_stop.OutputLimit else Ok (summary_of MESSAGE_LIMIT settings log meanings)) is in
+            let same : Err no_answer.OutputLimit ≡ Ok (summary_of MESSAGE_LIMIT settings log meanings) =
+            answer ∙ ap (λ (b : Bool). if b then Err no_answer.OutputLimit else Ok (summary_of MESSAGE_LIMIT settings log meanings)) is in
             absurd (cc same)
         by true is =
             answers_output_limit MESSAGE_LIMIT settings log given meanings old new read all (long_when settings (flattened (meaning (messages MESSAGE_LIMIT (trace settings meanings)))) is)

@@ -12,7 +12,8 @@ use Rattle.isotp_receive.specs.EventSeen.{seen_event}
 use Rattle.uds_exchange.specs.declared.judge.Judged.{Judged}
 use Rattle.trace_run.specs.Seen.{IsSeen}
 use Rattle.trace_run.specs.declared.machine.Seen.{Seen}
-use Rattle.trace_run.proofs.Promises.{CompletesJudged, tells_no_message}
+use Rattle.trace_run.specs.Seen.{CompletesJudged}
+use Rattle.trace_run.proofs.Promises.{tells_no_message}
 use Rattle.uds_exchange.specs.Judging.{step_after, number_after}
 use Rattle.uds_exchange.specs.declared.step.Step.{Step}
 use Rattle.trace_canon.specs.proving.ReceptionStarts.{IsBegunAt}

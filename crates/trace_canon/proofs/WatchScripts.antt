@@ -13,14 +13,15 @@ use Rattle.uds_exchange.specs.ItemSink.{PutsItems}
 use Rattle.uds_exchange.specs.Meaning.{ItemValue, meaning}
 use Rattle.uds_exchange.specs.Judging.{one_more, sent}
 use Rattle.uds_exchange.specs.declared.judge.Judged.{Judged}
-use Rattle.trace_run.proofs.Promises.{CompletesJudged}
+use Rattle.trace_run.specs.Seen.{CompletesJudged}
 use Rattle.uds_exchange.proofs.Promises.{decided_grows, decided_then_undecided, items_are_few, none_is_lost}
 use Rattle.trace_text.specs.ItemLines.{item_line, list_text, list_text_from}
 use Rattle.trace_log.specs.Messages.{meaning_of_lines}
 use Rattle.trace_canon.specs.MemoryNeeded.{CompletesKept}
 use Rattle.trace_log.specs.Settings.{Settings}
 use Rattle.trace_log.specs.Summing.{summary_of}
-use Rattle.trace_run.specs.Told.{AnswersTold, answers_counts, tells_no_refusal, told_after}
+use Rattle.trace_run.specs.Script.{answers_counts, tells_no_refusal, told_after}
+use Rattle.trace_run.specs.Told.{AnswersTold}
 use Rattle.trace_log.specs.Trace.{trace}
 use Rattle.trace_canon.specs.WatchScript.{decided_of, decided_by, text_behind, watching_script, WatchTellsDecided, WatchTellsTheList, WritesTheList}
 use Rattle.trace_canon.specs.proving.Watching.{SaysLines, SaysDecided, WatchesItems}

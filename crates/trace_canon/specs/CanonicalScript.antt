@@ -8,10 +8,11 @@ use Rattle.isotp_segment.specs.Timed.{all_frames}
 use Rattle.uds_exchange.specs.Order.{early, held}
 use Rattle.uds_exchange.specs.Orderer.{JudgedOrdererValue, judged_orderer_after}
 use Rattle.trace_log.specs.Settings.{Settings}
-use Rattle.trace_run.specs.Told.{Script, Answering, AnswersTold, tells_no_refusal, told, TellsEagerly}
+use Rattle.trace_run.specs.Script.{Script, Answering, tells_no_refusal, told}
+use Rattle.trace_run.specs.Told.{AnswersTold, TellsEagerly}
 use Rattle.trace_log.specs.Answers.{Answers}
 use Rattle.trace_log.specs.declared.fault.Fault.{Fault}
-use Rattle.trace_run.specs.declared.machine.Stop.TheVariants as stop
+use Rattle.trace_run.specs.declared.machine.NoAnswer.TheVariants as no_answer
 use Rattle.trace_log.specs.declared.summary.Summary.{Summary}
 use Rattle.uds_exchange.specs.Meaning.{meaning, flattened}
 use Rattle.trace_canon.specs.proving.Writing.{Progress, start_of, text_from, progress_after}
@@ -53,7 +54,7 @@ is_too_long settings T = (place_behind settings (flattened (meaning (messages ME
 
 -- it answers the counts where it is not
 abbrev pub answers_canonical : Settings → Answering Summary
-answers_canonical settings T summary result = result ≡ (if is_too_long settings T then Err stop.OutputLimit else Ok summary)
+answers_canonical settings T summary result = result ≡ (if is_too_long settings T then Err no_answer.OutputLimit else Ok summary)
 
 -- so what is answered and written is that
 abbrev pub CanonicalTellsTheSame : Type 0

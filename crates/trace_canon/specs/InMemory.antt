@@ -26,7 +26,8 @@ use Rattle.trace_log.specs.Outcome.{IsOutcome}
 use Rattle.trace_canon.specs.MessageLines.{placing_script}
 use Rattle.trace_log.specs.Settings.{Settings}
 use Rattle.trace_log.specs.Summing.{summary_of}
-use Rattle.trace_run.specs.Told.{Script, IsUnreadFor, told_of_lines, whole_of_lines}
+use Rattle.trace_run.specs.Script.{Script, told_of_lines, whole_of_lines}
+use Rattle.trace_run.specs.Told.{IsUnreadFor}
 use Rattle.uds_find.specs.declared.pair.CreditLine.{CreditLine}
 
 -- it is not that of a device, and refused memory only where some is needed

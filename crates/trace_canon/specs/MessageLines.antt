@@ -14,7 +14,7 @@ use Rattle.trace_text.specs.Json as json
 use Rattle.trace_canon.specs.declared.reception_starts.FramePlace.{FramePlace}
 use Rattle.trace_text.specs.declared.notation.Notation.{Notation}
 use Rattle.trace_text.specs.declared.notation.Notation.TheVariants.{Text, Json}
-use Rattle.trace_run.specs.Told.{Script}
+use Rattle.trace_run.specs.Script.{Script}
 use Rattle.trace_text.specs.Words.{bytes_text, direction_text, role_text, stamp_text}
 
 -- where a frame stands: its line and its time

@@ -10,10 +10,11 @@ use Rattle.uds_exchange.specs.declared.step.Step.TheVariants as step
 use Rattle.trace_canon.specs.Sessions.{GivesSession}
 use Rattle.trace_log.specs.CanonicalLog.{canonical_log}
 use Rattle.trace_log.specs.Settings.{Settings}
-use Rattle.trace_run.specs.Told.{Script, Answering, AnswersTold, tells_no_refusal}
+use Rattle.trace_run.specs.Script.{Script, Answering, tells_no_refusal}
+use Rattle.trace_run.specs.Told.{AnswersTold}
 use Rattle.trace_canon.specs.declared.collector.Session.{Session}
 use Rattle.trace_log.specs.declared.fault.Fault.{Fault}
-use Rattle.trace_run.specs.declared.machine.Stop.TheVariants.{OutputLimit}
+use Rattle.trace_run.specs.declared.machine.NoAnswer.TheVariants.{OutputLimit}
 use Rattle.trace_canon.specs.proving.Measuring.{HaveLengths}
 
 -- what the trace means

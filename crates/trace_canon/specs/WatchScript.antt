@@ -9,7 +9,7 @@ use Rattle.trace_canon.specs.SessionScript.{items_of}
 use Rattle.trace_text.specs.ItemLines.{list_text, list_text_from}
 use Rattle.trace_log.specs.Messages.{HasMeaning}
 use Rattle.trace_log.specs.Settings.{Settings}
-use Rattle.trace_run.specs.Told.{Script, told}
+use Rattle.trace_run.specs.Script.{Script, told}
 use Rattle.trace_text.specs.declared.item_style.ItemStyle.{ItemStyle}
 use Rattle.trace_log.specs.declared.summary.Summary.{Summary}
 

@@ -15,7 +15,7 @@ use isotp_receive::Pair;
 use std::alloc::{AllocError, Global};
 use trace_io::{Source, TextSink};
 use trace_log::{Config, Fault, Summary};
-use trace_run::{Glimpse, Machine, Nowhere, Seen, Stop, run};
+use trace_run::{Glimpse, Machine, NoAnswer, Nowhere, Seen, run};
 use uds_exchange::{Judged, JudgedPairing, Meaning, Step};
 
 /// What an accepted log means, and what was counted in it.
@@ -155,7 +155,7 @@ impl Machine for Collector {
         _pair: &Pair,
         summary: &Summary,
         _out: &mut S,
-    ) -> Result<Session, Stop> {
+    ) -> Result<Session, NoAnswer> {
         let Collector {
             pairing,
             length,
@@ -163,7 +163,7 @@ impl Machine for Collector {
             ..
         } = self;
         if length > config.max_bytes() {
-            return Err(Stop::OutputLimit);
+            return Err(NoAnswer::OutputLimit);
         }
         Ok(Session {
             meaning: pairing.finish(),
@@ -175,7 +175,7 @@ impl Machine for Collector {
         self,
         _summary: &Summary,
         _why: Fault,
-        _source: Glimpse<'_>,
+        _glimpse: Glimpse<'_>,
         _out: &mut S,
     ) {}
 }

@@ -20,7 +20,7 @@ use isotp_receive::Pair;
 use std::alloc::{AllocError, Global};
 use trace_io::{Source, Target, TextSink};
 use trace_log::{Config, Fault, Summary};
-use trace_run::{Glimpse, Machine, Seen, Stop, run};
+use trace_run::{Glimpse, Machine, NoAnswer, Seen, run};
 use uds_exchange::JudgedOrderer;
 
 /// Reads a log and writes the canonical lines of its messages, each as soon as its place is known.
@@ -130,7 +130,7 @@ impl Machine for Normaliser {
         _pair: &Pair,
         summary: &Summary,
         out: &mut S,
-    ) -> Result<Summary, Stop> {
+    ) -> Result<Summary, NoAnswer> {
         let Normaliser {
             orderer,
             mut progress,
@@ -138,7 +138,7 @@ impl Machine for Normaliser {
         } = self;
         say_held(orderer, &config, &mut progress, out);
         if progress.is_over() {
-            return Err(Stop::OutputLimit);
+            return Err(NoAnswer::OutputLimit);
         }
         Ok(*summary)
     }
@@ -147,7 +147,7 @@ impl Machine for Normaliser {
         self,
         _summary: &Summary,
         _why: Fault,
-        _source: Glimpse<'_>,
+        _glimpse: Glimpse<'_>,
         _out: &mut S,
     ) {}
 }

@@ -6,7 +6,8 @@ ghost use Rattle.uds_exchange.specs.Judging.{IsJudgedAfter, sent};
 ghost use Rattle.uds_exchange.specs.Decided.{undecided};
 ghost use Rattle.uds_exchange.specs.Decider.{decider_after, IsKept};
 ghost use Rattle.trace_canon.specs.MemoryNeeded.{CompletesKept};
-ghost use Rattle.trace_run.specs.Told.{RanLenient, answers_counts, command, tells_no_refusal};
+ghost use Rattle.trace_run.specs.Script.{answers_counts, command, tells_no_refusal};
+ghost use Rattle.trace_run.specs.Told.{RanLenient};
 ghost use Rattle.trace_canon.specs.WatchScript.{watching_script, WritesTheList};
 ghost use Rattle.trace_canon.specs.proving.Watching.{SaysDecided, SaysLines};
 ghost use Rattle.trace_io.specs.Counted.{IsLowCount};
@@ -16,7 +17,7 @@ use isotp_receive::Pair;
 use std::alloc::{AllocError, Global};
 use trace_io::{Source, Target, TextSink};
 use trace_log::{Config, Fault, Summary};
-use trace_run::{Glimpse, Machine, Seen, Stop, run_lenient};
+use trace_run::{Glimpse, Machine, NoAnswer, Seen, run_lenient};
 use trace_text::{ItemStyle, say_item_line};
 use uds_exchange::{Decider, Item, ItemSink, Judged};
 
@@ -63,7 +64,7 @@ pub(crate) struct Watcher {
 impl Machine for Watcher {
     ghost use Rattle.isotp_receive.specs.declared.TheConstants.{MESSAGE_LIMIT};
     ghost use Rattle.trace_canon.specs.MemoryNeeded.{CompletesKept};
-    ghost use Rattle.trace_run.specs.Told.{answers_counts};
+    ghost use Rattle.trace_run.specs.Script.{answers_counts};
     ghost use Rattle.trace_canon.specs.WatchScript.{watching_script};
     ghost use Rattle.trace_canon.specs.proving.Watching.{WatchesItems};
 
@@ -101,7 +102,7 @@ impl Machine for Watcher {
         _pair: &Pair,
         summary: &Summary,
         out: &mut S,
-    ) -> Result<Summary, Stop> {
+    ) -> Result<Summary, NoAnswer> {
         let Watcher {
             decider,
             style,
@@ -115,7 +116,7 @@ impl Machine for Watcher {
         self,
         _summary: &Summary,
         _why: Fault,
-        _source: Glimpse<'_>,
+        _glimpse: Glimpse<'_>,
         _out: &mut S,
     ) {}
 }

@@ -9,7 +9,7 @@ use Rattle.trace_report.specs.Looks.{lacks_stamp, look_of, row_of}
 use Rattle.trace_report.specs.declared.cause.RefusalCause.{RefusalCause}
 use Rattle.trace_report.specs.declared.cause.RefusalCause.TheVariants as cause
 use Rattle.trace_report.specs.declared.cause.CauseRow.{CauseRow}
-use Rattle.trace_run.specs.Told.{GlimpseValue}
+use Rattle.trace_run.specs.Script.{GlimpseValue}
 
 -- The cause of a log that is refused at this place. Where its source is over, nothing before the end was refused: the
 -- last line is cut. Else a line lacks its stamp, or the log looks like something else, or nothing is known.

@@ -15,7 +15,7 @@ use Rattle.trace_report.specs.Rows.{RowValue}
 use Rattle.trace_report.specs.Sorts.{tally_of}
 use Rattle.trace_report.specs.Verdict.{refused_verdict, stop_line, verdict_text}
 use Rattle.trace_log.specs.declared.fault.Fault.{Fault}
-use Rattle.trace_run.specs.Told.{GlimpseValue, Refusal, Script}
+use Rattle.trace_run.specs.Script.{GlimpseValue, RefusalText, Script}
 
 -- the time of the first frame of a trace; 0 where it has none
 abbrev pub first_time : List Entry → ℕ
@@ -64,7 +64,7 @@ last_text title limit T summary =
 
 -- what is told where a log is refused for this reason, behind the frames T, with its cause by what is seen of the
 -- source. What is open there is neither unfinished nor without an answer: so no row is told of it.
-abbrev pub refused_text : PageTitle → ℕ → GlimpseValue → Refusal
+abbrev pub refused_text : PageTitle → ℕ → GlimpseValue → RefusalText
 refused_text title limit source T summary why =
     front_before title T ++ refused_end why (cause_of why title.most source) (blocks_of (rows_of limit T)) (tally_of (rows_of limit T)) summary (first_time T) (last_time 0 T)
 

@@ -23,7 +23,7 @@ use Rattle.trace_report.specs.Sorts.{counts_in}
 use Rattle.trace_log.specs.Summing.{is_clean}
 use Rattle.trace_report.specs.Verdict.{is_called_clean, refusal_words, span_of, unclean_reasons}
 use Rattle.trace_report.specs.declared.cause.RefusalCause.{RefusalCause}
-use Rattle.trace_run.specs.Told.{GlimpseValue}
+use Rattle.trace_run.specs.Script.{GlimpseValue}
 use Rattle.trace_report.specs.declared.contrast.LogName.{LogName}
 use Rattle.trace_report.specs.declared.contrast.LogName.TheVariants.{A, B}
 use Rattle.trace_report.specs.declared.pair_page.PairTitle.{PairTitle}

@@ -23,7 +23,7 @@ use isotp_receive::Pair;
 use std::alloc::{AllocError, Global};
 use trace_io::{Source, TextSink};
 use trace_log::{CompareFault, Config, Fault, Summary};
-use trace_run::{Glimpse, Machine, Nowhere, Seen, Stop, run};
+use trace_run::{Glimpse, Machine, NoAnswer, Nowhere, Seen, run};
 
 /// Reads two logs, the first one whole before the second, and answers what both say. No announcement and no canonical
 /// log is too long for it.
@@ -181,7 +181,12 @@ impl Machine for Keeper {
         Ok(())
     }
 
-    fn end<S: TextSink>(self, pair: &Pair, summary: &Summary, _out: &mut S) -> Result<Heard, Stop> {
+    fn end<S: TextSink>(
+        self,
+        pair: &Pair,
+        summary: &Summary,
+        _out: &mut S,
+    ) -> Result<Heard, NoAnswer> {
         let Keeper {
             times,
             follower,
@@ -199,7 +204,7 @@ impl Machine for Keeper {
         self,
         _summary: &Summary,
         _why: Fault,
-        _source: Glimpse<'_>,
+        _glimpse: Glimpse<'_>,
         _out: &mut S,
     ) {}
 }

@@ -2,7 +2,8 @@
 ghost use Rattle.std.specs.Prelude.{◌≡◌, List, [], ◌∷◌, ◌++◌, Option};
 ghost use Rattle.isotp_receive.specs.declared.TheConstants.{MESSAGE_LIMIT};
 ghost use Rattle.isotp_receive.specs.Trace.{Entry};
-ghost use Rattle.trace_run.specs.Told.{RanLenient, answers_counts, command, glimpse_of, needs_none};
+ghost use Rattle.trace_run.specs.Script.{answers_counts, command, glimpse_of, needs_none};
+ghost use Rattle.trace_run.specs.Told.{RanLenient};
 ghost use Rattle.trace_io.specs.Counted.{IsLowCount};
 ghost use Rattle.trace_report.specs.Front.{page_title};
 ghost use Rattle.trace_report.specs.Page.{first_time, front_before, refused_text, report_script};
@@ -24,7 +25,7 @@ use std::alloc::{AllocError, Global};
 use text_parts::{Part, say};
 use trace_io::{Source, Target, TextSink};
 use trace_log::{Config, Fault, Summary};
-use trace_run::{Glimpse, Machine, Seen, Stop, run_lenient};
+use trace_run::{Glimpse, Machine, NoAnswer, Seen, run_lenient};
 
 /// Reads a log and writes its session as a page of HTML, with this style and the name of the log: each row as its frame comes, and
 /// at the end the verdict, which the style shows first.
@@ -75,7 +76,7 @@ pub(crate) struct Reporter<'a> {
 
 impl<'a> Machine for Reporter<'a> {
     ghost use Rattle.isotp_receive.specs.declared.TheConstants.{MESSAGE_LIMIT};
-    ghost use Rattle.trace_run.specs.Told.{answers_counts};
+    ghost use Rattle.trace_run.specs.Script.{answers_counts};
     ghost use Rattle.trace_report.specs.Page.{refused_text, report_script};
     ghost use Rattle.trace_report.specs.proving.Following.{Reports};
     ghost use Rattle.trace_report.specs.proving.Pages.{title_of};
@@ -114,7 +115,7 @@ impl<'a> Machine for Reporter<'a> {
         pair: &Pair,
         summary: &Summary,
         out: &mut S,
-    ) -> Result<Summary, Stop> {
+    ) -> Result<Summary, NoAnswer> {
         let Reporter {
             title,
             times,
@@ -132,7 +133,13 @@ impl<'a> Machine for Reporter<'a> {
         Ok(*summary)
     }
 
-    fn refused<S: TextSink>(self, summary: &Summary, why: Fault, source: Glimpse<'_>, out: &mut S) {
+    fn refused<S: TextSink>(
+        self,
+        summary: &Summary,
+        why: Fault,
+        glimpse: Glimpse<'_>,
+        out: &mut S,
+    ) {
         let Reporter {
             title,
             times,
@@ -142,7 +149,7 @@ impl<'a> Machine for Reporter<'a> {
         say_front_before(&title, times, 0, out);
         let closing = RefusedEnd {
             why,
-            cause: cause_of(why, title.most, source),
+            cause: cause_of(why, title.most, glimpse),
             chart: &chart,
             summary,
             times,

@@ -22,8 +22,15 @@
 //! Contracts keep these words apart: a frame is *told* to a machine, which *says* text; a page *carries* what was said
 //! and is not written; and where a page is *settled*, that is written, or writing failed.
 //!
-//! [`print`] writes by such a page what is known as a whole. [`Nowhere`] is the target of a machine that says
-//! nothing.
+//! | What | Files | Definitions |
+//! |---|---|---|
+//! | a command, and what it is handed: [`Machine`], [`Seen`], [`Glimpse`], [`NoAnswer`] | `machine` | `Script`, `Seen` |
+//! | a run of one over a log: [`run`], [`run_lenient`] | `driver` | `Told` |
+//! | the frames received and counted | `receiver`, `summing` | those of `trace_log` |
+//! | the messages judged, and the machine told | `telling` | `Seen` |
+//! | its text gathered for few writes | `page`, `held_text` | |
+//! | a text that is known as a whole, written by such a page: [`print`] | `printer` | `Printed` |
+//! | the target of a machine that says nothing: [`Nowhere`] | `nowhere` | |
 #![tactic(auto)]
 
 mod driver;
@@ -37,6 +44,6 @@ mod summing;
 mod telling;
 
 pub use driver::{run, run_lenient};
-pub use machine::{Glimpse, Machine, Seen, Stop};
+pub use machine::{Glimpse, Machine, NoAnswer, Seen};
 pub use nowhere::Nowhere;
 pub use printer::print;

@@ -21,7 +21,8 @@ use Rattle.trace_log.specs.Needing.{HasFrame, IsKeptForMessage, NeedsMemoryToRec
 use Rattle.trace_canon.specs.MemoryNeeded.{CompletesKept, NeedsMemoryToCollect, NeedsMemoryToOrder}
 use Rattle.trace_log.specs.Refusal.{HasNoBadPlaceWithin, IsNotRefusedWithin}
 use Rattle.trace_log.specs.Settings.{Settings}
-use Rattle.trace_run.specs.Told.{GlimpseValue, Script, Refusal, AnswersTold, RanLenient, TellsEagerly, answers_counts, command, needs_none, tells_no_refusal}
+use Rattle.trace_run.specs.Script.{GlimpseValue, Script, RefusalText, answers_counts, command, needs_none, tells_no_refusal}
+use Rattle.trace_run.specs.Told.{AnswersTold, RanLenient, TellsEagerly}
 use Rattle.trace_canon.specs.WatchScript.{watching_script}
 use Rattle.trace_canon.specs.declared.comparing.Compared.{Compared}
 use Rattle.trace_canon.specs.declared.comparison_text.ComparisonStyle.{ComparisonStyle}
@@ -148,7 +149,7 @@ pub data Engine : Type 1 where
   writes : TextOfItems → Engine
   finds : Notation → Engine
   runs : (ℕ → Script) → (ℕ → List Entry → Entry → Type 0) → Engine
-  runs_in_style : (List ℕ → Settings → ℕ → Script) → (List ℕ → Settings → ℕ → Refusal) → Engine
+  runs_in_style : (List ℕ → Settings → ℕ → Script) → (List ℕ → Settings → ℕ → RefusalText) → Engine
 
 -- what it answers, and what it then writes
 abbrev pub answers_of : Engine → ℕ → Settings → List ℕ → ℕ → Result Summary Fault → List ℕ → List ℕ → Type 0

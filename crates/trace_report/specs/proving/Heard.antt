@@ -2,8 +2,8 @@
 use Rattle.std.specs.Prelude.{◌≡◌, ◌≤◌, ◌^◌, false, List, [], length, Ok, Err}
 use Rattle.isotp_receive.specs.declared.TheConstants.{MESSAGE_LIMIT}
 use Rattle.isotp_receive.specs.Trace.{Entry}
-use Rattle.trace_run.specs.Told.{Script, Answering}
-use Rattle.trace_run.specs.declared.machine.Stop.TheVariants.{OutputLimit}
+use Rattle.trace_run.specs.Script.{Script, Answering}
+use Rattle.trace_run.specs.declared.machine.NoAnswer.TheVariants.{OutputLimit}
 use Rattle.trace_log.specs.declared.summary.Summary.{Summary}
 use Rattle.trace_report.specs.Events.{end_rows, rows_of}
 use Rattle.trace_report.specs.declared.keeper.Heard.{Heard}

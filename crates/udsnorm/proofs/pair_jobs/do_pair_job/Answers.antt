@@ -8,7 +8,7 @@ use Rattle.trace_report.specs.PairPage.{pair_page, pair_title}
 use Rattle.udsnorm.specs.Commands.{ComparesPair, PagesPair, text_of_difference}
 use Rattle.udsnorm.specs.proving.Pairs.{answer_held, cause_in, text_of_answer}
 use Rattle.trace_report.specs.declared.cause.RefusalCause.{RefusalCause}
-use Rattle.trace_run.specs.Told.{glimpse_of}
+use Rattle.trace_run.specs.Script.{glimpse_of}
 use Rattle.udsnorm.specs.declared.pair_jobs.PairAnswer.{PairAnswer}
 use Rattle.udsnorm.proofs.Pairs.{compared_pair, fault_compared, fault_held, pages_pair, read_told, refused_pair}
 use Rattle.udsnorm.proofs.pair_jobs.do_pair_job.Goals as goal

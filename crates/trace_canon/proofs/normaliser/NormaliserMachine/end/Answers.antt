@@ -3,7 +3,7 @@ use Rattle.std.proofs.Common.{◌≡◌, Bool, true, false, ap, sym, ◌∙◌, 
 use Rattle.std.specs.Prelude.{if◌then◌else◌}
 use Rattle.isotp_receive.specs.declared.TheConstants.{MESSAGE_LIMIT}
 use Rattle.isotp_receive.specs.Verdict.{messages}
-use Rattle.trace_run.specs.declared.machine.Stop.TheVariants.{OutputLimit}
+use Rattle.trace_run.specs.declared.machine.NoAnswer.TheVariants.{OutputLimit}
 use Rattle.trace_canon.specs.CanonicalScript.{is_too_long}
 use Rattle.trace_canon.proofs.CanonicalScripts.{over_at_end}
 use Rattle.trace_canon.proofs.normaliser.NormaliserMachine.end.Goals as goal
