@@ -13,10 +13,10 @@ use Rattle.uds_exchange.specs.declared.judge.Judged.{Judged}
 use Rattle.trace_run.specs.Seen.{CompletesJudged}
 use Rattle.uds_exchange.specs.Orderer.{IsHeld, JudgedOrdererValue, judged_orderer_after}
 use Rattle.trace_canon.specs.MemoryNeeded.{CompletesMessage, CompletesHeld}
-use Rattle.trace_canon.specs.CanonicalScript.{place_behind, lines_due, StandsCanonical}
+use Rattle.trace_canon.specs.proving.CanonicalScript.{place_behind, lines_due, StandsCanonical}
 use Rattle.trace_canon.specs.proving.Saying.{SaysDue}
 use Rattle.trace_log.specs.Settings.{Settings}
-use Rattle.trace_canon.specs.proving.Writing.{Progress, start_of, text_from, progress_after}
+use Rattle.trace_canon.specs.proving.Writing.{ProgressValue, start_of, text_from, progress_after}
 use Rattle.trace_canon.proofs.CanonicalWriting.{text_none, place_append}
 use Rattle.trace_log.proofs.Promises.{messages_more, all_frames-append}
 
@@ -37,7 +37,7 @@ completes_held T e judged completes held =
 
 -- a message: what is due with it was said
 pub says_next : {S : Type 0} (says : S → List ℕ → S → Type 0) (settings config : Settings) (T : List Entry) (e : Entry) (message : Message)
-    (orderer orderer_now : JudgedOrdererValue) (progress progress_now : Progress) (out out_now : S) → messages MESSAGE_LIMIT (T ++ e ∷ []) ≡ messages MESSAGE_LIMIT T ++ message ∷ []
+    (orderer orderer_now : JudgedOrdererValue) (progress progress_now : ProgressValue) (out out_now : S) → messages MESSAGE_LIMIT (T ++ e ∷ []) ≡ messages MESSAGE_LIMIT T ++ message ∷ []
     → StandsCanonical settings T orderer config progress → orderer_now ≡ judged_orderer_after (messages MESSAGE_LIMIT T ++ message ∷ [])
     → SaysDue says config (messages MESSAGE_LIMIT T) message progress out progress_now out_now
     → StandsCanonical settings (T ++ e ∷ []) orderer_now config progress_now
@@ -62,7 +62,7 @@ says_next says settings config T e message orderer orderer_now progress progress
 
 -- no message: nothing is
 pub says_nothing_more : {S : Type 0} (says : S → List ℕ → S → Type 0) (nothing : (s : S) → says s [] s) (settings config : Settings) (T : List Entry) (e : Entry)
-    (orderer : JudgedOrdererValue) (progress : Progress) (out : S) → messages MESSAGE_LIMIT (T ++ e ∷ []) ≡ messages MESSAGE_LIMIT T
+    (orderer : JudgedOrdererValue) (progress : ProgressValue) (out : S) → messages MESSAGE_LIMIT (T ++ e ∷ []) ≡ messages MESSAGE_LIMIT T
     → StandsCanonical settings T orderer config progress
     → StandsCanonical settings (T ++ e ∷ []) orderer config progress
     × says out (lines_due settings (messages MESSAGE_LIMIT T) (messages MESSAGE_LIMIT (T ++ e ∷ []))) out

@@ -16,11 +16,11 @@ use Rattle.uds_exchange.specs.Order.{early, held}
 use Rattle.uds_exchange.specs.Orderer.{JudgedOrdererValue}
 use Rattle.uds_exchange.specs.Meaning.{meaning, flattened}
 use Rattle.uds_exchange.proofs.Promises.{early_grows, early_then_held}
-use Rattle.trace_canon.specs.CanonicalScript.{StandsCanonical, is_too_long, answers_canonical, CanonicalTellsTheSame, canonical_script, place_behind, lines_due, text_of_early, CanonicalTellsEarly}
+use Rattle.trace_canon.specs.proving.CanonicalScript.{StandsCanonical, is_too_long, answers_canonical, CanonicalTellsTheSame, canonical_script, place_behind, lines_due, text_of_early, CanonicalTellsEarly}
 use Rattle.trace_canon.specs.InMemory.{HasTextOf}
 use Rattle.trace_run.specs.Script.{tells_no_refusal, told_after, told, told_of_lines, whole_of_lines}
 use Rattle.trace_run.specs.Told.{AnswersTold, EndsWith, FailsToTell, WritesTold, WritesToldAndRefusal, WritesFrontOfWhole, TellsEagerly}
-use Rattle.trace_canon.specs.proving.Writing.{Progress, start_of, text_from, progress_after}
+use Rattle.trace_canon.specs.proving.Writing.{ProgressValue, start_of, text_from, progress_after}
 use Rattle.trace_canon.proofs.CanonicalWriting.{text_none, text_append, place_append}
 use Rattle.trace_canon.proofs.Answered.{answers_accepted, answers_output_limit}
 use Rattle.trace_canon.proofs.Hearings.{all_begin}
@@ -82,11 +82,11 @@ place_at_end settings M =
     ∙ ap (progress_after settings begin) (sym (all_frames-append MESSAGE_LIMIT (early M) (held M))) ∙ ap (place_behind settings) (early_then_held M)
 
 -- a line did not fit
-pub over_at_end : (settings config : Settings) (T : List Entry) (orderer : JudgedOrdererValue) (progress after : Progress) → StandsCanonical settings T orderer config progress
-    → after ≡ progress_after config progress (all_frames MESSAGE_LIMIT (held (messages MESSAGE_LIMIT T))) → after.is_over ≡ is_too_long settings T
+pub over_at_end : (settings config : Settings) (T : List Entry) (orderer : JudgedOrdererValue) (progress after : ProgressValue) → StandsCanonical settings T orderer config progress
+    → after ≡ progress_after config progress (all_frames MESSAGE_LIMIT (held (messages MESSAGE_LIMIT T))) → after.is_full ≡ is_too_long settings T
 over_at_end settings config T orderer progress after stands at =
     let frames = all_frames MESSAGE_LIMIT (held (messages MESSAGE_LIMIT T)) in
-    ap (λ (p : Progress). p.is_over)
+    ap (λ (p : ProgressValue). p.is_full)
     (at ∙ ap (λ s. progress_after s progress frames) stands.same ∙ ap (λ p. progress_after settings p frames) stands.at ∙ place_at_end settings (messages MESSAGE_LIMIT T))
 
 -- what was said of messages is what fits of their canonical log
@@ -95,11 +95,11 @@ unfolding text_from canonical_log
 said_fits settings put = sym (fitting_frames settings (all_frames MESSAGE_LIMIT put))
 
 -- it is too long where a line did not fit
-long_when : (settings : Settings) (put : List Message) → (place_behind settings put).is_over ≡ true → settings.max_bytes < length (canonical_log MESSAGE_LIMIT settings put)
+long_when : (settings : Settings) (put : List Message) → (place_behind settings put).is_full ≡ true → settings.max_bytes < length (canonical_log MESSAGE_LIMIT settings put)
 unfolding canonical_log log_of_frames
 long_when settings put over = over_when settings (start_of settings.max_bytes) (all_frames MESSAGE_LIMIT put) refl over
 
-whole_when : (settings : Settings) (put : List Message) → (place_behind settings put).is_over ≡ false
+whole_when : (settings : Settings) (put : List Message) → (place_behind settings put).is_full ≡ false
     → (length (canonical_log MESSAGE_LIMIT settings put) ≤ settings.max_bytes)
     × (text_from settings (start_of settings.max_bytes) (all_frames MESSAGE_LIMIT put) ≡ canonical_log MESSAGE_LIMIT settings put)
 unfolding canonical_log log_of_frames

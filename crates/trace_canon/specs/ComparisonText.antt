@@ -34,6 +34,7 @@ abbrev pub shown_lines : ℕ → List ItemValue → List ItemValue → List ℕ
 shown_lines place left right =
     codes "left: " ++ shown_line (place + 1) (slice_get left place) ++ codes "right: " ++ shown_line (place + 1) (slice_get right place)
 
+-- the same items as members of an object
 abbrev pub shown_members : ℕ → List ItemValue → List ItemValue → Members
 shown_members place left right =
     member (codes "left") (shown_value (place + 1) (slice_get left place)) (member (codes "right") (shown_value (place + 1) (slice_get right place)) nothing)
@@ -53,7 +54,7 @@ abbrev pub comparison_members : Bool → Comparison → List ItemValue → List 
 comparison_members shows Same left right = member (codes "same") (json.truth true) nothing
 comparison_members shows (Different place) left right = different_members place (if shows then shown_members place left right else nothing)
 
--- as it is written in this notation
+-- what is answered, as it is written in this notation
 abbrev pub written_comparison : Notation → Bool → Comparison → List ItemValue → List ItemValue → List ℕ
 written_comparison Text shows comparison left right = comparison_lines shows comparison left right
 written_comparison Json shows comparison left right = object_line (comparison_members shows comparison left right)

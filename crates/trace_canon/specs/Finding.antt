@@ -15,7 +15,7 @@ use Rattle.trace_log.specs.ReadAs.{IsReadAs}
 use Rattle.trace_text.specs.Json.{Members, nothing, member, object_line}
 use Rattle.trace_text.specs.Json as json
 use Rattle.trace_log.specs.Needing.{BeginsWithLines}
-use Rattle.trace_canon.specs.ReadOnly.{Reading}
+use Rattle.trace_canon.specs.ReadOnly.{WayOfReading}
 use Rattle.trace_canon.specs.WrittenAtEnd.{RanOnce, TextOfLog, WritesOnce}
 use Rattle.trace_log.specs.Refusal.{HasNoBadPlaceWithin}
 use Rattle.trace_io.specs.declared.device.Source.{Ghosts as SourceGhosts}
@@ -54,44 +54,44 @@ IsUnheardFor settings log fault = IsUnreadFor false MESSAGE_LIMIT settings log f
 
 -- the pairs of a log and its counts, or why it can't be read
 abbrev pub GivesFound : Settings → List ℕ → Result Found Fault → Type 0
-GivesFound settings log (Ok found) = IsFoundIn settings log found.pairs.items found.summary
+GivesFound settings log (Ok found) = IsFoundIn settings log found.lines.items found.summary
 GivesFound settings log (Err fault) = IsUnheardFor settings log fault
 
 -- memory may be needed: the first lines of the log have an answer that is credited
 abbrev pub NeedsMemoryToFind : List ℕ → Type 0
 NeedsMemoryToFind log = (meanings : List (Option Stamped)) × BeginsWithLines log meanings × HasCredit (frames_in meanings)
 
--- the line of a pair in words: its credits, and the options by which other commands take its identifiers
+-- the line of who answered whom, in words: how often, and the options by which other commands take the identifiers
 abbrev pub worded_pair : CreditLine → List ℕ
 worded_pair pair = decimal pair.credits ++ codes " --tester " ++ pair.tester.items ++ codes " --unit " ++ pair.unit.items ++ codes "\n"
 
--- as JSON
+-- the same line as JSON
 abbrev pub pair_object : CreditLine → Members
 pair_object pair =
     member (codes "credits") (json.number pair.credits) (member (codes "tester") (json.string pair.tester.items)
     (member (codes "unit") (json.string pair.unit.items) nothing))
 
 -- its line, as it is written in this notation
-abbrev pub pair_line : Notation → CreditLine → List ℕ
-pair_line Text pair = worded_pair pair
-pair_line Json pair = object_line (pair_object pair)
+abbrev pub credit_line_text : Notation → CreditLine → List ℕ
+credit_line_text Text pair = worded_pair pair
+credit_line_text Json pair = object_line (pair_object pair)
 
--- the lines of pairs
-abbrev pub pairs_text : Notation → List CreditLine → List ℕ
-pairs_text notation pairs = flat_map (pair_line notation) pairs
+-- the lines of all who answered, in order
+abbrev pub credit_lines_text : Notation → List CreditLine → List ℕ
+credit_lines_text notation pairs = flat_map (credit_line_text notation) pairs
 
 -- What is answered on a log, and what is then written: the lines of its pairs, and its counts; else why it can't be read.
 abbrev pub Finds : Notation → Settings → List ℕ → Result Summary Fault → List ℕ → List ℕ → Type 0
-Finds notation settings log = WritesOnce (pairs_text notation) (IsFoundIn settings log) (IsUnheardFor settings log)
+Finds notation settings log = WritesOnce (credit_lines_text notation) (IsFoundIn settings log) (IsUnheardFor settings log)
 
--- how a log is read for them: memory is needed where an answer is credited
-abbrev pub reading_to_find : Settings → Reading
+-- how a log is read for these lines: memory is needed where an answer is credited
+abbrev pub reading_to_find : Settings → WayOfReading
 reading_to_find settings = record { unrefused = HasNoBadPlaceWithin; needs = NeedsMemoryToFind; max_bytes = settings.max_bytes }
 
--- these lines, as a call writes them
+-- the lines of a log, as a call writes them
 abbrev pub text_of_pairs : Notation → Settings → TextOfLog (List CreditLine)
 text_of_pairs notation settings = record {
-  text = pairs_text notation;
+  text = credit_lines_text notation;
   gives = IsFoundIn settings;
   lacks = IsUnheardFor settings;
   reading = reading_to_find settings;

@@ -17,7 +17,7 @@ use Rattle.trace_canon.specs.Sessions.{GivesMeaning}
 use Rattle.trace_canon.specs.Compared.{Compares, fault_in}
 use Rattle.trace_log.specs.ReadAs.{IsReadAs}
 use Rattle.trace_canon.specs.ExplainScript.{explain_script}
-use Rattle.trace_canon.specs.Finding.{IsFoundIn, NeedsMemoryToFind, pairs_text}
+use Rattle.trace_canon.specs.Finding.{IsFoundIn, NeedsMemoryToFind, credit_lines_text}
 use Rattle.trace_canon.specs.MemoryNeeded.{NeedsMemoryToCollect, NeedsMemoryToOrder}
 use Rattle.trace_text.specs.ItemLines.{list_text}
 use Rattle.trace_log.specs.CanonicalLog.{canonical_log_of_lines}
@@ -70,7 +70,7 @@ IsExplanationWith notation limit = IsToldWith (explain_script notation limit) li
 
 -- the log can be read and has these counts, and this has a line for each of its pairs
 abbrev pub IsFindingWith : Notation → Settings → List ℕ → List ℕ → Summary → Type 0
-IsFindingWith notation settings log text summary = (pairs : List CreditLine) × IsFoundIn settings log pairs summary × (text ≡ pairs_text notation pairs)
+IsFindingWith notation settings log text summary = (pairs : List CreditLine) × IsFoundIn settings log pairs summary × (text ≡ credit_lines_text notation pairs)
 
 -- The first lines of the log have some text of this kind, of one byte at least.
 pub record HasTextOf (text : List (Option Stamped) → List ℕ) (log : List ℕ) : Type 0 where

@@ -2,7 +2,7 @@
 use Rattle.std.specs.Prelude.{◌≡◌, ℕ, List, Result, Ok, Err}
 use Rattle.trace_io.specs.declared.device.Source.{Ghosts as SourceGhosts}
 use Rattle.trace_canon.specs.MemoryNeeded.{NeedsMemoryToCollect}
-use Rattle.trace_canon.specs.ReadOnly.{RanToRead, Reading}
+use Rattle.trace_canon.specs.ReadOnly.{RanToRead, WayOfReading}
 use Rattle.trace_canon.specs.declared.collector.Session.{Session}
 use Rattle.trace_log.specs.declared.fault.Fault.{Fault}
 use Rattle.uds_exchange.specs.Meaning.{ItemValue}
@@ -31,7 +31,7 @@ GivesMeaning limit settings log (Ok items) = ((accepted : Accepted) × IsOutcome
 GivesMeaning limit settings log (Err fault) = TellsOutcome limit settings log fault
 
 -- how it reads a log: it needs memory for a message of several frames, or for one that is complete
-abbrev pub reading_to_collect : ℕ → Settings → Reading
+abbrev pub reading_to_collect : ℕ → Settings → WayOfReading
 reading_to_collect limit settings = record {
   unrefused = IsNotRefusedWithin limit settings;
   needs = NeedsMemoryToCollect limit settings;

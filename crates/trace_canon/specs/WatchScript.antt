@@ -4,14 +4,17 @@ use Rattle.isotp_receive.specs.declared.TheConstants.{MESSAGE_LIMIT}
 use Rattle.isotp_receive.specs.Trace.{Entry}
 use Rattle.isotp_receive.specs.Verdict.{messages}
 use Rattle.uds_exchange.specs.Decided.{decided, undecided}
-use Rattle.uds_exchange.specs.Meaning.{ItemValue}
-use Rattle.trace_canon.specs.SessionScript.{items_of}
+use Rattle.uds_exchange.specs.Meaning.{ItemValue, meaning}
 use Rattle.trace_text.specs.ItemLines.{list_text, list_text_from}
 use Rattle.trace_log.specs.Messages.{HasMeaning}
 use Rattle.trace_log.specs.Settings.{Settings}
 use Rattle.trace_run.specs.Script.{Script, told}
 use Rattle.trace_text.specs.declared.item_style.ItemStyle.{ItemStyle}
 use Rattle.trace_log.specs.declared.summary.Summary.{Summary}
+
+-- what the trace means
+abbrev pub items_of : List Entry → List ItemValue
+items_of T = meaning (messages MESSAGE_LIMIT T)
 
 -- the items that the frames of a trace decide
 abbrev pub decided_of : List Entry → List ItemValue

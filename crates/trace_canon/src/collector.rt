@@ -5,7 +5,7 @@
 //! refuses the log earlier may still come, and is told first.
 ghost use Rattle.std.specs.Prelude.{◌≡◌};
 ghost use Rattle.isotp_receive.specs.declared.TheConstants.{MESSAGE_LIMIT};
-ghost use Rattle.trace_canon.specs.SessionScript.{has_place};
+ghost use Rattle.trace_canon.specs.proving.SessionScript.{has_place};
 ghost use Rattle.trace_canon.specs.Sessions.{GivesMeaning, GivesSession, RanToCollect};
 ghost use Rattle.trace_log.specs.Devices.{HasLowCounts};
 ghost use Rattle.trace_log.specs.Settings.{AreSettings};
@@ -75,7 +75,7 @@ impl Collector {
     ghost use Rattle.uds_exchange.specs.Meaning.{meaning, flattened};
     ghost use Rattle.uds_exchange.specs.Judging.{IsJudgedAfter, sent};
     ghost use Rattle.trace_log.specs.Settings.{Settings};
-    ghost use Rattle.trace_canon.specs.SessionScript.{Collects};
+    ghost use Rattle.trace_canon.specs.proving.SessionScript.{Collects};
     ghost use Rattle.trace_canon.specs.proving.Measuring.{HaveLengths};
 
     /// Takes one more message: what it adds to the length, and the message itself where the canonical log is within the
@@ -124,7 +124,7 @@ impl Machine for Collector {
     ghost use Rattle.isotp_receive.specs.declared.TheConstants.{MESSAGE_LIMIT};
     ghost use Rattle.isotp_receive.specs.Verdict.{messages};
     ghost use Rattle.trace_canon.specs.MemoryNeeded.{CompletesMessage};
-    ghost use Rattle.trace_canon.specs.SessionScript.{Collects, answers_session, silent_script};
+    ghost use Rattle.trace_canon.specs.proving.SessionScript.{Collects, answers_session, silent_script};
 
     type Answer = Session;
 

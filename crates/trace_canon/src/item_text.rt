@@ -13,7 +13,7 @@ use trace_log::{Config, Fault, Summary};
 use trace_run::print;
 use uds_exchange::Meaning;
 
-/// A text of items.
+/// A text of items. A command that says one more of them is one of these, and a call of [`write_items`].
 pub trait ItemText: Copy {
     ghost use Rattle.std.specs.Prelude.{List, ℕ};
     ghost use Rattle.uds_exchange.specs.Meaning.{ItemValue};

@@ -5,7 +5,7 @@ ghost use Rattle.isotp_receive.specs.declared.TheConstants.{MESSAGE_LIMIT};
 ghost use Rattle.uds_exchange.specs.Meaning.{meaning, flattened};
 ghost use Rattle.trace_log.specs.Answers.{Answers, ReadsWhile, WritesEagerly};
 ghost use Rattle.trace_log.specs.CanonicalLog.{canonical_log, canonical_log_of_lines};
-ghost use Rattle.trace_canon.specs.CanonicalScript.{StandsCanonical};
+ghost use Rattle.trace_canon.specs.proving.CanonicalScript.{StandsCanonical};
 ghost use Rattle.trace_log.specs.Devices.{AgreesWith, bytes_given, ReadFrom, WroteTo, HasLowCounts};
 ghost use Rattle.trace_canon.specs.InMemory.{HasTextOf};
 ghost use Rattle.trace_canon.specs.MemoryNeeded.{NeedsMemoryToOrder};
@@ -94,7 +94,7 @@ pub(crate) struct Normaliser {
 impl Machine for Normaliser {
     ghost use Rattle.isotp_receive.specs.declared.TheConstants.{MESSAGE_LIMIT};
     ghost use Rattle.trace_canon.specs.MemoryNeeded.{CompletesHeld};
-    ghost use Rattle.trace_canon.specs.CanonicalScript.{StandsCanonical, answers_canonical, canonical_script};
+    ghost use Rattle.trace_canon.specs.proving.CanonicalScript.{StandsCanonical, answers_canonical, canonical_script};
 
     type Answer = Summary;
 
@@ -117,10 +117,10 @@ impl Machine for Normaliser {
             return Ok(());
         };
         say_due(
-            &mut self.orderer,
+            out,
             &self.config,
             &mut self.progress,
-            out,
+            &mut self.orderer,
             message,
         )
     }
@@ -136,8 +136,8 @@ impl Machine for Normaliser {
             mut progress,
             config,
         } = self;
-        say_held(orderer, &config, &mut progress, out);
-        if progress.is_over() {
+        say_held(out, &config, &mut progress, orderer);
+        if progress.is_full() {
             return Err(NoAnswer::OutputLimit);
         }
         Ok(*summary)

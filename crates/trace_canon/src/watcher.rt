@@ -1,5 +1,5 @@
 //! `watch`: a machine that says the line of each item as soon as it is decided.
-ghost use Rattle.std.specs.Prelude.{◌≡◌, ℕ, List, [], ◌∷◌, ◌++◌, OnOk, OnErr, Err};
+ghost use Rattle.std.specs.Prelude.{◌≡◌, ℕ, List, [], ◌∷◌, ◌++◌, OnOk, OnErr};
 ghost use Rattle.direction.specs.Dir.{Message};
 ghost use Rattle.isotp_receive.specs.declared.TheConstants.{MESSAGE_LIMIT};
 ghost use Rattle.uds_exchange.specs.Judging.{IsJudgedAfter, sent};
@@ -89,10 +89,10 @@ impl Machine for Watcher {
             return Ok(());
         };
         say_decided(
-            &mut self.decider,
+            out,
             self.style,
             &mut self.number,
-            out,
+            &mut self.decider,
             message,
         )
     }
@@ -108,7 +108,7 @@ impl Machine for Watcher {
             style,
             mut number,
         } = self;
-        say_undecided(decider, style, &mut number, out);
+        say_undecided(out, style, &mut number, decider);
         Ok(*summary)
     }
 
@@ -145,10 +145,10 @@ impl<'a, S: TextSink> ItemSink for LineSink<'a, S> {
 
 /// Takes one more message, and says the lines of all items that are now decided.
 fn say_decided<S: TextSink>(
-    decider: &mut Decider,
+    out: &mut S,
     style: ItemStyle,
     number: &mut u64,
-    out: &mut S,
+    decider: &mut Decider,
     message: Judged<'_>,
 ) -> Result<(), AllocError>
     ensures stands { OnOk result ((M : List Message) → decider.old ≡ decider_after M → IsJudgedAfter M message.entry
@@ -164,7 +164,7 @@ fn say_decided<S: TextSink>(
 }
 
 /// Says the lines of the items that are not decided.
-fn say_undecided<S: TextSink>(decider: Decider, style: ItemStyle, number: &mut u64, out: &mut S)
+fn say_undecided<S: TextSink>(out: &mut S, style: ItemStyle, number: &mut u64, decider: Decider)
     ensures { (M : List Message) → decider ≡ decider_after M
         → SaysLines S.says style (undecided M) number.old out.old number.new out.new }
 {

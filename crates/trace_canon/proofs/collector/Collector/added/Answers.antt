@@ -2,7 +2,7 @@
 use Rattle.std.proofs.Common.{ap, sym, ◌∙◌}
 use Rattle.uds_exchange.specs.Judging.{sent, step_after}
 use Rattle.uds_exchange.proofs.Promises.{one_more_is_put_in}
-use Rattle.trace_canon.specs.SessionScript.{has_place}
+use Rattle.trace_canon.specs.proving.SessionScript.{has_place}
 use Rattle.trace_canon.proofs.Lengths.{length_by_step, same_by_step}
 use Rattle.trace_canon.proofs.collector.Collector.added.Goals as goal
 

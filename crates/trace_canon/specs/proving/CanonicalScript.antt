@@ -15,10 +15,10 @@ use Rattle.trace_log.specs.declared.fault.Fault.{Fault}
 use Rattle.trace_run.specs.declared.machine.NoAnswer.TheVariants as no_answer
 use Rattle.trace_log.specs.declared.summary.Summary.{Summary}
 use Rattle.uds_exchange.specs.Meaning.{meaning, flattened}
-use Rattle.trace_canon.specs.proving.Writing.{Progress, start_of, text_from, progress_after}
+use Rattle.trace_canon.specs.proving.Writing.{ProgressValue, start_of, text_from, progress_after}
 
 -- where the canonical log stands after these messages
-abbrev pub place_behind : Settings → List Message → Progress
+abbrev pub place_behind : Settings → List Message → ProgressValue
 place_behind settings put = progress_after settings (start_of settings.max_bytes) (all_frames MESSAGE_LIMIT put)
 
 -- the lines of the messages that are early of these, and were not of those
@@ -35,7 +35,7 @@ canonical_script settings = record {
 }
 
 -- The orderer stands after the messages of the trace, and the text after those that are early.
-pub record StandsCanonical (settings : Settings) (T : List Entry) (orderer : JudgedOrdererValue) (config : Settings) (progress : Progress) : Type 0 where
+pub record StandsCanonical (settings : Settings) (T : List Entry) (orderer : JudgedOrdererValue) (config : Settings) (progress : ProgressValue) : Type 0 where
   pub ordered : orderer ≡ judged_orderer_after (messages MESSAGE_LIMIT T)
   pub same : config ≡ settings
   pub at : progress ≡ place_behind settings (early (messages MESSAGE_LIMIT T))
@@ -44,19 +44,19 @@ pub record StandsCanonical (settings : Settings) (T : List Entry) (orderer : Jud
 abbrev pub text_of_early : Settings → List Entry → List ℕ
 text_of_early settings T = text_from settings (start_of settings.max_bytes) (all_frames MESSAGE_LIMIT (early (messages MESSAGE_LIMIT T)))
 
--- what is told of a trace is these
+-- what this script tells of a trace are the lines of its early messages
 abbrev pub CanonicalTellsEarly : Type 0
 CanonicalTellsEarly = (settings : Settings) (T : List Entry) → told ((canonical_script settings).word) T ≡ text_of_early settings T
 
 -- the canonical log of the trace is longer than the limit
 abbrev pub is_too_long : Settings → List Entry → Bool
-is_too_long settings T = (place_behind settings (flattened (meaning (messages MESSAGE_LIMIT T)))).is_over
+is_too_long settings T = (place_behind settings (flattened (meaning (messages MESSAGE_LIMIT T)))).is_full
 
--- it answers the counts where it is not
+-- the counts are answered where the canonical log is within the limit, and else that it is longer
 abbrev pub answers_canonical : Settings → Answering Summary
 answers_canonical settings T summary result = result ≡ (if is_too_long settings T then Err no_answer.OutputLimit else Ok summary)
 
--- so what is answered and written is that
+-- what a run by this script answers and writes is the canonical log
 abbrev pub CanonicalTellsTheSame : Type 0
 CanonicalTellsTheSame = (settings : Settings) (log : List ℕ) (given : ℕ) (result : Result Summary Fault) (old new : List ℕ)
     → AnswersTold (canonical_script settings) tells_no_refusal (answers_canonical settings) MESSAGE_LIMIT settings log given result old new

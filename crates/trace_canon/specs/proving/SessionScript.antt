@@ -8,6 +8,7 @@ use Rattle.uds_exchange.specs.Meaning.{ItemValue, meaning, flattened}
 use Rattle.uds_exchange.specs.declared.step.Step.{Step}
 use Rattle.uds_exchange.specs.declared.step.Step.TheVariants as step
 use Rattle.trace_canon.specs.Sessions.{GivesSession}
+use Rattle.trace_canon.specs.WatchScript.{items_of}
 use Rattle.trace_log.specs.CanonicalLog.{canonical_log}
 use Rattle.trace_log.specs.Settings.{Settings}
 use Rattle.trace_run.specs.Script.{Script, Answering, tells_no_refusal}
@@ -16,10 +17,6 @@ use Rattle.trace_canon.specs.declared.collector.Session.{Session}
 use Rattle.trace_log.specs.declared.fault.Fault.{Fault}
 use Rattle.trace_run.specs.declared.machine.NoAnswer.TheVariants.{OutputLimit}
 use Rattle.trace_canon.specs.proving.Measuring.{HaveLengths}
-
--- what the trace means
-abbrev pub items_of : List Entry → List ItemValue
-items_of T = meaning (messages MESSAGE_LIMIT T)
 
 -- the canonical log of these items is within the limit
 abbrev pub fits_within : Settings → List ItemValue → Bool
@@ -43,16 +40,16 @@ pub record Collects (settings : Settings) (M : List Message) (items : List ItemV
   pub none : settings.max_bytes < size → (items ≡ []) × (settings.max_bytes < known)
   pub held : fits_within settings items ≡ true
 
--- nothing
+-- the script of a machine that tells nothing of a log
 abbrev pub silent_script : Script
 silent_script = record { strict = true; word = λ T e. []; last = λ T summary. [] }
 
--- it answers the meaning and the counts, where its canonical log is within the limit
+-- the meaning and the counts are answered where the canonical log is within the limit, and else that it is longer
 abbrev pub answers_session : Settings → Answering Session
 answers_session settings T summary (Ok session) = (session.meaning ≡ items_of T) × (session.summary ≡ summary) × (fits_within settings (items_of T) ≡ true)
 answers_session settings T summary (Err OutputLimit) = fits_within settings (items_of T) ≡ false
 
--- so what is answered gives the session, and nothing is written
+-- what a run by these two answers gives the session
 abbrev pub SessionIsTheSame : Type 0
 SessionIsTheSame = (settings : Settings) (log : List ℕ) (given : ℕ) (result : Result Session Fault) (old new : List ℕ)
     → AnswersTold silent_script tells_no_refusal (answers_session settings) MESSAGE_LIMIT settings log given result old new
