@@ -20,7 +20,7 @@ pub record IsEventOf (T : List Entry) (e : Entry) (at_line at_micros : ℕ) (sen
   pub dir : e.dir ≡ sender
   pub did : seen_event event ≡ verdict MESSAGE_LIMIT T e
 
--- This was seen of it: what it did, and the message that it completed, if it completed one, as it is judged behind those before.
+-- This is seen of the frame e after the frames T: what it did, and the message that it completed, if it completed one, as it is judged behind those before.
 pub record IsSeen (T : List Entry) (e : Entry) (seen : Seen) : Type 0 where
   pub event : IsEventOf T e seen.line seen.micros seen.dir seen.event
   pub message : IsJudgmentOf (messages MESSAGE_LIMIT T) (told_message seen.dir (seen_event seen.event).verdict) seen.message

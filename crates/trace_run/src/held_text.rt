@@ -94,12 +94,12 @@ impl HeldText {
         ensures full { result ≡ false → self.new ≡ self.old }
     {
         let room = self.room();
-        let two = first.len() + second.len();
-        if two > room || third.len() > room - two {
+        let first_two = first.len() + second.len();
+        if first_two > room || third.len() > room - first_two {
             return false;
         }
         let first_at = self.len;
-        let third_at = first_at + two;
+        let third_at = first_at + first_two;
         lay(&mut self.bytes, first_at, first);
         lay(&mut self.bytes, first_at + first.len(), second);
         lay(&mut self.bytes, third_at, third);

@@ -41,7 +41,9 @@ pub struct Seen<'a> {
     pub line: u64,
     /// Its time in microseconds.
     pub micros: u64,
+    /// Its direction: which side sent it.
     pub dir: Dir,
+    /// What it did to the receptions.
     pub event: Event<'a>,
     /// The message that it completed, if it completed one, with what becomes of it.
     pub message: Option<Judged<'a>>,

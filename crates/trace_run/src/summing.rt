@@ -29,18 +29,22 @@ impl<M, W> Receiver<M, W> {
             → IsJudgeOf (messages_of_lines MESSAGE_LIMIT settings meanings) self.now.telling.judge
             → result ≡ summary_of MESSAGE_LIMIT settings log meanings }
     {
-        let judge = &self.telling.judge;
+        let Receiver {
+            pair,
+            lines,
+            counts,
+            telling,
+            ..
+        } = self;
+        let judge = &telling.judge;
         Summary {
-            lines: self.lines,
-            frames: self
-                .counts
-                .tester_frames
-                .saturating_add(self.counts.unit_frames),
-            unfinished: unfinished(&self.pair),
+            lines: *lines,
+            frames: counts.tester_frames.saturating_add(counts.unit_frames),
+            unfinished: unfinished(pair),
             pending: judge.removed(),
             ends_in_line_feed,
             looks_exchanged: judge.sides().look_exchanged(),
-            ..self.counts
+            ..*counts
         }
     }
 }
