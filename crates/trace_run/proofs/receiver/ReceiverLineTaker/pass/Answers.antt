@@ -1,5 +1,5 @@
 -- A passed line means no frame: the trace stays as it was.
-use Rattle.std.proofs.Common.{[], ◌≤◌, ◌^◌, ◌≡◌, None, Some, refl, sym, subst, ◌∙◌, ap}
+use Rattle.std.proofs.Common.{◌≤◌, ◌^◌, ◌≡◌, None, Some, refl, sym, subst, ◌∙◌, ap}
 use Rattle.trace_run.specs.proving.Telling.{HasTold, HasToldNothing}
 use Rattle.trace_log.specs.Settings.{direction_of}
 use Rattle.trace_log.proofs.Promises.{foreign_direction, trace_same_foreign, receives_same}
