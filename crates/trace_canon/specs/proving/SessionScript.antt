@@ -1,8 +1,6 @@
 -- What is answered with a log's meaning and its counts; nothing is told of it.
 use Rattle.std.specs.Prelude.{◌≡◌, ℕ, ◌<◌, ◌≤◌, Bool, true, false, nat_le, List, [], length, Result, Ok, Err}
 use Rattle.isotp_receive.specs.declared.TheConstants.{MESSAGE_LIMIT}
-use Rattle.isotp_receive.specs.Trace.{Entry}
-use Rattle.isotp_receive.specs.Verdict.{messages}
 use Rattle.direction.specs.Dir.{Message}
 use Rattle.uds_exchange.specs.Meaning.{ItemValue, meaning, flattened}
 use Rattle.uds_exchange.specs.declared.step.Step.{Step}
