@@ -164,7 +164,7 @@ pub record RanLenient {R W A : Type 0} (source : SourceGhosts R) (target : Targe
   -- reading stops within one piece of a refused place
   pub near : (log : List ℕ) → AgreesWith source before after log
       → ReadsWhile (HasNoBadPlaceWithin log) (bytes_given source before after) (source.failures before) (source.failures after)
-  -- no announced length refuses a log, and no canonical log
+  -- no log is refused for an announced length, nor for the length of what would be told of it
   pub never_oversize : IfErr result (λ fault. (line announced : ℕ) → fault ≢ Oversize line announced)
   pub never_output_limit : IfErr result (λ fault. fault ≢ OutputLimit)
   -- where the command needs no memory, it is refused only for a message of several frames
