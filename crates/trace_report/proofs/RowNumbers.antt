@@ -110,13 +110,16 @@ module _ (M : List Message) (x : Message) where
 
   waiting-tells : (waits : Option (List ℕ)) → open_request M ≡ waits → is_tester_request x ≡ true → AllByRecursion (Tells (M ++ x ∷ [])) (waiting_row M waits)
   waiting-tells None waits_is is = tt
-  waiting-tells (Some request) waits_is is = ((
-    length (decided M),
-    exchange request None,
-    open-number M request waits_is,
-    ap (λ items. slice_get items (length (decided M))) (decided-before is) ∙ open-stands M request waits_is,
-    (request, refl, refl),
-  ), tt)
+  waiting-tells (Some request) waits_is is = (
+    (
+      length (decided M),
+      exchange request None,
+      open-number M request waits_is,
+      ap (λ items. slice_get items (length (decided M))) (decided-before is) ∙ open-stands M request waits_is,
+      (request, refl, refl),
+    ),
+    tt,
+  )
 
   before-tells : (step : Step) → is_request_step step ≡ is_request_step (step_after M x) → AllByRecursion (Tells (M ++ x ∷ [])) (rows_before M step)
   before-tells (becomes.Request service) is = waiting-tells (open_request M) refl (asks (sym is))

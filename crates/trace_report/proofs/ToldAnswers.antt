@@ -1,9 +1,8 @@
 -- What a page says of answers.
-use Rattle.std.proofs.Common.{◌≡◌, ℕ, Bool, true, false, List, Option, Some, None, refl, option_map}
+use Rattle.std.proofs.Common.{◌≡◌, ℕ, Bool, true, false, Option, Some, None, refl, option_map}
 use Rattle.std.specs.Prelude.{◌↔◌, if◌then◌else◌}
 use Rattle.uds_message.specs.Message.{is_negative_response}
-use Rattle.trace_report.specs.Contrast.{contrast_of_answers, first_place}
-use Rattle.trace_report.specs.Items.{RowMessage}
+use Rattle.trace_report.specs.Contrast.{first_place}
 use Rattle.trace_report.specs.Laws.{NegativeIsNegative, UnansweredHasNone}
 use Rattle.trace_report.specs.declared.contrast.Contrast.TheVariants as contrast
 use Rattle.trace_report.specs.declared.contrast.LogName.{LogName}

@@ -1,6 +1,6 @@
 -- Where two sessions first differ: of both the rows from the request at or before the item to the next request, so that
 -- a frame which was dropped there stands where it explains the difference.
-use Rattle.std.specs.Prelude.{ℕ, ◌==◌, ◌&&◌, Bool, true, false, List, [], ◌∷◌, ◌++◌, codes, length, Option, Some, None, if◌then◌else◌}
+use Rattle.std.specs.Prelude.{ℕ, ◌==◌, ◌&&◌, Bool, false, List, [], ◌∷◌, ◌++◌, codes, length, Option, Some, None, if◌then◌else◌}
 use Rattle.std.specs.List.{list_any}
 use Rattle.direction.specs.declared.Dir.{Dir}
 use Rattle.trace_report.specs.Blocks.{begins_exchange, chart_head}

@@ -1,6 +1,6 @@
 -- What a file looks like that is no log, by its first bytes.
 use Prim.Native.Char.{code}
-use Rattle.std.specs.Prelude.{ℕ, ◌-◌, ◌==◌, ◌&&◌, ◌||◌, not, nat_le, nat_lt, Bool, List, [], ◌∷◌, ◌++◌, codes, length, slice_index, Option, Some, None, map, if◌then◌else◌}
+use Rattle.std.specs.Prelude.{ℕ, ◌-◌, ◌==◌, ◌&&◌, ◌||◌, not, nat_le, nat_lt, Bool, List, [], ◌∷◌, codes, length, slice_index, Option, Some, None, map, if◌then◌else◌}
 use Rattle.std.specs.List.{find, flat_map, list_any, starts_with}
 use Rattle.trace_report.specs.declared.looks.Look.{Look}
 use Rattle.trace_report.specs.declared.looks.Look.TheVariants as look
