@@ -16,7 +16,7 @@ use Rattle.uds_exchange.specs.Order.{early, held}
 use Rattle.uds_exchange.specs.Orderer.{JudgedOrdererValue}
 use Rattle.uds_exchange.specs.Meaning.{meaning, flattened}
 use Rattle.uds_exchange.proofs.Promises.{early_grows, early_then_held}
-use Rattle.trace_canon.specs.proving.CanonicalScript.{StandsCanonical, is_too_long, answers_canonical, CanonicalTellsTheSame, canonical_script, place_behind, lines_due, text_of_early, CanonicalTellsEarly}
+use Rattle.trace_canon.specs.proving.CanonicalScript.{StandsCanonical, is_too_long, answers_canonical, CanonicalTellsTheSame, canonical_script, progress_behind, lines_due, text_of_early, CanonicalTellsEarly}
 use Rattle.trace_canon.specs.InMemory.{HasTextOf}
 use Rattle.trace_run.specs.Script.{tells_no_refusal, told_after, told, told_of_lines, whole_of_lines}
 use Rattle.trace_run.specs.Told.{AnswersTold, EndsWith, FailsToTell, WritesTold, WritesToldAndRefusal, WritesFrontOfWhole, TellsEagerly}
@@ -56,7 +56,7 @@ module _ (settings : Settings) where
       let longer : early (messages MESSAGE_LIMIT (T ++ e ∷ [])) ≡ early M ++ grows.0 = ap early (messages_more MESSAGE_LIMIT T e) ∙ grows.1 in
       let left : drop (length (early M)) (early (messages MESSAGE_LIMIT (T ++ e ∷ []))) ≡ grows.0 = ap (drop (length (early M))) longer ∙ drop-append_seam (early M) grows.0 in
       let begin = start_of settings.max_bytes in
-      ap (λ due. text_of_early settings T ++ text_from settings (place_behind settings (early M)) (all_frames MESSAGE_LIMIT due)) left
+      ap (λ due. text_of_early settings T ++ text_from settings (progress_behind settings (early M)) (all_frames MESSAGE_LIMIT due)) left
       ∙ sym (text_append settings begin (all_frames MESSAGE_LIMIT (early M)) (all_frames MESSAGE_LIMIT grows.0))
       ∙ ap (text_from settings begin) (sym (all_frames-append MESSAGE_LIMIT (early M) grows.0))
       ∙ ap (λ x. text_from settings begin (all_frames MESSAGE_LIMIT x)) (sym longer)
@@ -75,11 +75,11 @@ canonical_tells_early settings T =
 
 -- where the text stands at the end
 pub place_at_end : (settings : Settings) (M : List Message)
-    → progress_after settings (place_behind settings (early M)) (all_frames MESSAGE_LIMIT (held M)) ≡ place_behind settings (flattened (meaning M))
+    → progress_after settings (progress_behind settings (early M)) (all_frames MESSAGE_LIMIT (held M)) ≡ progress_behind settings (flattened (meaning M))
 place_at_end settings M =
     let begin = start_of settings.max_bytes in
     sym (place_append settings begin (all_frames MESSAGE_LIMIT (early M)) (all_frames MESSAGE_LIMIT (held M)))
-    ∙ ap (progress_after settings begin) (sym (all_frames-append MESSAGE_LIMIT (early M) (held M))) ∙ ap (place_behind settings) (early_then_held M)
+    ∙ ap (progress_after settings begin) (sym (all_frames-append MESSAGE_LIMIT (early M) (held M))) ∙ ap (progress_behind settings) (early_then_held M)
 
 -- a line did not fit
 pub over_at_end : (settings config : Settings) (T : List Entry) (orderer : JudgedOrdererValue) (progress after : ProgressValue) → StandsCanonical settings T orderer config progress
@@ -95,11 +95,11 @@ unfolding text_from canonical_log
 said_fits settings put = sym (fitting_frames settings (all_frames MESSAGE_LIMIT put))
 
 -- it is too long where a line did not fit
-long_when : (settings : Settings) (put : List Message) → (place_behind settings put).is_full ≡ true → settings.max_bytes < length (canonical_log MESSAGE_LIMIT settings put)
+long_when : (settings : Settings) (put : List Message) → (progress_behind settings put).is_full ≡ true → settings.max_bytes < length (canonical_log MESSAGE_LIMIT settings put)
 unfolding canonical_log log_of_frames
 long_when settings put over = over_when settings (start_of settings.max_bytes) (all_frames MESSAGE_LIMIT put) refl over
 
-whole_when : (settings : Settings) (put : List Message) → (place_behind settings put).is_full ≡ false
+whole_when : (settings : Settings) (put : List Message) → (progress_behind settings put).is_full ≡ false
     → (length (canonical_log MESSAGE_LIMIT settings put) ≤ settings.max_bytes)
     × (text_from settings (start_of settings.max_bytes) (all_frames MESSAGE_LIMIT put) ≡ canonical_log MESSAGE_LIMIT settings put)
 unfolding canonical_log log_of_frames
@@ -114,7 +114,7 @@ module _ (settings : Settings) where
   whole_said log meanings =
       let M = messages MESSAGE_LIMIT (trace settings meanings) in
       let begin = start_of settings.max_bytes in
-      ap (λ x. x ++ text_from settings (place_behind settings (early M)) (all_frames MESSAGE_LIMIT (held M))) (canonical_tells_early settings (trace settings meanings))
+      ap (λ x. x ++ text_from settings (progress_behind settings (early M)) (all_frames MESSAGE_LIMIT (held M))) (canonical_tells_early settings (trace settings meanings))
       ∙ sym (text_append settings begin (all_frames MESSAGE_LIMIT (early M)) (all_frames MESSAGE_LIMIT (held M)))
       ∙ ap (text_from settings begin) (sym (all_frames-append MESSAGE_LIMIT (early M) (held M)))
       ∙ ap (λ x. text_from settings begin (all_frames MESSAGE_LIMIT x)) (early_then_held M)

@@ -1,7 +1,7 @@
 -- The line of a pair, in the parts that are said.
 use Rattle.std.proofs.Common.{◌≡◌, List, ℕ, ◌++◌, sym, ◌∙◌, append_assoc, codes}
 use Rattle.std.specs.Fmt.{decimal}
-use Rattle.trace_canon.specs.Finding.{credit_line_text, pair_object}
+use Rattle.trace_canon.specs.Finding.{credit_line_text, credit_object}
 use Rattle.trace_text.specs.declared.notation.Notation.{Notation}
 use Rattle.trace_text.specs.declared.notation.Notation.TheVariants.{Json}
 use Rattle.trace_text.proofs.Promises.{line_is}
@@ -16,4 +16,4 @@ pub object_is : (pair : CreditLine) (notation : Notation) (tester unit : List �
     ≡ credit_line_text notation pair
 object_is pair notation tester unit is tester_is unit_is =
     in_order (codes "{\"credits\":") (decimal pair.credits) (codes ",\"tester\":\"") tester (codes "\",\"unit\":\"") unit (codes "\"}\n")
-    ∙ rw (is, tester_is, unit_is) (sym (line_is (pair_object pair)))
+    ∙ rw (is, tester_is, unit_is) (sym (line_is (credit_object pair)))

@@ -5,7 +5,7 @@ use Rattle.can_log.specs.Log.{ended_lines}
 use Rattle.direction.specs.declared.Dir.{Dir}
 use Rattle.trace_log.specs.CanonicalLog.{canonical_lines}
 use Rattle.trace_log.specs.Settings.{Settings}
-use Rattle.trace_canon.specs.proving.Writing.{ProgressValue, behind, line_at, text_from, progress_after}
+use Rattle.trace_canon.specs.proving.Writing.{ProgressValue, after_line, line_at, text_from, progress_after}
 use Rattle.trace_canon.proofs.CanonicalWriting.{text_none, place_none, text_step, place_step, place_stop}
 
 module _ (settings : Settings) where
@@ -14,7 +14,7 @@ module _ (settings : Settings) where
   lines_of progress frames = ended_lines (canonical_lines settings progress.lines frames)
 
   lines_step : (progress : ProgressValue) (frame : Dir × List ℕ) (later : List (Dir × List ℕ))
-      → lines_of progress (frame ∷ later) ≡ line_at settings progress.lines frame ++ lines_of (behind progress (line_at settings progress.lines frame)) later
+      → lines_of progress (frame ∷ later) ≡ line_at settings progress.lines frame ++ lines_of (after_line progress (line_at settings progress.lines frame)) later
   unfolding canonical_lines
   lines_step progress frame later = refl
 
@@ -28,7 +28,7 @@ module _ (settings : Settings) where
   over_when progress [] before over = absurd (cc (place_none settings progress))
   over_when progress (frame ∷ later) before over =
       let line = line_at settings progress.lines frame in
-      let next = behind progress line in
+      let next = after_line progress line in
       let len = ap length (lines_step progress frame later) ∙ length-append line (lines_of next later) in
       elim (cases_lt progress.room (length line)) [
         | inl long ↦ omega arith
@@ -45,7 +45,7 @@ module _ (settings : Settings) where
       (omega arith, text_none settings progress ∙ sym (lines_none progress))
   within_when progress (frame ∷ later) before within =
       let line = line_at settings progress.lines frame in
-      let next = behind progress line in
+      let next = after_line progress line in
       let len = ap length (lines_step progress frame later) ∙ length-append line (lines_of next later) in
       elim (cases_lt progress.room (length line)) [
         | inl long ↦ absurd (cc (place_stop settings progress frame later long))

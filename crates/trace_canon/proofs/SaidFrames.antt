@@ -3,7 +3,7 @@ use Rattle.std.proofs.Common.{◌≡◌, ℕ, ◌<◌, ◌≤◌, List, [], ◌�
 use Rattle.direction.specs.declared.Dir.{Dir}
 use Rattle.trace_log.specs.Settings.{Settings}
 use Rattle.trace_canon.specs.proving.Saying.{SaysFront}
-use Rattle.trace_canon.specs.proving.Writing.{ProgressValue, behind, filled_up, line_at, text_from, progress_after}
+use Rattle.trace_canon.specs.proving.Writing.{ProgressValue, after_line, filled_up, line_at, text_from, progress_after}
 use Rattle.trace_canon.proofs.CanonicalWriting.{text_step, place_step, text_stop, place_stop, text_full, place_full}
 
 module _ {S : Type 0} (says : S → List ℕ → S → Type 0) (nothing : (s : S) → says s [] s)
@@ -31,16 +31,16 @@ module _ {S : Type 0} (says : S → List ℕ → S → Type 0) (nothing : (s : S
   -- a frame whose line fits
   pub line_said : (progress : ProgressValue) (out out_now : S) (frame : Dir × List ℕ) (later : List (Dir × List ℕ)) (line : List ℕ)
       → line ≡ line_at settings progress.lines frame → length line ≤ progress.room → says out line out_now
-      → SaysFront says settings progress out (frame ∷ later) (behind progress line) out_now later
+      → SaysFront says settings progress out (frame ∷ later) (after_line progress line) out_now later
   line_said progress out out_now frame later line is fits said =
       let room = subst (λ (l : List ℕ). length l ≤ progress.room) is fits in
       record {
         said = (
           line,
-          text_step settings progress frame later room ∙ ap (λ (l : List ℕ). l ++ text_from settings (behind progress l) later) (sym is),
+          text_step settings progress frame later room ∙ ap (λ (l : List ℕ). l ++ text_from settings (after_line progress l) later) (sym is),
           said,
         );
-        stands = place_step settings progress frame later room ∙ ap (λ (l : List ℕ). progress_after settings (behind progress l) later) (sym is);
+        stands = place_step settings progress frame later room ∙ ap (λ (l : List ℕ). progress_after settings (after_line progress l) later) (sym is);
       }
 
   -- a frame whose line does not

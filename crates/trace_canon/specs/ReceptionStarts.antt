@@ -18,7 +18,7 @@ abbrev pub still_begun : Dir → Option Ended → Option FramePlace → Option F
 still_begun d None begun = begun
 still_begun d (Some ended) begun = if same_direction d ended.dir then None else begun
 
--- where it began, if one stands, after what became of a frame in this place, of the same direction or the other one
+-- where a reception began, if one stands, after what became of a frame in this place, of the same direction or the other one
 abbrev pub start_after_verdict : Bool → VerdictValue → FramePlace → Option FramePlace → Option FramePlace
 start_after_verdict true (message bytes) here begun = None
 start_after_verdict true began here begun = Some here
@@ -27,7 +27,7 @@ start_after_verdict true flowed here begun = begun
 start_after_verdict true (dropped reason) here begun = begun
 start_after_verdict false did here begun = begun
 
--- where it began, if one stands, after all that a frame of this sender did in this place: the end first
+-- where a reception of d began, if one stands, after all that a frame of this sender did in this place: the end first
 abbrev pub start_after_event : Dir → Dir → EventValue → FramePlace → Option FramePlace → Option FramePlace
 start_after_event d sender event here begun = start_after_verdict (same_direction d sender) event.verdict here (still_begun d event.ended begun)
 

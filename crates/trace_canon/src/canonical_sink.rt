@@ -172,7 +172,7 @@ fn say_frame<S: TextSink>(
         return false;
     }
     say_line(out, progress.clock(), id, frame);
-    progress.pass(length);
+    progress.after_line(length);
     true
 }
 
@@ -253,7 +253,7 @@ fn say_stretch<'a, S: TextSink, const NAME: usize>(
             return rest;
         }
         out.put_three(progress.clock().stamp(), &name, &line_end(&frame));
-        progress.pass(NAMELESS + NAME);
+        progress.after_line(NAMELESS + NAME);
     }
     rest
 }

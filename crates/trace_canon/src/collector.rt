@@ -10,7 +10,7 @@ ghost use Rattle.trace_canon.specs.Sessions.{GivesMeaning, GivesSession, RanToCo
 ghost use Rattle.trace_log.specs.Devices.{HasLowCounts};
 ghost use Rattle.trace_log.specs.Settings.{AreSettings};
 
-use crate::length::message_length;
+use crate::length::lines_length;
 use isotp_receive::Pair;
 use std::alloc::{AllocError, Global};
 use trace_io::{Source, TextSink};
@@ -103,7 +103,7 @@ impl Collector {
             → HaveLengths self.now.config (flattened (meaning (M ++ sent message.entry ∷ []))) (size + result) }
     {
         if has_place(message.step) {
-            message_length(&self.config, message.dir, message.bytes)
+            lines_length(&self.config, message.dir, message.bytes)
         } else {
             0
         }

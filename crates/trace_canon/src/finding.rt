@@ -31,7 +31,7 @@ pub fn find<R: Source, W: Target>(
 {
     let found = found_in(alloc, config, reader)?;
     let lines = CreditLines {
-        lines: &found.lines,
+        lines: &found.credit_lines,
         notation,
     };
     print(lines, writer)?;

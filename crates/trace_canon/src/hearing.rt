@@ -18,7 +18,7 @@ use uds_find::{CreditLine, Finder};
 /// Who answered whom in a log, in the order of the lines that say so, and what was counted in it.
 #[derive(Debug, Drop)]
 pub(crate) struct Found {
-    pub lines: Vec<CreditLine>,
+    pub credit_lines: Vec<CreditLine>,
     pub summary: Summary,
 }
 
@@ -58,7 +58,7 @@ impl Hearing {
     fn finish(self, alloc: Global, ends_in_line_feed: bool) -> Result<Found, Fault>
         ensures found { IfOk result (λ found. (log : List ℕ) (meanings : List (Option StampedValue))
             → HasHeard meanings self.finder self.lines
-            → ends_in_line_feed ≡ Spec.ends_in_line_feed log → IsFoundOf log meanings found.lines.items found.summary) }
+            → ends_in_line_feed ≡ Spec.ends_in_line_feed log → IsFoundOf log meanings found.credit_lines.items found.summary) }
         ensures fault { IfErr result (λ fault. fault ≡ Fault.Memory) }
         ensures needs { IfErr result (λ fault. (meanings : List (Option StampedValue))
             → HasHeard meanings self.finder self.lines → HasCredit (frames_in meanings)) }
@@ -66,7 +66,7 @@ impl Hearing {
         let Hearing { finder, lines } = self;
         let credit_lines = finder.finish(alloc)?;
         Ok(Found {
-            lines: credit_lines,
+            credit_lines,
             summary: summary(lines, ends_in_line_feed),
         })
     }

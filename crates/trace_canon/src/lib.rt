@@ -37,7 +37,7 @@
 //! | [`write_comparison`] | `comparison_text`, `comparison_objects`, `compared_items` | `ComparisonText` |
 //! | [`list`], [`write_items`] | `lister`, `item_text` | `ItemText` |
 //! | [`find`] | `finding`, `hearing`, `credit_lines` | `Finding` |
-//! | all of them over memory | [`in_memory`] | `InMemory` |
+//! | over memory [`normalise`], [`list`], [`messages`], [`explain`], [`find`], [`meaning_of`], [`compare`] | [`in_memory`] | `InMemory` |
 //!
 //! What a run comes to that writes a text at the end is in `WrittenAtEnd`, and of one that writes nothing in `ReadOnly`;
 //! for which frames a command needs memory, in `MemoryNeeded`.

@@ -18,27 +18,27 @@ use Rattle.uds_exchange.specs.Meaning.{meaning, flattened}
 use Rattle.trace_canon.specs.proving.Writing.{ProgressValue, start_of, text_from, progress_after}
 
 -- where the canonical log stands after these messages
-abbrev pub place_behind : Settings → List Message → ProgressValue
-place_behind settings put = progress_after settings (start_of settings.max_bytes) (all_frames MESSAGE_LIMIT put)
+abbrev pub progress_behind : Settings → List Message → ProgressValue
+progress_behind settings put = progress_after settings (start_of settings.max_bytes) (all_frames MESSAGE_LIMIT put)
 
 -- the lines of the messages that are early of these, and were not of those
 abbrev pub lines_due : Settings → List Message → List Message → List ℕ
 lines_due settings before now =
-    text_from settings (place_behind settings (early before)) (all_frames MESSAGE_LIMIT (drop (length (early before)) (early now)))
+    text_from settings (progress_behind settings (early before)) (all_frames MESSAGE_LIMIT (drop (length (early before)) (early now)))
 
 -- of each frame the lines of what is due with it, and at the end of what is held
 abbrev pub canonical_script : Settings → Script
 canonical_script settings = record {
   strict = true;
   word = λ T e. lines_due settings (messages MESSAGE_LIMIT T) (messages MESSAGE_LIMIT (T ++ e ∷ []));
-  last = λ T summary. text_from settings (place_behind settings (early (messages MESSAGE_LIMIT T))) (all_frames MESSAGE_LIMIT (held (messages MESSAGE_LIMIT T)));
+  last = λ T summary. text_from settings (progress_behind settings (early (messages MESSAGE_LIMIT T))) (all_frames MESSAGE_LIMIT (held (messages MESSAGE_LIMIT T)));
 }
 
 -- The orderer stands after the messages of the trace, and the text after those that are early.
 pub record StandsCanonical (settings : Settings) (T : List Entry) (orderer : JudgedOrdererValue) (config : Settings) (progress : ProgressValue) : Type 0 where
   pub ordered : orderer ≡ judged_orderer_after (messages MESSAGE_LIMIT T)
   pub same : config ≡ settings
-  pub at : progress ≡ place_behind settings (early (messages MESSAGE_LIMIT T))
+  pub at : progress ≡ progress_behind settings (early (messages MESSAGE_LIMIT T))
 
 -- the lines of the messages of a trace whose place is known, as far as there is room
 abbrev pub text_of_early : Settings → List Entry → List ℕ
@@ -50,7 +50,7 @@ CanonicalTellsEarly = (settings : Settings) (T : List Entry) → told ((canonica
 
 -- the canonical log of the trace is longer than the limit
 abbrev pub is_too_long : Settings → List Entry → Bool
-is_too_long settings T = (place_behind settings (flattened (meaning (messages MESSAGE_LIMIT T)))).is_full
+is_too_long settings T = (progress_behind settings (flattened (meaning (messages MESSAGE_LIMIT T)))).is_full
 
 -- the counts are answered where the canonical log is within the limit, and else that it is longer
 abbrev pub answers_canonical : Settings → Answering Summary

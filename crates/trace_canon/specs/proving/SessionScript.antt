@@ -6,7 +6,7 @@ use Rattle.uds_exchange.specs.Meaning.{ItemValue, meaning, flattened}
 use Rattle.uds_exchange.specs.declared.step.Step.{Step}
 use Rattle.uds_exchange.specs.declared.step.Step.TheVariants as step
 use Rattle.trace_canon.specs.Sessions.{GivesSession}
-use Rattle.trace_canon.specs.WatchScript.{items_of}
+use Rattle.trace_canon.specs.WatchScript.{items_of_trace}
 use Rattle.trace_log.specs.CanonicalLog.{canonical_log}
 use Rattle.trace_log.specs.Settings.{Settings}
 use Rattle.trace_run.specs.Script.{Script, Answering, tells_no_refusal}
@@ -44,8 +44,8 @@ silent_script = record { strict = true; word = λ T e. []; last = λ T summary. 
 
 -- the meaning and the counts are answered where the canonical log is within the limit, and else that it is longer
 abbrev pub answers_session : Settings → Answering Session
-answers_session settings T summary (Ok session) = (session.meaning ≡ items_of T) × (session.summary ≡ summary) × (fits_within settings (items_of T) ≡ true)
-answers_session settings T summary (Err OutputLimit) = fits_within settings (items_of T) ≡ false
+answers_session settings T summary (Ok session) = (session.meaning ≡ items_of_trace T) × (session.summary ≡ summary) × (fits_within settings (items_of_trace T) ≡ true)
+answers_session settings T summary (Err OutputLimit) = fits_within settings (items_of_trace T) ≡ false
 
 -- what a run by these two answers gives the session
 abbrev pub SessionIsTheSame : Type 0

@@ -2,7 +2,7 @@
 use Rattle.std.proofs.Common.{ap, sym, ◌∙◌}
 use Rattle.trace_canon.specs.Finding.{IsUnheardFor, NeedsMemoryToFind}
 use Rattle.trace_canon.proofs.InMemories.{agrees_in_memory, gathered, taken_is_held, written_in_memory}
-use Rattle.trace_canon.proofs.in_memory.pair_lines.Goals as goal
+use Rattle.trace_canon.proofs.in_memory.credit_lines.Goals as goal
 
 pub returns : goal.returns
 returns c =
