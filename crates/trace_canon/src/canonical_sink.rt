@@ -42,9 +42,9 @@ pub(crate) fn say_due<S: TextSink>(
         → orderer.new ≡ judged_orderer_after (M ++ sent message.entry ∷ [])) }
     ensures says { OnOk result ((M : List Message) → orderer.old ≡ judged_orderer_after M → IsJudgedAfter M message.entry
         → SaysDue S.says config.now M (sent message.entry) progress.old out.old progress.new out.new) }
-    ensures held { OnErr result ((M : List Message) → orderer.old ≡ judged_orderer_after M → IsJudgedAfter M message.entry
+    ensures needs { OnErr result ((M : List Message) → orderer.old ≡ judged_orderer_after M → IsJudgedAfter M message.entry
         → IsHeld M (sent message.entry)) }
-    ensures refused { OnErr result ((progress.new ≡ progress.old) × S.says out.old [] out.new) }
+    ensures err { OnErr result ((progress.new ≡ progress.old) × S.says out.old [] out.new) }
 {
     let mut sink = CanonicalSink {
         out,

@@ -39,7 +39,7 @@ pub fn meaning_of<R: Source>(
     Ok(session.meaning)
 }
 
-/// The same, with what was counted in the log.
+/// What a log means, with what was counted in it.
 pub(crate) fn session_of<R: Source>(
     alloc: Global,
     config: &Config,

@@ -120,7 +120,7 @@ fn say_message<S: TextSink>(
     }
 }
 
-/// Says it in words.
+/// Says the line of a message in words.
 fn say_message_line<S: TextSink>(
     message: &Judged<'_>,
     first: FramePlace,

@@ -155,9 +155,9 @@ fn say_decided<S: TextSink>(
         → decider.new ≡ decider_after (M ++ sent message.entry ∷ [])) }
     ensures says { OnOk result ((M : List Message) → decider.old ≡ decider_after M → IsJudgedAfter M message.entry
         → SaysDecided S.says style M (sent message.entry) number.old out.old number.new out.new) }
-    ensures kept { OnErr result ((M : List Message) → decider.old ≡ decider_after M → IsJudgedAfter M message.entry
+    ensures needs { OnErr result ((M : List Message) → decider.old ≡ decider_after M → IsJudgedAfter M message.entry
         → IsKept M (sent message.entry)) }
-    ensures quiet { OnErr result (S.says out.old [] out.new) }
+    ensures err { OnErr result (S.says out.old [] out.new) }
 {
     let mut sink = LineSink { out, number, style };
     decider.take(message, &mut sink)

@@ -13,7 +13,7 @@ use Rattle.trace_log.specs.declared.fault.Fault.{Fault}
 use Rattle.trace_log.specs.declared.fault.Fault.TheVariants as fault
 use Rattle.trace_run.specs.declared.receiver.Receiver.{Receiver}
 use Rattle.trace_run.specs.proving.Carrying.{Carries}
-use Rattle.trace_run.specs.proving.Telling.{HasTold, HasToldNothing, HasStopped, HasWritten, HasWrittenAtLeast}
+use Rattle.trace_run.specs.proving.Telling.{HasTold, HasToldNothing, HasStopped, HasToldAndWritten, HasWrittenAtLeast}
 use Rattle.trace_run.specs.proving.Ending.{EndsAs, SettlesAs, SettlesWith, RefusesTelling, GivesUp}
 use Rattle.trace_log.specs.Feeding.{FeedsLog, FeedsSome, WroteBefore, StopsWithin}
 use Rattle.uds_exchange.specs.Judging.{IsJudgeOf}
@@ -56,7 +56,7 @@ module _ {M W : Type 0} (stands : M → List Entry → M → Type 0) (scripts : 
 
   -- events were told and all of it is written, or writing failed
   abbrev pub SettledEvents : Bool → TookEvents M W
-  SettledEvents failed s T t = HasToldNothing stands s.0 → target.failures s.1 ≤ 2 ^ 62 → HasWritten stands scripts target s.1 s.0.machine T t.0 failed t.1
+  SettledEvents failed s T t = HasToldNothing stands s.0 → target.failures s.1 ≤ 2 ^ 62 → HasToldAndWritten stands scripts target s.1 s.0.machine T t.0 failed t.1
 
   -- the run stopped at an event
   abbrev pub StoppedTelling : StoppedOnEvent M W
@@ -130,7 +130,7 @@ module _ {M W : Type 0} (stands : M → List Entry → M → Type 0) (scripts : 
         (wrote.wrote ∙ ap (λ T. target.taken start.1 ++ told ((scripts start.0.telling.machine).word) T) of_settings) (more wrote.mid wrote.said wrote.carried)
 
     settled : (failed : Bool) (meanings : List (Option Stamped)) → TookLines (SettledEvents failed) start meanings now
-        → HasWritten stands scripts target start.1 start.0.telling.machine (trace settings meanings) now.0.telling failed now.1
+        → HasToldAndWritten stands scripts target start.1 start.0.telling.machine (trace settings meanings) now.0.telling failed now.1
     settled failed meanings lines = has_taken (SettledEvents failed) settings start now begun meanings lines begun.fresh low
 
     halts : (meanings : List (Option Stamped)) (what : Option Stamped) (why : Fault) → StoppedOnLine StoppedTelling start meanings what why now

@@ -73,7 +73,7 @@ pub fn run_lenient<M: Machine + Drop, R: Source, W: Target>(
     run(alloc, config, machine, source, target)
 }
 
-/// Ends a run on a fault, and answers what that is called: the machine is told of a line or a limit that refuses the log,
+/// Ends a run on a fault, and answers the fault to report, this one or that of writing: the machine is told of a line or a limit that refuses the log,
 /// and what was said is written. A fault of a device stands as it is, and nothing is written.
 fn give_up<M: Machine + Drop, W: Target>(
     fault: Fault,
@@ -94,7 +94,7 @@ fn give_up<M: Machine + Drop, W: Target>(
     }
 }
 
-/// Writes what was said before a fault of which nothing is told, and answers what that is called.
+/// Writes what was said before a fault of which nothing is told, and answers that fault, or that of writing.
 fn end_untold<M: Machine + Drop, W: Target>(
     fault: Fault,
     receiver: Receiver<M, W>,
@@ -107,7 +107,7 @@ fn end_untold<M: Machine + Drop, W: Target>(
     settle_before(fault, target, &mut page)
 }
 
-/// Writes what is said of a refusal, after the lines that were received, and answers what that is called.
+/// Writes what is said of a refusal, after the lines that were received, and answers why it is refused, or the fault of writing.
 fn refuse<M: Machine, W: Target>(
     why: Fault,
     glimpse: Glimpse<'_>,
@@ -129,7 +129,7 @@ fn refuse<M: Machine, W: Target>(
     settle_before(why, target, &mut page)
 }
 
-/// Writes what was said before a fault, and answers what that is called.
+/// Writes what was said before a fault, and answers that fault, or that of writing where this failed.
 fn settle_before<W: Target>(fault: Fault, target: &mut W, page: &mut Page) -> Fault
     ensures { SettlesPageAs fault W.Target page.old target.old result target.new }
 {
@@ -140,7 +140,8 @@ fn settle_before<W: Target>(fault: Fault, target: &mut W, page: &mut Page) -> Fa
     }
 }
 
-/// Writes what is said at the end, and answers. The log ended in a line feed, or not.
+/// Writes what is said at the end, and answers. The log ended in a line feed, or not. By `ends` all is told that a run
+/// tells; by `more` the target has what it had at any time before, and more behind it.
 fn finish<M: Machine, W: Target>(
     receiver: Receiver<M, W>,
     ends_in_line_feed: bool,

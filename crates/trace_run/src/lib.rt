@@ -11,7 +11,7 @@
 //! - `Receiver::receive`: what it did to the receptions;
 //! - `hand_on`: the same, by ways of their own for what most frames do;
 //! - `count_and_tell`: it is counted;
-//! - `Telling::take`: the message that it completed is judged, and a run may stop for its length;
+//! - `Telling::take`: the message that it completed is judged; a run may stop for a length that a dropped frame announced;
 //! - `tell`: the [`Machine`] is handed all of it as one [`Seen`], beside the page as its sink;
 //! - `Machine::event`: the command says text;
 //! - `Page::put`: the text goes onto a page, which is written where it is full and before more is read.
@@ -19,8 +19,9 @@
 //! The machine sees no device: [`run`] (`driver`) joins the two ends, and makes each fault of theirs one of
 //! [`Fault`](trace_log::Fault).
 //!
-//! Contracts keep these words apart: a frame is *told* to a machine, which *says* text; a page *carries* what was said
-//! and is not written; and where a page is *settled*, that is written, or writing failed.
+//! Contracts keep these words apart: a machine is *told* what a frame did, and *says* text; what is *told of* frames is
+//! that text; a page *carries* what was said and is not written; and where a page is *settled*, that is written, or
+//! writing failed.
 //!
 //! | What | Files | Definitions |
 //! |---|---|---|

@@ -43,6 +43,7 @@ impl Page {
         requires { 0 < length text.now }
         ensures { SaysToPage W.Target self.old target.old text.now self.new target.new }
     {
+        // No run comes here with more failures: each begins at no more, and ends with its first.
         if self.failed || target.failures() > MOST_FAILURES {
             return;
         }

@@ -52,7 +52,7 @@ impl<M: Machine, W: Target> LineTaker for Receiver<M, W> {
     ghost use Rattle.trace_log.specs.Settings.{direction_of};
     ghost use Rattle.trace_log.specs.Trace.{trace};
     ghost use Rattle.std.specs.Prelude.{◌≤◌, ◌^◌, true, false};
-    ghost use Rattle.trace_run.specs.proving.Telling.{HasReceived, HasStopped, HasTold, HasToldNothing, HasWritten, HasWrittenAtLeast};
+    ghost use Rattle.trace_run.specs.proving.Telling.{HasReceived, HasStopped, HasTold, HasToldNothing, HasToldAndWritten, HasWrittenAtLeast};
     ghost use Rattle.trace_log.specs.proving.Receiving.{entry_in, IsStart};
 
     type Device = W;
@@ -64,10 +64,10 @@ impl<M: Machine, W: Target> LineTaker for Receiver<M, W> {
         (HasTold M.stands M.script W.Target s.1 s.0.telling.machine (trace s.0.config meanings) t.0.telling t.1) };
 
     ghost rested = { λ s meanings t. HasReceived M.stands W.Target s.0 s.1 meanings t.0
-        (HasWritten M.stands M.script W.Target s.1 s.0.telling.machine (trace s.0.config meanings) t.0.telling false t.1) };
+        (HasToldAndWritten M.stands M.script W.Target s.1 s.0.telling.machine (trace s.0.config meanings) t.0.telling false t.1) };
 
     ghost broke = { λ s meanings t. HasReceived M.stands W.Target s.0 s.1 meanings t.0
-        (HasWritten M.stands M.script W.Target s.1 s.0.telling.machine (trace s.0.config meanings) t.0.telling true t.1) };
+        (HasToldAndWritten M.stands M.script W.Target s.1 s.0.telling.machine (trace s.0.config meanings) t.0.telling true t.1) };
 
     ghost stopped = { λ s meanings what fault t. IsStart s.0.pair s.0.lines s.0.counts
         → (stamped : StampedValue) × (d : DirValue) × (what ≡ Some stamped) × (Some d ≡ direction_of s.0.config stamped.frame.id)

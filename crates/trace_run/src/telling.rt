@@ -65,18 +65,18 @@ impl<M, W> Telling<M, W> {
 impl<M: Machine, W: Target> Telling<M, W> {
     ghost use Rattle.std.specs.Prelude.{◌≡◌, List, IfErr, true, false};
     ghost use Rattle.isotp_receive.specs.Trace.{Entry};
-    ghost use Rattle.trace_run.specs.proving.Telling.{HasTold, HasWritten, HasWrittenAtLeast, IsFrameEvent, TellsFrame};
+    ghost use Rattle.trace_run.specs.proving.Telling.{HasTold, HasToldAndWritten, HasWrittenAtLeast, IsFrameEvent, TellsFrame};
     ghost use Rattle.trace_log.specs.Feeding.{IsOfTaker};
 
     /// Writes what is due, before more is read. Answers whether it could.
     pub(crate) fn settle(&mut self, target: &mut W) -> bool
         ensures well { result ≡ true → (target_start : W) (machine_start : M) (T : List Entry)
             → HasTold M.stands M.script W.Target target_start machine_start T self.old target.old
-            → HasWritten M.stands M.script W.Target target_start machine_start T self.new false target.new
+            → HasToldAndWritten M.stands M.script W.Target target_start machine_start T self.new false target.new
             × HasTold M.stands M.script W.Target target_start machine_start T self.new target.new }
         ensures wrong { result ≡ false → (target_start : W) (machine_start : M) (T : List Entry)
             → HasTold M.stands M.script W.Target target_start machine_start T self.old target.old
-            → HasWritten M.stands M.script W.Target target_start machine_start T self.new true target.new }
+            → HasToldAndWritten M.stands M.script W.Target target_start machine_start T self.new true target.new }
         ensures sure { result ≡ true → (target_start : W) (machine_start : M) (T : List Entry)
             → HasTold M.stands M.script W.Target target_start machine_start T self.old target.old
             → HasWrittenAtLeast M.script W.Target target_start machine_start T self.new target.new }

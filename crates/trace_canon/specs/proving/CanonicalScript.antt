@@ -1,4 +1,4 @@
--- What is told of a log by its canonical lines.
+-- Devices of proof: what is told of a log by its canonical lines, and what holds of it.
 use Rattle.std.specs.Prelude.{◌≡◌, Bool, Result, Ok, Err, if◌then◌else◌, ℕ, true, List, [], ◌∷◌, ◌++◌, length, drop}
 use Rattle.direction.specs.Dir.{Message}
 use Rattle.isotp_receive.specs.declared.TheConstants.{MESSAGE_LIMIT}

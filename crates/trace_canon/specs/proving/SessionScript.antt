@@ -1,4 +1,4 @@
--- What is answered with a log's meaning and its counts; nothing is told of it.
+-- Devices of proof: what is answered with a log's meaning and its counts, where nothing is told of it.
 use Rattle.std.specs.Prelude.{◌≡◌, ℕ, ◌<◌, ◌≤◌, Bool, true, false, nat_le, List, [], length, Result, Ok, Err}
 use Rattle.isotp_receive.specs.declared.TheConstants.{MESSAGE_LIMIT}
 use Rattle.direction.specs.Dir.{Message}

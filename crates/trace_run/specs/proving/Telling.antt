@@ -73,8 +73,8 @@ HasTold stands scripts target target_start machine_start T telling now =
     Tells (stands machine_start) target (scripts machine_start) target_start T telling.machine telling.judge telling.page.failed telling.page.held now
 
 -- the frames of the trace were told, and all that was told of them is written, or writing failed
-abbrev pub HasWritten : {M W : Type 0} → (M → List Entry → M → Type 0) → (M → Script) → Ghosts W → W → M → List Entry → Telling M W → Bool → W → Type 0
-HasWritten stands scripts target target_start machine_start T telling failed now =
+abbrev pub HasToldAndWritten : {M W : Type 0} → (M → List Entry → M → Type 0) → (M → Script) → Ghosts W → W → M → List Entry → Telling M W → Bool → W → Type 0
+HasToldAndWritten stands scripts target target_start machine_start T telling failed now =
     Tells (stands machine_start) target (scripts machine_start) target_start T telling.machine telling.judge failed [] now
 
 -- since the target was this at least what is told of this trace was written
