@@ -1,5 +1,5 @@
--- The proofs of the public laws, each under the name of its statement in specs/, for the crates above to cite, and at the
--- end what these need of items and of steps. Nothing else of proofs/ is for them.
+-- The proofs of the public laws, each under the name of its statement in specs/, for the crates above to cite. Nothing
+-- else of proofs/ is for them.
 use Rattle.std.proofs.Common.{[], refl}
 use Rattle.uds_exchange.specs.Meaning.{meaning}
 use Rattle.uds_exchange.specs.Laws.{NoneIsMadeUp, EachHasOneRole, MessagesByRoles, HeldByOpenRequest}
