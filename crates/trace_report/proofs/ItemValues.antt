@@ -14,7 +14,7 @@ use Rattle.uds_exchange.specs.declared.step.Step.TheVariants as becomes
 use Rattle.uds_exchange.specs.proving.OpenExchange.{one_later, open_exchange_in, open_sid_in}
 use Rattle.uds_exchange.specs.proving.Pairing.{items_with, items_with_other}
 use Rattle.uds_message.specs.Message.{is_keep_alive, is_negative_response, sid}
-use Rattle.trace_report.specs.Events.{role_of_step}
+use Rattle.trace_report.specs.Roles.{role_of_step}
 use Rattle.trace_report.specs.Items.{RowMessage, answer_in, item_value, items_in}
 use Rattle.trace_report.specs.Rows.{RowValue, message, no_answer, dropped, ended, unfinished}
 use Rattle.trace_report.specs.declared.row.MessagePlace.{MessagePlace}

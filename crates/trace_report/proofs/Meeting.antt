@@ -24,7 +24,8 @@ use Rattle.uds_exchange.specs.Meaning.{is_from_tester}
 use Rattle.trace_canon.specs.MessageLines.{first_frame, place_of}
 use Rattle.trace_canon.specs.declared.reception_starts.FramePlace.{FramePlace}
 use Rattle.trace_canon.proofs.Promises.{messages_next}
-use Rattle.trace_report.specs.Events.{asked_in, completes_request, completes_request_by, ended_rows, event_rows, frame_rows, frames_by, is_request_step, ends_nothing, role_of_step, rows_before, verdict_rows}
+use Rattle.trace_report.specs.Events.{asked_in, completes_request, completes_request_by, ended_rows, event_rows, frame_rows, frames_by, is_request_step, ends_nothing, rows_before, verdict_rows}
+use Rattle.trace_report.specs.Roles.{role_of_step}
 use Rattle.trace_report.specs.Rows.{RowValue}
 use Rattle.trace_report.specs.Rows.{message as message_row}
 use Rattle.trace_report.specs.declared.follower.Follower.{Follower}

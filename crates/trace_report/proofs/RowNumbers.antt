@@ -22,7 +22,8 @@ use Rattle.uds_exchange.specs.declared.step.Step.{Step}
 use Rattle.uds_exchange.specs.declared.step.Step.TheVariants as becomes
 use Rattle.uds_message.specs.Message.{is_final_for, is_keep_alive, is_negative_response, is_pending_for, sid}
 use Rattle.trace_canon.proofs.Promises.{messages_next}
-use Rattle.trace_report.specs.Events.{asked_in, closing_rows, end_rows, ended_rows, ends_nothing, is_request_step, message_rows, role_of_step, rows_before, rows_of, standing_row, verdict_rows, waiting_row}
+use Rattle.trace_report.specs.Events.{asked_in, closing_rows, end_rows, ended_rows, ends_nothing, is_request_step, message_rows, rows_before, rows_of, standing_row, verdict_rows, waiting_row}
+use Rattle.trace_report.specs.Roles.{role_of_step}
 use Rattle.trace_report.specs.Numbers.{HasItem, HasPart, HasPartBy, IsUnanswered, RowNumbersArePlaces, TellsItsItem}
 use Rattle.trace_report.specs.Rows.{RowValue}
 use Rattle.trace_report.specs.Rows as row

@@ -1,14 +1,13 @@
 -- The blocks of a report: rows stand in tables of some 200, which fold, so that a browser draws a long session in time.
 -- The first ten are written open, and the rows of the others are brief.
-use Rattle.std.specs.Prelude.{ℕ, ◌+◌, ◌==◌, Bool, true, false, ◌&&◌, ◌||◌, List, [], ◌∷◌, ◌++◌, codes, nat_le, nat_lt, if◌then◌else◌}
+use Rattle.std.specs.Prelude.{ℕ, ◌+◌, ◌==◌, Bool, false, ◌&&◌, ◌||◌, List, [], ◌∷◌, ◌++◌, codes, nat_le, nat_lt, if◌then◌else◌}
 use Rattle.std.specs.Fmt.{decimal}
 use Rattle.trace_canon.specs.declared.reception_starts.FramePlace.{FramePlace}
 use Rattle.trace_report.specs.declared.row.MessagePlace.{MessagePlace}
-use Rattle.trace_report.specs.declared.row.MessageRole.{MessageRole}
-use Rattle.trace_report.specs.declared.row.MessageRole.TheVariants as role
 use Rattle.trace_report.specs.declared.blocks.Blocks.{Blocks}
-use Rattle.trace_report.specs.Rows.{RowValue, message, no_answer, dropped, ended, unfinished, row_text}
-use Rattle.trace_report.specs.Words.{seconds_between}
+use Rattle.trace_report.specs.Rows.{RowValue, message, no_answer, dropped, ended, unfinished}
+use Rattle.trace_report.specs.Durations.{seconds_between}
+use Rattle.trace_report.specs.Roles.{is_request_role}
 
 -- a request closes a block that has this many rows
 abbrev pub full_block : ℕ
@@ -21,15 +20,6 @@ largest_block = 1000
 -- so many blocks are open
 abbrev pub open_blocks : ℕ
 open_blocks = 10
-
--- a message with which an exchange begins
-abbrev pub is_request_role : MessageRole → Bool
-is_request_role role.Request = true
-is_request_role (role.Positive asked) = false
-is_request_role (role.Negative asked) = false
-is_request_role (role.Pending asked) = false
-is_request_role role.KeepAlive = false
-is_request_role role.Stray = false
 
 -- a row with which an exchange begins
 abbrev pub begins_exchange : RowValue → Bool
@@ -121,14 +111,3 @@ opening_text origin blocks row =
 -- the rows of the last block are brief
 abbrev pub is_brief : Blocks → Bool
 is_brief blocks = nat_lt open_blocks blocks.count
-
--- the text of a row behind those blocks
-abbrev pub placed_text : ℕ → Blocks → RowValue → List ℕ
-placed_text origin blocks row =
-    opening_text origin blocks row ++ row_text (is_brief (one_more_row (begins_exchange row) blocks)) origin row
-
--- the text of these rows, where those blocks stand before them
-abbrev pub rows_text : ℕ → Blocks → List RowValue → List ℕ
-rows_text origin blocks [] = []
-rows_text origin blocks (row ∷ rest) =
-    placed_text origin blocks row ++ rows_text origin (one_more_row (begins_exchange row) blocks) rest

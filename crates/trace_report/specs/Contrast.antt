@@ -5,7 +5,7 @@ use Rattle.can_log.specs.Digits.{hexadecimal}
 use Rattle.direction.specs.declared.Dir.{Dir}
 use Rattle.direction.specs.declared.Dir.TheVariants as dir
 use Rattle.trace_text.specs.Words.{direction_text}
-use Rattle.trace_report.specs.Blocks.{is_request_role}
+use Rattle.trace_report.specs.Roles.{is_request_role}
 use Rattle.trace_report.specs.Items.{RowMessage, PlacedItem, ItemPair, both, only_left, only_right}
 use Rattle.trace_report.specs.declared.contrast.Contrast.{Contrast}
 use Rattle.trace_report.specs.declared.contrast.Contrast.TheVariants as contrast

@@ -4,10 +4,13 @@ use Rattle.std.specs.Prelude.{ℕ, ◌==◌, ◌&&◌, Bool, false, List, [], �
 use Rattle.std.specs.List.{list_any}
 use Rattle.direction.specs.declared.Dir.{Dir}
 use Rattle.trace_report.specs.Blocks.{begins_exchange, chart_head}
-use Rattle.trace_report.specs.Items.{is_answer_role}
+use Rattle.trace_report.specs.Roles.{is_answer_role}
 use Rattle.trace_report.specs.Marks.{marked_data}
-use Rattle.trace_report.specs.Rows.{RowValue, message, no_answer, dropped, ended, unfinished, begins_item, cell_front, cell_end, dropped_row, ended_row, message_front, no_answer_row, note_text, role_words, unfinished_row}
-use Rattle.trace_report.specs.Words.{data_text}
+use Rattle.trace_report.specs.Rows.{RowValue, message, no_answer, dropped, ended, unfinished, cell_front, cell_end}
+use Rattle.trace_report.specs.Roles.{begins_item}
+use Rattle.trace_report.specs.LostRows.{dropped_row, ended_row, no_answer_row, unfinished_row}
+use Rattle.trace_report.specs.MessageRows.{message_front, note_text, role_words}
+use Rattle.trace_report.specs.Data.{data_text}
 use Rattle.trace_report.specs.declared.contrast.Contrast.{Contrast}
 use Rattle.trace_report.specs.declared.contrast.Contrast.TheVariants as contrast
 use Rattle.trace_report.specs.declared.row.Arrow.TheVariants as arrow

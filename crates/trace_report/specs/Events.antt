@@ -2,7 +2,6 @@
 use Rattle.std.specs.Prelude.{ℕ, ◌+◌, Bool, true, false, List, [], ◌∷◌, ◌++◌, Option, Some, None, if◌then◌else◌}
 use Rattle.direction.specs.Dir.{Message}
 use Rattle.direction.specs.declared.Dir.{Dir}
-use Rattle.direction.specs.declared.Dir.TheVariants as dir
 use Rattle.isotp_receive.specs.declared.event.Ended.{Ended}
 use Rattle.isotp_receive.specs.StandingReception.{StandingReception, receptions_after, stands}
 use Rattle.isotp_receive.specs.Trace.{Entry, FrameRole, single, first, consecutive, continue_or_wait, overflow, no_part, role}
@@ -10,14 +9,14 @@ use Rattle.isotp_receive.specs.Verdict.{VerdictValue, EventValue, message, began
 use Rattle.uds_exchange.specs.Judging.{number_after, open_number, step_after}
 use Rattle.uds_exchange.specs.Order.{open_request}
 use Rattle.uds_exchange.specs.declared.step.Step.{Step}
-use Rattle.uds_exchange.specs.declared.step.Step.TheVariants as becomes
-use Rattle.uds_message.specs.Message.{is_keep_alive, is_negative_response, is_suppressing}
+use Rattle.uds_message.specs.Message.{is_suppressing}
 use Rattle.trace_canon.specs.MessageLines.{first_frame, place_of}
 use Rattle.trace_report.specs.Rows.{RowValue}
-use Rattle.trace_report.specs.Rows as row
 use Rattle.trace_report.specs.declared.row.MessagePlace.{MessagePlace}
-use Rattle.trace_report.specs.declared.row.MessageRole.{MessageRole}
-use Rattle.trace_report.specs.declared.row.MessageRole.TheVariants as message_role
+use Rattle.trace_report.specs.Roles.{role_of_step}
+use Rattle.direction.specs.declared.Dir.TheVariants as dir
+use Rattle.uds_exchange.specs.declared.step.Step.TheVariants as becomes
+use Rattle.trace_report.specs.Rows as row
 
 -- the message begins an exchange
 abbrev pub is_request_step : Step → Bool
@@ -49,27 +48,6 @@ asked_behind limit earlier past (e ∷ rest) =
 -- the time at which the last request of a trace was complete; 0 where it has none
 abbrev pub asked_in : ℕ → List Entry → ℕ
 asked_in limit T = asked_behind limit 0 [] T
-
--- an answer by its first byte
-abbrev pub answer_role : ℕ → List ℕ → MessageRole
-answer_role asked bytes = if is_negative_response bytes then message_role.Negative asked else message_role.Positive asked
-
--- a message of a tester that belongs to no exchange: the keep-alive, or a stray
-abbrev pub other_tester_role : List ℕ → MessageRole
-other_tester_role bytes = if is_keep_alive bytes then message_role.KeepAlive else message_role.Stray
-
--- of either side
-abbrev pub other_role : Dir → List ℕ → MessageRole
-other_role dir.Tester bytes = other_tester_role bytes
-other_role dir.Unit bytes = message_role.Stray
-
--- what a message is, by what becomes of it, where the last request was complete at the time `asked`
-abbrev pub role_of_step : ℕ → Step → Dir → List ℕ → MessageRole
-role_of_step asked (becomes.Request service) d bytes = message_role.Request
-role_of_step asked becomes.Answer d bytes = answer_role asked bytes
-role_of_step asked becomes.Removed d bytes = message_role.Pending asked
-role_of_step asked becomes.Hold d bytes = other_role d bytes
-role_of_step asked becomes.Pass d bytes = other_role d bytes
 
 -- how many frames carry a message that a frame of this role completes, where this stands for its direction
 abbrev pub frames_by : Option StandingReception → FrameRole → ℕ

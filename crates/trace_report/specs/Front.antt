@@ -7,7 +7,7 @@ use Rattle.can_log.specs.Canonical.{identifier_text}
 use Rattle.can_log.specs.Digits.{hexadecimal}
 use Rattle.can_log.specs.declared.frame.Id.{Id}
 use Rattle.trace_log.specs.Settings.{Settings}
-use Rattle.trace_report.specs.Words.{is_within}
+use Rattle.trace_report.specs.Letters.{is_within}
 
 -- a byte by its number: % and two digits
 abbrev pub numbered_byte : ℕ → List ℕ

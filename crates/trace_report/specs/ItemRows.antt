@@ -3,11 +3,14 @@
 use Rattle.std.specs.Prelude.{ℕ, ◌+◌, ◌==◌, Bool, false, List, [], ◌∷◌, ◌++◌, codes, max, min, nat_le, Option, Some, None, unwrap_or, if◌then◌else◌}
 use Rattle.std.specs.Fmt.{decimal}
 use Rattle.uds_message.specs.Message.{is_suppressing}
-use Rattle.trace_report.specs.Blocks.{block_end, full_block, is_request_role}
+use Rattle.trace_report.specs.Blocks.{block_end, full_block}
+use Rattle.trace_report.specs.Roles.{is_request_role}
 use Rattle.trace_report.specs.Contrast.{contrast_of, log_letter}
 use Rattle.trace_report.specs.Items.{RowMessage, PlacedItem, ItemPair, both, only_left, only_right}
-use Rattle.trace_report.specs.Rows.{asked_at, further_note, named_lines, role_words}
-use Rattle.trace_report.specs.Words.{data_text, seconds_between}
+use Rattle.trace_report.specs.Roles.{asked_at}
+use Rattle.trace_report.specs.MessageRows.{further_note, named_lines, role_words}
+use Rattle.trace_report.specs.Data.{data_text}
+use Rattle.trace_report.specs.Durations.{seconds_between}
 use Rattle.trace_report.specs.declared.contrast.Contrast.{Contrast}
 use Rattle.trace_report.specs.declared.contrast.LogName.{LogName}
 use Rattle.trace_report.specs.declared.contrast.LogName.TheVariants.{A, B}

@@ -1,13 +1,12 @@
 -- The items of a session by its rows: each with the message that begins it and its answer, in the order of the numbers that
 -- `udsnorm list` gives them; and the items of two sessions side by side.
-use Rattle.std.specs.Prelude.{ℕ, Bool, true, false, List, [], ◌∷◌, Option, Some, None, option_map, if◌then◌else◌}
+use Rattle.std.specs.Prelude.{ℕ, List, [], ◌∷◌, Option, Some, None, option_map, if◌then◌else◌}
 use Rattle.direction.specs.declared.Dir.{Dir}
 use Rattle.uds_exchange.specs.Meaning.{ItemValue, exchange, stray}
-use Rattle.trace_report.specs.Blocks.{is_request_role}
-use Rattle.trace_report.specs.Rows.{RowValue, message, no_answer, dropped, ended, unfinished, begins_item}
+use Rattle.trace_report.specs.Roles.{is_request_role, begins_item, is_answer_role}
+use Rattle.trace_report.specs.Rows.{RowValue, message, no_answer, dropped, ended, unfinished}
 use Rattle.trace_report.specs.declared.row.MessagePlace.{MessagePlace}
 use Rattle.trace_report.specs.declared.row.MessageRole.{MessageRole}
-use Rattle.trace_report.specs.declared.row.MessageRole.TheVariants as role
 
 -- A message of a session: what it is to its item, who sent it, where it stands, and its bytes.
 pub record RowMessage : Type 0 where
@@ -20,15 +19,6 @@ pub record RowMessage : Type 0 where
 pub record PlacedItem : Type 0 where
   pub begin : RowMessage
   pub answer : Option RowMessage
-
--- the message answers a request
-abbrev pub is_answer_role : MessageRole → Bool
-is_answer_role role.Request = false
-is_answer_role (role.Positive asked) = true
-is_answer_role (role.Negative asked) = true
-is_answer_role (role.Pending asked) = false
-is_answer_role role.KeepAlive = false
-is_answer_role role.Stray = false
 
 -- the message that a row tells, if it tells one
 abbrev pub message_in : RowValue → Option RowMessage

@@ -18,15 +18,18 @@ use Rattle.trace_canon.specs.declared.comparing.Compared.{Compared}
 use Rattle.trace_report.specs.Blocks.{begins_exchange}
 use Rattle.trace_report.specs.Contrast.{contrast_of_answers, first_contrast}
 use Rattle.trace_report.specs.Difference.{begins_number, rows_around}
-use Rattle.trace_report.specs.Events.{asked_in, completes_request, role_of_step, rows_of}
+use Rattle.trace_report.specs.Events.{asked_in, completes_request, rows_of}
+use Rattle.trace_report.specs.Roles.{role_of_step}
 use Rattle.trace_report.specs.Front.{name_text}
 use Rattle.trace_report.specs.Held.{HoldsTwo, TwoValue, comparison_by, comparison_in}
 use Rattle.trace_report.specs.Items.{RowMessage, PlacedItem, item_value, items_in, pairs_of}
 use Rattle.trace_report.specs.Linked.{HasEachTarget, identifiers_in}
 use Rattle.trace_report.specs.Page.{all_rows}
-use Rattle.trace_report.specs.Rows.{RowValue, asked_at, message_row, note_text}
+use Rattle.trace_report.specs.Rows.{RowValue}
+use Rattle.trace_report.specs.Roles.{asked_at}
+use Rattle.trace_report.specs.MessageRows.{message_row, note_text}
 use Rattle.trace_report.specs.Style.{page_style}
-use Rattle.trace_report.specs.Words.{letters}
+use Rattle.trace_report.specs.Letters.{letters}
 use Rattle.trace_report.specs.declared.contrast.Contrast.TheVariants as contrast
 use Rattle.trace_report.specs.declared.contrast.LogName.{LogName}
 use Rattle.trace_report.specs.declared.contrast.LogName.TheVariants.{A, B}

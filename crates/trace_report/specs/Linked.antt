@@ -5,7 +5,8 @@ use Rattle.std.specs.List.{AllByRecursion, filter_map}
 use Rattle.arrayvec.specs.ArrayVec.{ArrayVec}
 use Rattle.direction.specs.declared.Dir.{Dir}
 use Rattle.direction.specs.declared.Dir.TheVariants as dir
-use Rattle.trace_report.specs.Rows.{RowValue, message, no_answer, dropped, ended, unfinished, begins_item}
+use Rattle.trace_report.specs.Rows.{RowValue, message, no_answer, dropped, ended, unfinished}
+use Rattle.trace_report.specs.Roles.{begins_item}
 use Rattle.trace_report.specs.Sorts.{first_targets}
 use Rattle.trace_report.specs.Targets.{Target, identifier, of_item, of_line, of_side}
 use Rattle.trace_report.specs.declared.links.Link.{Link}

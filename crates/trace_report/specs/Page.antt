@@ -6,7 +6,8 @@ use Rattle.trace_report.specs.declared.blocks.Blocks.{Blocks}
 use Rattle.trace_report.specs.declared.cause.RefusalCause.{RefusalCause}
 use Rattle.trace_report.specs.declared.tally.Tally.{Tally}
 use Rattle.trace_log.specs.declared.summary.Summary.{Summary}
-use Rattle.trace_report.specs.Blocks.{block_end, blocks_of, rows_text}
+use Rattle.trace_report.specs.Blocks.{block_end, blocks_of}
+use Rattle.trace_report.specs.Chart.{rows_text}
 use Rattle.trace_report.specs.Causes.{cause_of}
 use Rattle.trace_report.specs.Events.{frame_rows, end_rows, rows_of}
 use Rattle.trace_report.specs.Front.{PageTitle, front_text}

@@ -22,6 +22,24 @@ sort_of_role (role.Pending asked) = sort.Pendings
 sort_of_role role.KeepAlive = sort.KeepAlives
 sort_of_role role.Stray = sort.Strays
 
+-- rows of this sort need attention
+abbrev pub needs_attention : Sort → Bool
+needs_attention sort.Requests = false
+needs_attention sort.Positives = false
+needs_attention sort.Negatives = true
+needs_attention sort.Pendings = false
+needs_attention sort.KeepAlives = false
+needs_attention sort.Strays = true
+needs_attention sort.Unanswered = true
+needs_attention sort.Silent = false
+needs_attention sort.Dropped = true
+needs_attention sort.Ended = true
+needs_attention sort.Unfinished = true
+
+-- a message of this role needs attention
+abbrev pub message_needs_attention : MessageRole → Bool
+message_needs_attention is = needs_attention (sort_of_role is)
+
 -- the sort of an item without an answer
 abbrev pub sort_of_silence : Bool → Sort
 sort_of_silence true = sort.Silent

@@ -6,7 +6,7 @@ use Rattle.trace_text.specs.Words.{stamp_text}
 use Rattle.trace_report.specs.Causes.{cause_line}
 use Rattle.trace_report.specs.Counts.{counts_text}
 use Rattle.trace_report.specs.Links.{look_text}
-use Rattle.trace_report.specs.Words.{seconds_between}
+use Rattle.trace_report.specs.Durations.{seconds_between}
 use Rattle.trace_log.specs.Summing.{is_clean, lacks_line_feed}
 use Rattle.trace_report.specs.declared.cause.RefusalCause.{RefusalCause}
 use Rattle.trace_report.specs.declared.counts.SortCounts.{SortCounts}

@@ -3,8 +3,9 @@ ghost use Rattle.std.specs.Prelude.{◌≡◌, ◌^◌, ◌-◌, ◌<◌, ◌||�
 ghost use Rattle.trace_report.specs.Blocks as Spec;
 ghost use Rattle.trace_report.specs.proving.Pages.{row_of};
 
-use crate::row::{MessagePlace, MessageRole, Row};
-use crate::words::Seconds;
+use crate::roles::is_request_role;
+use crate::row::{MessagePlace, Row};
+use crate::durations::Seconds;
 use text_parts::{Either, Part, When, say};
 use trace_canon::reception_starts::FramePlace;
 use trace_io::TextSink;
@@ -41,20 +42,6 @@ pub(crate) fn begins_exchange(row: Row<'_>) -> bool
         Row::Message { role, .. } => is_request_role(role),
         Row::NoAnswer { .. } | Row::Dropped { .. } | Row::Ended { .. } | Row::Unfinished { .. } =>
             false,
-    }
-}
-
-/// Whether a message begins one.
-pub(crate) fn is_request_role(role: MessageRole) -> bool
-    ensures { result ≡ Spec.is_request_role role }
-{
-    match role {
-        MessageRole::Request => true,
-        MessageRole::Positive { .. }
-        | MessageRole::Negative { .. }
-        | MessageRole::Pending { .. }
-        | MessageRole::KeepAlive
-        | MessageRole::Stray => false,
     }
 }
 

@@ -6,9 +6,9 @@ ghost use Rattle.trace_report.specs.Items.{both};
 ghost use Rattle.trace_report.specs.declared.contrast.Contrast.TheVariants.{Answers};
 ghost use Rattle.trace_report.specs.proving.Lending.{item_of, message_of, pair_of};
 
-use crate::blocks::is_request_role;
 use crate::items::{LentItem, LentMessage, LentPair};
 use crate::marks::parted;
+use crate::roles::is_request_role;
 use direction::Dir;
 use text_parts::Part;
 use trace_io::TextSink;

@@ -9,13 +9,14 @@ ghost use Rattle.isotp_receive.specs.Verdict.{verdict};
 ghost use Rattle.trace_run.specs.Seen.{IsSeen};
 ghost use Rattle.uds_exchange.specs.Judging.{IsJudgedAfter, number_after, sent, step_after};
 ghost use Rattle.trace_canon.specs.MessageLines.{place_of};
-ghost use Rattle.trace_report.specs.Events.{closing_rows, end_rows, ended_rows, frame_rows, role_of_step as role_by, rows_before, standing_row};
+ghost use Rattle.trace_report.specs.Events.{closing_rows, end_rows, ended_rows, frame_rows, rows_before, standing_row};
+ghost use Rattle.trace_report.specs.Roles.{role_of_step as role_by};
 ghost use Rattle.trace_report.specs.Rows.{message as message_row};
 ghost use Rattle.trace_report.specs.proving.Following.{Follows, IsSilent, IsWaiting, MeetsMessage, dropped_rows, row_if, rows_in, unfinished_if};
 ghost use Rattle.trace_report.specs.proving.Pages.{row_of};
 
-use crate::events::role_of_step;
 use crate::places::{MessageExtent, Places};
+use crate::roles::role_of_step;
 use crate::row::{MessagePlace, Row};
 use direction::Dir;
 use isotp_receive::{Ended, Event, Pair, Verdict};

@@ -1,6 +1,6 @@
 //! The rows of a page of two sessions that tell items, one for each number.
 ghost use Rattle.std.specs.Prelude.{◌≡◌, ◌+◌, ◌-◌, Some, drop, option_map, take};
-ghost use Rattle.trace_report.specs.Blocks.{is_request_role as begins_exchange};
+ghost use Rattle.trace_report.specs.Roles.{is_request_role as begins_exchange};
 ghost use Rattle.trace_report.specs.Held.{pairs_in};
 ghost use Rattle.trace_report.specs.Items.{both, only_left, only_right};
 ghost use Rattle.trace_report.specs.ItemRows.{different_row, item_note, item_side, item_sides, next_table, no_answer_text, no_item, note_of, open_mark, pair_row, pair_rows, row_opening, same_row, table_opening, told_answer, told_item, told_message, told_reply, told_reply_if};
@@ -9,13 +9,15 @@ ghost use Rattle.trace_report.specs.proving.Rowing.{IsKnown, placed_if, row_if};
 ghost use Rattle.trace_report.specs.proving.Lending.{item_of, message_of, pair_of};
 ghost use Rattle.uds_message.specs.Message.{is_suppressing as suppresses};
 
-use crate::blocks::{BlockEnd, FULL_BLOCK, is_request_role};
+use crate::blocks::{BlockEnd, FULL_BLOCK};
 use crate::contrast::{LogName, contrast_of};
 use crate::items::{LentItem, LentMessage, LentPair};
-use crate::message_rows::{FurtherNote, NamedLines, RoleWords, asked_at};
+use crate::message_rows::{FurtherNote, NamedLines, RoleWords};
+use crate::roles::{asked_at, is_request_role};
 use crate::row::{MessagePlace, MessageRole};
 use crate::two::Two;
-use crate::words::{Data, Seconds};
+use crate::data::Data;
+use crate::durations::Seconds;
 use text_parts::{Part, say};
 use trace_io::TextSink;
 use trace_text::values::{say_number, say_text};

@@ -1,9 +1,5 @@
 //! The items of a session, lent, and those of two sessions side by side.
-ghost use Rattle.std.specs.Prelude.{◌≡◌};
-ghost use Rattle.trace_report.specs.Items as Spec;
-
 use crate::kept_rows::KeptMessage;
-use crate::row::MessageRole;
 
 /// A message of a session, lent.
 #[derive(Clone, Copy)]
@@ -25,17 +21,4 @@ pub(crate) enum LentPair<'a> {
     Both(LentItem<'a>, LentItem<'a>),
     OnlyLeft(LentItem<'a>),
     OnlyRight(LentItem<'a>),
-}
-
-/// Whether a message answers a request.
-pub(crate) fn is_answer_role(role: MessageRole) -> bool
-    ensures { result ≡ Spec.is_answer_role role }
-{
-    match role {
-        MessageRole::Positive { .. } | MessageRole::Negative { .. } => true,
-        MessageRole::Request
-        | MessageRole::Pending { .. }
-        | MessageRole::KeepAlive
-        | MessageRole::Stray => false,
-    }
 }

@@ -1,7 +1,7 @@
 //! The bytes of messages as letters, where they may be text.
 ghost use Rattle.std.specs.Prelude.{◌≡◌};
-ghost use Rattle.trace_report.specs.Words.{letter_text, letters};
-ghost use Rattle.trace_report.specs.Words as Spec;
+ghost use Rattle.trace_report.specs.Letters.{letter_text, letters};
+ghost use Rattle.trace_report.specs.Letters as Spec;
 
 use text_parts::{Part, say};
 use trace_io::TextSink;
@@ -11,7 +11,7 @@ use trace_io::TextSink;
 pub(crate) struct LettersText<'a>(pub &'a [u8]);
 
 impl<'a> Part for LettersText<'a> {
-    ghost use Rattle.trace_report.specs.Words.{letters_text};
+    ghost use Rattle.trace_report.specs.Letters.{letters_text};
 
     ghost text = { λ bytes. letters_text bytes.0.now };
 
@@ -27,7 +27,7 @@ impl<'a> Part for LettersText<'a> {
 struct Letters<'a>(&'a [u8]);
 
 impl<'a> Part for Letters<'a> {
-    ghost use Rattle.trace_report.specs.Words.{letters};
+    ghost use Rattle.trace_report.specs.Letters.{letters};
 
     ghost text = { λ bytes. letters bytes.0.now };
 

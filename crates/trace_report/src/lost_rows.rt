@@ -1,9 +1,9 @@
 //! The rows of a report that tell what is missing: answers, frames, and messages that are not whole.
-ghost use Rattle.trace_report.specs.Rows.{dropped_row, ended_row, layout_fault_words, no_answer_row, unfinished_row};
+ghost use Rattle.trace_report.specs.LostRows.{dropped_row, ended_row, layout_fault_words, no_answer_row, unfinished_row};
 
 use crate::cells::{CellEnd, CellFront, Side};
 use crate::row::Arrow;
-use crate::words::Seconds;
+use crate::durations::Seconds;
 use direction::Dir;
 use isotp_pdu::PduFault;
 use isotp_receive::{Cause, Ended, Reason};
@@ -57,7 +57,7 @@ struct FrameFront {
 }
 
 impl Part for FrameFront {
-    ghost use Rattle.trace_report.specs.Rows.{frame_front};
+    ghost use Rattle.trace_report.specs.LostRows.{frame_front};
 
     ghost text = { λ front. frame_front front.linked front.origin front.place };
 
@@ -118,7 +118,7 @@ pub(crate) fn say_dropped_row<S: TextSink>(
 struct WhyDroppedInWords(Reason);
 
 impl Part for WhyDroppedInWords {
-    ghost use Rattle.trace_report.specs.Rows.{reason_words};
+    ghost use Rattle.trace_report.specs.LostRows.{reason_words};
 
     ghost text = { λ why. reason_words why.0 };
 
@@ -181,7 +181,7 @@ struct PartOfMessage {
 }
 
 impl Part for PartOfMessage {
-    ghost use Rattle.trace_report.specs.Rows.{partial_text};
+    ghost use Rattle.trace_report.specs.LostRows.{partial_text};
 
     ghost text = { λ part. partial_text part.dir part.line part.len };
 
@@ -241,7 +241,7 @@ pub(crate) fn say_ended_row<S: TextSink>(
 struct WhyEndedInWords(Cause);
 
 impl Part for WhyEndedInWords {
-    ghost use Rattle.trace_report.specs.Rows.{cause_words};
+    ghost use Rattle.trace_report.specs.LostRows.{cause_words};
 
     ghost text = { λ why. cause_words why.0 };
 

@@ -49,6 +49,30 @@ fn sort_of_role(role: MessageRole) -> Sort
     }
 }
 
+/// Whether rows of this sort need attention.
+pub(crate) fn needs_attention(sort: Sort) -> bool
+    ensures { result ≡ Spec.needs_attention sort }
+{
+    match sort {
+        Sort::Negatives
+        | Sort::Strays
+        | Sort::Unanswered
+        | Sort::Dropped
+        | Sort::Ended
+        | Sort::Unfinished => true,
+        Sort::Requests | Sort::Positives | Sort::Pendings | Sort::KeepAlives | Sort::Silent => {
+            false
+        }
+    }
+}
+
+/// Whether a message of this role needs attention.
+pub(crate) fn message_needs_attention(role: MessageRole) -> bool
+    ensures { result ≡ Spec.message_needs_attention role }
+{
+    needs_attention(sort_of_role(role))
+}
+
 /// The sort of an item without an answer.
 fn sort_of_silence(silent: bool) -> Sort
     ensures { result ≡ Spec.sort_of_silence silent }

@@ -11,7 +11,7 @@ use crate::reasons::UncleanReasons;
 use crate::refusal::RefusedHeading;
 use crate::tally::Tally;
 use crate::times::{Times, first_of, last_of};
-use crate::words::Seconds;
+use crate::durations::Seconds;
 use text_parts::{Either, Part, say};
 use trace_io::TextSink;
 use trace_log::{Fault, Summary};

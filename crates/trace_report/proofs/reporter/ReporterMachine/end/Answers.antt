@@ -1,7 +1,8 @@
 -- Behind the last frame come the rows of the end, and what closes the page.
 use Rattle.std.proofs.Common.{◌<◌, ◌^◌, ◌-◌, List, arith, ap, subst, ◌++◌, length, refl}
 use Rattle.isotp_receive.specs.declared.TheConstants.{MESSAGE_LIMIT}
-use Rattle.trace_report.specs.Blocks.{blocks_of, rows_text}
+use Rattle.trace_report.specs.Blocks.{blocks_of}
+use Rattle.trace_report.specs.Chart.{rows_text}
 use Rattle.trace_report.specs.Events.{rows_of}
 use Rattle.trace_report.specs.Front.{PageTitle}
 use Rattle.trace_report.specs.Page.{front_before, page_end}

@@ -1,8 +1,8 @@
 -- A row is said as its variant.
 use Rattle.std.proofs.Common.{ap, sym, subst}
-use Rattle.trace_report.specs.Rows.{row_text}
+use Rattle.trace_report.specs.Chart.{row_text}
 use Rattle.trace_report.specs.proving.Pages.{row_of}
-use Rattle.trace_report.proofs.rows.say_row.Goals as goal
+use Rattle.trace_report.proofs.chart.say_row.Goals as goal
 
 pub returns-in-Message : goal.returns-in-Message
 returns-in-Message g c =

@@ -2,7 +2,7 @@
 use Rattle.std.proofs.Common.{◌*◌, ◌∙◌, take, refl, ap, sym, subst, arith}
 use Rattle.std.proofs.lemmas.List.{length-take-le}
 use Rattle.trace_report.proofs.BytesBehind.{front_behind}
-use Rattle.trace_report.proofs.words.say_front_behind.Goals as goal
+use Rattle.trace_report.proofs.data.say_front_behind.Goals as goal
 
 pub returns : goal.returns
 returns g c =

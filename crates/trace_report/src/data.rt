@@ -1,13 +1,13 @@
-//! The words of a report: times, and the bytes of messages.
+//! The bytes of messages, as far as rows show them.
 ghost use Rattle.std.specs.Prelude.{◌≡◌, ◌<◌, ◌≤◌, length, take};
-ghost use Rattle.trace_report.specs.Words.{bytes_behind};
+ghost use Rattle.trace_report.specs.Data.{bytes_behind};
 
 use crate::letters::LettersText;
 use can_log::digits_of_bytes;
 use std::simd::prelude::*;
-use text_parts::{Either, Part, When, say};
+use text_parts::{Either, Part, say};
 use trace_io::TextSink;
-use trace_text::{Byte, Number, Stamp, ThreeDecimals};
+use trace_text::{Byte, Number};
 
 /// Up to so many bytes, all of a message are shown.
 pub(crate) const MOST_SHOWN: usize = 64;
@@ -17,48 +17,6 @@ const MOST_FOLDED: usize = 512;
 
 /// So many are the first ones.
 pub(crate) const SHOWN_FIRST: usize = 32;
-
-/// The seconds from one time to another: a minus, where one is before another.
-#[derive(Clone, Copy)]
-pub(crate) struct Seconds(pub u64, pub u64);
-
-impl Part for Seconds {
-    ghost use Rattle.trace_report.specs.Words.{seconds_between};
-
-    ghost text = { λ time. seconds_between time.0 time.1 };
-
-    fn say<S: TextSink>(self, out: &mut S) {
-        let Seconds(from, to) = self;
-        say(out, (When(from > to, "-"), Stamp(from.abs_diff(to))));
-    }
-}
-
-/// The milliseconds from one time to another.
-#[derive(Clone, Copy)]
-pub(crate) struct Milliseconds(pub u64, pub u64);
-
-impl Part for Milliseconds {
-    ghost use Rattle.trace_report.specs.Words.{milliseconds_between};
-
-    ghost text = { λ time. milliseconds_between time.0 time.1 };
-
-    fn say<S: TextSink>(self, out: &mut S) {
-        let Milliseconds(from, to) = self;
-        let between = from.abs_diff(to);
-        say(
-            out,
-            (
-                When(from > to, "-"),
-                (
-                    Number(between / 1000),
-                    ".",
-                    ThreeDecimals(between),
-                    "&#160;ms",
-                ),
-            ),
-        );
-    }
-}
 
 /// Says a blank and two digits for each byte: of eight bytes at once, as long as there are eight.
 pub(crate) fn say_bytes_behind<S: TextSink>(bytes: &[u8], out: &mut S)
@@ -123,7 +81,7 @@ fn eight_behind(bytes: &[u8; 8]) -> [u8; 24]
 struct BytesApart<'a>(&'a [u8]);
 
 impl<'a> Part for BytesApart<'a> {
-    ghost use Rattle.trace_report.specs.Words.{bytes_apart};
+    ghost use Rattle.trace_report.specs.Data.{bytes_apart};
 
     ghost text = { λ bytes. bytes_apart bytes.0.now };
 
@@ -140,7 +98,7 @@ impl<'a> Part for BytesApart<'a> {
 pub(crate) struct Data<'a>(pub &'a [u8]);
 
 impl<'a> Part for Data<'a> {
-    ghost use Rattle.trace_report.specs.Words.{data_text};
+    ghost use Rattle.trace_report.specs.Data.{data_text};
 
     ghost text = { λ bytes. data_text bytes.0.now };
 
@@ -190,7 +148,7 @@ impl<'a> Part for Data<'a> {
 pub(crate) struct BriefData<'a>(pub &'a [u8]);
 
 impl<'a> Part for BriefData<'a> {
-    ghost use Rattle.trace_report.specs.Words.{brief_data};
+    ghost use Rattle.trace_report.specs.Data.{brief_data};
 
     ghost text = { λ bytes. brief_data bytes.0.now };
 

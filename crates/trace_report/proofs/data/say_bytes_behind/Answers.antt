@@ -1,8 +1,8 @@
 -- Each eight bytes add their blanks and digits, and fewer than eight end the text.
 use Rattle.std.proofs.Common.{[], ◌++◌, refl, ap, sym, subst, ◌∙◌, append_assoc}
-use Rattle.trace_report.specs.Words.{bytes_behind}
+use Rattle.trace_report.specs.Data.{bytes_behind}
 use Rattle.trace_report.proofs.BytesBehind.{eight_more}
-use Rattle.trace_report.proofs.words.say_bytes_behind.Goals as goal
+use Rattle.trace_report.proofs.data.say_bytes_behind.Goals as goal
 
 pub eights-init : goal.eights-init
 eights-init g c = ([], refl, g.met.S.TextSink.nothing c.args.out.now)

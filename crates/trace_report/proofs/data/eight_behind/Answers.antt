@@ -3,9 +3,9 @@ use Rattle.std.proofs.Common.{ap, get_or, sym, ◌∙◌}
 use Rattle.std.specs.List.{flat_map}
 use Rattle.std.proofs.lemmas.Simd.{pick_l_whole}
 use Rattle.can_log.specs.Digits.{hexadecimal}
-use Rattle.trace_report.specs.Words.{bytes_behind}
+use Rattle.trace_report.specs.Data.{bytes_behind}
 use Rattle.trace_report.proofs.BytesBehind.{spaced_digits}
-use Rattle.trace_report.proofs.words.eight_behind.Goals as goal
+use Rattle.trace_report.proofs.data.eight_behind.Goals as goal
 
 pub returns : goal.returns
 returns c =

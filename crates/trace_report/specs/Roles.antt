@@ -1,0 +1,66 @@
+-- What a message is to its item, and what is asked of that: does it begin an item, is it a request, an answer, a reply?
+use Rattle.std.specs.Prelude.{ℕ, Bool, true, false, List, Option, Some, None, if◌then◌else◌}
+use Rattle.direction.specs.declared.Dir.{Dir}
+use Rattle.trace_report.specs.declared.row.MessageRole.{MessageRole}
+use Rattle.uds_exchange.specs.declared.step.Step.{Step}
+use Rattle.uds_message.specs.Message.{is_keep_alive, is_negative_response}
+use Rattle.direction.specs.declared.Dir.TheVariants as dir
+use Rattle.trace_report.specs.declared.row.MessageRole.TheVariants as role
+use Rattle.uds_exchange.specs.declared.step.Step.TheVariants as becomes
+
+-- a message with which an exchange begins
+abbrev pub is_request_role : MessageRole → Bool
+is_request_role role.Request = true
+is_request_role (role.Positive asked) = false
+is_request_role (role.Negative asked) = false
+is_request_role (role.Pending asked) = false
+is_request_role role.KeepAlive = false
+is_request_role role.Stray = false
+
+-- the message answers a request
+abbrev pub is_answer_role : MessageRole → Bool
+is_answer_role role.Request = false
+is_answer_role (role.Positive asked) = true
+is_answer_role (role.Negative asked) = true
+is_answer_role (role.Pending asked) = false
+is_answer_role role.KeepAlive = false
+is_answer_role role.Stray = false
+
+-- it begins an item, and has no answer's number
+abbrev pub begins_item : MessageRole → Bool
+begins_item role.Request = true
+begins_item (role.Positive asked) = false
+begins_item (role.Negative asked) = false
+begins_item (role.Pending asked) = false
+begins_item role.KeepAlive = true
+begins_item role.Stray = true
+
+-- when the last frame of the request came to which it replies, if it replies to one
+abbrev pub asked_at : MessageRole → Option ℕ
+asked_at role.Request = None
+asked_at (role.Positive asked) = Some asked
+asked_at (role.Negative asked) = Some asked
+asked_at (role.Pending asked) = Some asked
+asked_at role.KeepAlive = None
+asked_at role.Stray = None
+
+-- an answer by its first byte
+abbrev pub answer_role : ℕ → List ℕ → MessageRole
+answer_role asked bytes = if is_negative_response bytes then role.Negative asked else role.Positive asked
+
+-- a message of a tester that belongs to no exchange: the keep-alive, or a stray
+abbrev pub other_tester_role : List ℕ → MessageRole
+other_tester_role bytes = if is_keep_alive bytes then role.KeepAlive else role.Stray
+
+-- of either side
+abbrev pub other_role : Dir → List ℕ → MessageRole
+other_role dir.Tester bytes = other_tester_role bytes
+other_role dir.Unit bytes = role.Stray
+
+-- what a message is, by what becomes of it, where the last request was complete at the time `asked`
+abbrev pub role_of_step : ℕ → Step → Dir → List ℕ → MessageRole
+role_of_step asked (becomes.Request service) d bytes = role.Request
+role_of_step asked becomes.Answer d bytes = answer_role asked bytes
+role_of_step asked becomes.Removed d bytes = role.Pending asked
+role_of_step asked becomes.Hold d bytes = other_role d bytes
+role_of_step asked becomes.Pass d bytes = other_role d bytes
