@@ -8,7 +8,8 @@ use Rattle.isotp_receive.specs.declared.event.Ended.{Ended}
 use Rattle.isotp_receive.specs.declared.event.Reason.{Reason}
 use Rattle.trace_canon.specs.declared.reception_starts.FramePlace.{FramePlace}
 use Rattle.trace_text.specs.RemarkLines.{cause_text, reason_text}
-use Rattle.trace_report.specs.Targets.{identifier, of_line, of_side}
+use Rattle.trace_report.specs.Targets.{identifier}
+use Rattle.trace_report.specs.declared.targets.Target.TheVariants as target
 use Rattle.trace_report.specs.Durations.{seconds_between}
 use Rattle.trace_text.specs.Words.{direction_text}
 use Rattle.trace_report.specs.Rows.{cell_front, cell_end}
@@ -36,7 +37,7 @@ no_answer_row number silent = if silent then silent_row number else unanswered_r
 
 -- a line of the log, to which links lead
 abbrev pub line_target : ℕ → List ℕ
-line_target number = codes " id=\"" ++ identifier (of_line number) ++ codes "\""
+line_target number = codes " id=\"" ++ identifier (target.Line number) ++ codes "\""
 
 -- where they lead to this row
 abbrev pub target_if : Bool → ℕ → List ℕ
@@ -94,7 +95,7 @@ ended_row linked origin place end =
 
 -- a side, to which links lead on a page of one log
 abbrev pub side_target : Bool → Dir → List ℕ
-side_target linked d = if linked then codes " id=\"" ++ identifier (of_side d) ++ codes "\"" else []
+side_target linked d = if linked then codes " id=\"" ++ identifier (target.Side d) ++ codes "\"" else []
 
 -- the row of a reception that stands at the end
 abbrev pub unfinished_row : Bool → Dir → ℕ → ℕ → List ℕ

@@ -5,7 +5,8 @@ use Rattle.direction.specs.declared.Dir.{Dir}
 use Rattle.uds_message.specs.Message.{sid, response_code}
 use Rattle.trace_report.specs.declared.row.MessagePlace.{MessagePlace}
 use Rattle.trace_report.specs.declared.row.MessageRole.{MessageRole}
-use Rattle.trace_report.specs.Targets.{identifier, of_item}
+use Rattle.trace_report.specs.Targets.{identifier}
+use Rattle.trace_report.specs.declared.targets.Target.TheVariants as target
 use Rattle.trace_report.specs.Data.{data_text}
 use Rattle.trace_report.specs.Durations.{milliseconds_between, seconds_between}
 use Rattle.trace_text.specs.Words.{direction_text, service_text, code_text}
@@ -25,7 +26,7 @@ role_class role.Stray = codes "s"
 
 -- the number of its item as the header of the row, to which links lead on a page of one log
 abbrev pub item_header : Bool → ℕ → List ℕ
-item_header true number = codes "\" id=\"" ++ identifier (of_item number) ++ codes "\"><th scope=\"row\">" ++ decimal number
+item_header true number = codes "\" id=\"" ++ identifier (target.Item number) ++ codes "\"><th scope=\"row\">" ++ decimal number
 item_header false number = codes "\"><th scope=\"row\">" ++ decimal number
 
 -- and repeated

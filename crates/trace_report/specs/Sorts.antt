@@ -2,8 +2,6 @@
 use Rattle.std.specs.Prelude.{ℕ, ◌==◌, Bool, true, false, List, [], ◌∷◌, length, take, if◌then◌else◌}
 use Rattle.std.specs.List.{flat_map}
 use Rattle.arrayvec.specs.ArrayVec.{ArrayVec}
-use Rattle.direction.specs.declared.Dir.{Dir}
-use Rattle.direction.specs.declared.Dir.TheVariants as dir
 use Rattle.trace_report.specs.Rows.{RowValue, message, no_answer, dropped, ended, unfinished}
 use Rattle.trace_report.specs.declared.counts.SortCounts.{SortCounts}
 use Rattle.trace_report.specs.declared.row.MessageRole.{MessageRole}
@@ -12,6 +10,8 @@ use Rattle.trace_report.specs.declared.sorts.Sort.{Sort}
 use Rattle.trace_report.specs.declared.sorts.Sort.TheVariants as sort
 use Rattle.trace_report.specs.declared.tally.FirstTargets.{FirstTargets}
 use Rattle.trace_report.specs.declared.tally.Tally.{Tally}
+use Rattle.trace_report.specs.declared.targets.Target.{Target}
+use Rattle.trace_report.specs.declared.targets.Target.TheVariants as target
 
 -- the sort of a message
 abbrev pub sort_of_role : MessageRole → Sort
@@ -71,21 +71,16 @@ rank sort.Unfinished = 10
 abbrev pub is_of : Sort → RowValue → Bool
 is_of kind row = rank kind == rank (sort_of row)
 
--- the number by which a link names a side
-abbrev pub side_number : Dir → ℕ
-side_number dir.Tester = 0
-side_number dir.Unit = 1
-
--- where a link to a row leads: to the number of its item or to its line, or to its side
-abbrev pub target_of : RowValue → ℕ
-target_of (message is d place bytes) = place.item
-target_of (no_answer number asked) = number
-target_of (dropped place d linked why) = place.line
-target_of (ended place end) = place.line
-target_of (unfinished d line len) = side_number d
+-- where a link to a row leads: to its item or to its line, or to what stands of its side
+abbrev pub target_of : RowValue → Target
+target_of (message is d place bytes) = target.Item place.item
+target_of (no_answer number asked) = target.Item number
+target_of (dropped place d linked why) = target.Line place.line
+target_of (ended place end) = target.Line place.line
+target_of (unfinished d line len) = target.Side d
 
 -- the targets of the rows of a sort, in order
-abbrev pub targets_of : Sort → List RowValue → List ℕ
+abbrev pub targets_of : Sort → List RowValue → List Target
 targets_of kind rows = flat_map (λ row. if is_of kind row then target_of row ∷ [] else []) rows
 
 -- how many there are
@@ -97,7 +92,7 @@ abbrev pub most_links : ℕ
 most_links = 10
 
 -- the first of them
-abbrev pub first_of : Sort → List RowValue → ArrayVec ℕ
+abbrev pub first_of : Sort → List RowValue → ArrayVec Target
 first_of kind rows = record { items = take most_links (targets_of kind rows) }
 
 -- how many rows there are of each sort

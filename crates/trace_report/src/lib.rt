@@ -73,6 +73,7 @@ mod session;
 mod sorts;
 mod style;
 mod tally;
+mod targets;
 mod times;
 mod two;
 mod verdict;

@@ -4,7 +4,7 @@ ghost use Rattle.trace_report.specs.Sorts as Spec;
 ghost use Rattle.trace_report.specs.proving.Pages.{row_of};
 
 use crate::row::{MessageRole, Row};
-use direction::Dir;
+use crate::targets::Target;
 
 /// What needs a look, and what else is counted.
 #[derive(Clone, Copy, Debug)]
@@ -84,25 +84,15 @@ fn sort_of_silence(silent: bool) -> Sort
     }
 }
 
-/// Where a link to a row leads: to the number of its item or to its line, or to its side.
-pub(crate) fn target_of(row: Row<'_>) -> u64
+/// Where a link to a row leads: to its item or to its line, or to what stands of its side.
+pub(crate) fn target_of(row: Row<'_>) -> Target
     ensures { result ≡ Spec.target_of (row_of row.entry) }
 {
     match row {
-        Row::Message { place, .. } => place.item,
-        Row::NoAnswer { number, .. } => number,
-        Row::Dropped { place, .. } => place.line,
-        Row::Ended { place, .. } => place.line,
-        Row::Unfinished { dir, .. } => side_number(dir),
-    }
-}
-
-/// The number by which a link names a side.
-fn side_number(dir: Dir) -> u64
-    ensures { result ≡ Spec.side_number dir }
-{
-    match dir {
-        Dir::Tester => 0,
-        Dir::Unit => 1,
+        Row::Message { place, .. } => Target::Item(place.item),
+        Row::NoAnswer { number, .. } => Target::Item(number),
+        Row::Dropped { place, .. } => Target::Line(place.line),
+        Row::Ended { place, .. } => Target::Line(place.line),
+        Row::Unfinished { dir, .. } => Target::Side(dir),
     }
 }

@@ -6,7 +6,7 @@ ghost use Rattle.trace_report.specs.Verdict as Spec;
 
 use crate::cause::RefusalCause;
 use crate::counts::{AnswersOf, Counts, SortCounts};
-use crate::links::{Link, LookLine};
+use crate::links::AttentionLine;
 use crate::reasons::UncleanReasons;
 use crate::refusal::RefusedHeading;
 use crate::tally::Tally;
@@ -130,47 +130,18 @@ impl<'a> Part for Looks<'a> {
         if needs_no_look(counts) {
             return;
         }
-        let dropped = LookLine {
-            words: "dropped frames",
-            link: Link::Line,
-            count: counts.dropped,
-            first: &first.dropped,
-        };
-        let ended = LookLine {
-            words: "ended early",
-            link: Link::Line,
-            count: counts.ended,
-            first: &first.ended,
-        };
-        let unfinished = LookLine {
-            words: "unfinished",
-            link: Link::Side,
-            count: counts.unfinished,
-            first: &first.unfinished,
-        };
-        let negative = LookLine {
-            words: "negative answers",
-            link: Link::Item,
-            count: counts.negatives,
-            first: &first.negatives,
-        };
-        let unanswered = LookLine {
-            words: "without an answer",
-            link: Link::Item,
-            count: counts.unanswered,
-            first: &first.unanswered,
-        };
-        let strays = LookLine {
-            words: "strays",
-            link: Link::Item,
-            count: counts.strays,
-            first: &first.strays,
-        };
         say(
             out,
             (
                 "<ul class=\"look\">\n",
-                (dropped, ended, unfinished, negative, unanswered, strays),
+                (
+                    AttentionLine("dropped frames", counts.dropped, &first.dropped),
+                    AttentionLine("ended early", counts.ended, &first.ended),
+                    AttentionLine("unfinished", counts.unfinished, &first.unfinished),
+                    AttentionLine("negative answers", counts.negatives, &first.negatives),
+                    AttentionLine("without an answer", counts.unanswered, &first.unanswered),
+                    AttentionLine("strays", counts.strays, &first.strays),
+                ),
                 "</ul>\n",
             ),
         );

@@ -7,6 +7,7 @@ use Rattle.trace_report.specs.declared.counts.SortCounts.{SortCounts}
 use Rattle.trace_report.specs.declared.sorts.Sort.{Sort}
 use Rattle.trace_report.specs.declared.sorts.Sort.TheVariants as sort
 use Rattle.trace_report.specs.declared.tally.FirstTargets.{FirstTargets}
+use Rattle.trace_report.specs.declared.targets.Target.{Target}
 
 -- the counts
 abbrev pub counts_with : Sort → SortCounts → SortCounts
@@ -23,11 +24,11 @@ counts_with sort.Ended counts = record counts { ended = one_more counts.ended }
 counts_with sort.Unfinished counts = record counts { unfinished = one_more counts.unfinished }
 
 -- the first targets of a sort, with one more
-abbrev pub kept : ArrayVec ℕ → ℕ → ArrayVec ℕ
+abbrev pub kept : ArrayVec Target → Target → ArrayVec Target
 kept first target = record { items = take most_links (first.items ++ target ∷ []) }
 
 -- those of each sort that needs a look
-abbrev pub first_with : Sort → ℕ → FirstTargets → FirstTargets
+abbrev pub first_with : Sort → Target → FirstTargets → FirstTargets
 first_with sort.Dropped target first = record first { dropped = kept first.dropped target }
 first_with sort.Ended target first = record first { ended = kept first.ended target }
 first_with sort.Unfinished target first = record first { unfinished = kept first.unfinished target }

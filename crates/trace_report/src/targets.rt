@@ -1,0 +1,13 @@
+//! The places of a page of one log to which links lead.
+use direction::Dir;
+
+/// A place to which links lead.
+#[derive(Clone, Copy, Debug)]
+pub(crate) enum Target {
+    /// The row that begins the item of this number.
+    Item(u64),
+    /// The first row of the frame in this line of the log.
+    Line(u64),
+    /// The row of what stands of this side at the end of the log.
+    Side(Dir),
+}
