@@ -12,7 +12,7 @@ use Rattle.trace_report.specs.MessageRows.{message_front, after_text, message_ro
 use Rattle.trace_report.specs.Sorts.{message_needs_attention}
 use Rattle.trace_report.specs.declared.row.MessageRole.TheVariants as role
 
--- the words of a brief row, of a message that needs no look
+-- the words of a brief row, of a message that needs no attention
 abbrev pub brief_words : MessageRole → ℕ → List ℕ → List ℕ
 brief_words role.Request first bytes = service_text (sid bytes) ++ codes " request " ++ brief_data bytes ++ codes " &#8594;"
 brief_words (role.Positive asked) first bytes = codes "&#8592; positive " ++ brief_data bytes ++ codes " " ++ after_text asked first

@@ -1,4 +1,4 @@
--- What needs a look in a report: for each reason how many rows, and links to the first ten.
+-- What needs attention in a report: for each reason how many rows, and links to the first ten.
 use Rattle.std.specs.Prelude.{ℕ, ◌-◌, ◌==◌, ◌&&◌, Bool, List, [], ◌∷◌, ◌++◌, codes, nat_lt, if◌then◌else◌}
 use Rattle.std.specs.Fmt.{decimal}
 use Rattle.std.specs.List.{flat_map}
@@ -38,34 +38,34 @@ others_text count = codes " and " ++ decimal count ++ codes " more"
 abbrev pub more_text : ℕ → List ℕ
 more_text count = if nat_lt most_links count then others_text (count - most_links) else []
 
--- what needs a look for one reason: how many, and links to the first
-abbrev pub look_entry : List ℕ → ℕ → List Target → List ℕ
-look_entry words count first =
+-- what needs attention for one reason: how many, and links to the first
+abbrev pub attention_entry : List ℕ → ℕ → List Target → List ℕ
+attention_entry words count first =
     codes "<li>" ++ words ++ codes " <b>" ++ decimal count ++ codes "</b>: " ++ links_text first ++ more_text count ++ codes "\n"
 
 -- if anything does
-abbrev pub look_line : List ℕ → ℕ → List Target → List ℕ
-look_line words count first = if count == 0 then [] else look_entry words count first
+abbrev pub attention_line : List ℕ → ℕ → List Target → List ℕ
+attention_line words count first = if count == 0 then [] else attention_entry words count first
 
 -- for each reason
-abbrev pub look_lines : Tally → List ℕ
-look_lines tally =
-    look_line (codes "dropped frames") tally.counts.dropped tally.first.dropped.items
-    ++ look_line (codes "ended early") tally.counts.ended tally.first.ended.items
-    ++ look_line (codes "unfinished") tally.counts.unfinished tally.first.unfinished.items
-    ++ look_line (codes "negative answers") tally.counts.negatives tally.first.negatives.items
-    ++ look_line (codes "without an answer") tally.counts.unanswered tally.first.unanswered.items
-    ++ look_line (codes "strays") tally.counts.strays tally.first.strays.items
+abbrev pub attention_lines : Tally → List ℕ
+attention_lines tally =
+    attention_line (codes "dropped frames") tally.counts.dropped tally.first.dropped.items
+    ++ attention_line (codes "ended early") tally.counts.ended tally.first.ended.items
+    ++ attention_line (codes "unfinished") tally.counts.unfinished tally.first.unfinished.items
+    ++ attention_line (codes "negative answers") tally.counts.negatives tally.first.negatives.items
+    ++ attention_line (codes "without an answer") tally.counts.unanswered tally.first.unanswered.items
+    ++ attention_line (codes "strays") tally.counts.strays tally.first.strays.items
 
--- nothing needs a look
-abbrev pub needs_no_look : SortCounts → Bool
-needs_no_look counts =
+-- nothing needs attention
+abbrev pub needs_no_attention : SortCounts → Bool
+needs_no_attention counts =
     counts.dropped == 0 && (counts.ended == 0 && (counts.unfinished == 0 && (counts.negatives == 0 && (counts.unanswered == 0 && counts.strays == 0))))
 
 -- the list of what does
-abbrev pub look_list : Tally → List ℕ
-look_list tally = codes "<ul class=\"look\">\n" ++ look_lines tally ++ codes "</ul>\n"
+abbrev pub attention_list : Tally → List ℕ
+attention_list tally = codes "<ul class=\"look\">\n" ++ attention_lines tally ++ codes "</ul>\n"
 
 -- where something does
-abbrev pub look_text : Tally → List ℕ
-look_text tally = if needs_no_look tally.counts then [] else look_list tally
+abbrev pub attention_text : Tally → List ℕ
+attention_text tally = if needs_no_attention tally.counts then [] else attention_list tally

@@ -111,7 +111,7 @@ counts_in rows = record {
   unfinished = count_of sort.Unfinished rows;
 }
 
--- of each sort that needs a look
+-- of each sort that needs attention
 abbrev pub first_targets : List RowValue → FirstTargets
 first_targets rows = record {
   dropped = first_of sort.Dropped rows;

@@ -1,11 +1,11 @@
--- The verdict of a report: whether the recording is clean, what needs a look, and all counts. It is known at the end,
+-- The verdict of a report: whether the recording is clean, what needs attention, and all counts. It is known at the end,
 -- and written there; the style shows it first.
 use Rattle.std.specs.Fmt.{decimal}
 use Rattle.std.specs.Prelude.{ℕ, ◌==◌, ◌&&◌, ◌||◌, not, Bool, List, [], ◌++◌, codes, Option, if◌then◌else◌}
 use Rattle.trace_text.specs.Words.{stamp_text}
 use Rattle.trace_report.specs.Causes.{cause_line}
 use Rattle.trace_report.specs.Counts.{counts_text}
-use Rattle.trace_report.specs.Links.{look_text}
+use Rattle.trace_report.specs.Links.{attention_text}
 use Rattle.trace_report.specs.Durations.{seconds_between}
 use Rattle.trace_log.specs.Summing.{is_clean, lacks_line_feed}
 use Rattle.trace_report.specs.declared.cause.RefusalCause.{RefusalCause}
@@ -128,7 +128,7 @@ answers_of counts = answers_text counts.requests counts.negatives counts.unanswe
 -- what was found of a log with this tally, whose first frame and last one have these times
 abbrev pub findings_text : Tally → Summary → ℕ → ℕ → List ℕ
 findings_text tally summary first last =
-    look_text tally ++ counts_text tally.counts summary ++ span_of summary.frames first last ++ codes "</section>\n"
+    attention_text tally ++ counts_text tally.counts summary ++ span_of summary.frames first last ++ codes "</section>\n"
 
 -- the verdict of such a log
 abbrev pub verdict_text : Tally → Summary → ℕ → ℕ → List ℕ

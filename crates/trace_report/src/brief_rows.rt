@@ -12,7 +12,7 @@ use trace_io::TextSink;
 use trace_text::Service;
 use uds_message::sid;
 
-/// Says the row of a message in a block of brief rows: what needs a look has its full row there, too.
+/// Says the row of a message in a block of brief rows: what needs attention has its full row there, too.
 pub(crate) fn say_brief_message<S: TextSink>(
     origin: u64,
     role: MessageRole,
@@ -50,7 +50,7 @@ pub(crate) fn say_brief_message<S: TextSink>(
     }
 }
 
-/// The words of a brief row, of a message that needs no look.
+/// The words of a brief row, of a message that needs no attention.
 #[derive(Clone, Copy)]
 struct BriefWords<'a> {
     role: MessageRole,

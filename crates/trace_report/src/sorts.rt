@@ -6,7 +6,7 @@ ghost use Rattle.trace_report.specs.proving.Pages.{row_of};
 use crate::row::{MessageRole, Row};
 use crate::targets::Target;
 
-/// What needs a look, and what else is counted.
+/// What needs attention, and what else is counted.
 #[derive(Clone, Copy, Debug)]
 pub(crate) enum Sort {
     Requests,

@@ -17,7 +17,7 @@ pub(crate) const MOST_LINKS: u64 = 10;
 /// Where links to rows of a sort lead: to the first [`MOST_LINKS`] of them.
 pub(crate) type Targets = ArrayVec<Target, 10>;
 
-/// Of each sort that needs a look, where links to its first rows lead.
+/// Of each sort that needs attention, where links to its first rows lead.
 #[derive(Debug, Drop)]
 pub(crate) struct FirstTargets {
     pub dropped: Targets,

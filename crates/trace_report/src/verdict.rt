@@ -1,4 +1,4 @@
-//! The verdict of a report: its heading, whether each answer is positive, what needs a look, the counts, and the time
+//! The verdict of a report: its heading, whether each answer is positive, what needs attention, the counts, and the time
 //! that the log spans.
 ghost use Rattle.std.specs.Prelude.{◌≡◌};
 ghost use Rattle.trace_report.specs.Links as Links;
@@ -102,7 +102,7 @@ impl<'a> Part for Findings<'a> {
         say(
             out,
             (
-                Looks(tally),
+                Attention(tally),
                 Counts(&tally.counts, summary),
                 SpanOf {
                     frames: summary.frames,
@@ -115,19 +115,19 @@ impl<'a> Part for Findings<'a> {
     }
 }
 
-/// What needs a look, where something does, by its sort.
+/// What needs attention, where something does, by its sort.
 #[derive(Clone, Copy)]
-struct Looks<'a>(&'a Tally);
+struct Attention<'a>(&'a Tally);
 
-impl<'a> Part for Looks<'a> {
-    ghost use Rattle.trace_report.specs.Links.{look_text};
+impl<'a> Part for Attention<'a> {
+    ghost use Rattle.trace_report.specs.Links.{attention_text};
 
-    ghost text = { λ look. look_text look.0.now };
+    ghost text = { λ attention. attention_text attention.0.now };
 
     fn say<S: TextSink>(self, out: &mut S) {
         let counts = &self.0.counts;
         let first = &self.0.first;
-        if needs_no_look(counts) {
+        if needs_no_attention(counts) {
             return;
         }
         say(
@@ -148,9 +148,9 @@ impl<'a> Part for Looks<'a> {
     }
 }
 
-/// Whether nothing needs a look.
-fn needs_no_look(counts: &SortCounts) -> bool
-    ensures { result ≡ Links.needs_no_look counts.now }
+/// Whether nothing needs attention.
+fn needs_no_attention(counts: &SortCounts) -> bool
+    ensures { result ≡ Links.needs_no_attention counts.now }
 {
     counts.dropped == 0
         && counts.ended == 0

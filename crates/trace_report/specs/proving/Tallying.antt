@@ -27,7 +27,7 @@ counts_with sort.Unfinished counts = record counts { unfinished = one_more count
 abbrev pub kept : ArrayVec Target → Target → ArrayVec Target
 kept first target = record { items = take most_links (first.items ++ target ∷ []) }
 
--- those of each sort that needs a look
+-- those of each sort that needs attention
 abbrev pub first_with : Sort → Target → FirstTargets → FirstTargets
 first_with sort.Dropped target first = record first { dropped = kept first.dropped target }
 first_with sort.Ended target first = record first { ended = kept first.ended target }
