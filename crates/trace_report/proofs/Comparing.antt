@@ -6,7 +6,7 @@ use Rattle.std.proofs.lemmas.Option.{none-some, same_Some, slice_get_within, sli
 use Rattle.trace_canon.specs.declared.comparing.Comparison.{Comparison}
 use Rattle.trace_canon.specs.declared.comparing.Comparison.TheVariants.{Same, Different}
 use Rattle.trace_report.specs.Contrast.{FirstContrast, contrast_of, first_by, first_contrast, later_by_one}
-use Rattle.trace_report.specs.Held.{comparison_by}
+use Rattle.trace_report.specs.Kept.{comparison_by}
 use Rattle.trace_report.specs.Items.{ItemPair, PlacedItem, pairs_of}
 use Rattle.trace_report.specs.declared.contrast.Contrast.{Contrast}
 use Rattle.trace_report.specs.proving.Lending.{contrast_at, contrast_with, pair_by}

@@ -10,7 +10,7 @@ use Rattle.uds_exchange.specs.Difference.{IsFirstDifference}
 use Rattle.uds_exchange.specs.Meaning.{ItemValue, exchange, stray}
 use Rattle.trace_report.specs.Roles.{is_request_role}
 use Rattle.trace_report.specs.Contrast.{FirstContrast, contrast_by, contrast_of, contrast_of_answers, contrast_of_kinds, first_by, first_contrast, first_place, is_same_side, place_behind}
-use Rattle.trace_report.specs.Held.{comparison_by}
+use Rattle.trace_report.specs.Kept.{comparison_by}
 use Rattle.trace_report.specs.Items.{RowMessage, PlacedItem, both, item_value, pairs_of}
 use Rattle.trace_report.specs.Laws.{ComparisonIsOfItems}
 use Rattle.trace_report.specs.declared.contrast.Contrast.{Contrast}

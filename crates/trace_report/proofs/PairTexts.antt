@@ -6,7 +6,7 @@ use Rattle.trace_report.specs.Blocks.{block_end}
 use Rattle.trace_report.specs.ItemRows.{pair_rows}
 use Rattle.trace_report.specs.Items.{ItemPair}
 use Rattle.trace_report.specs.PairPage.{items_after, later_items}
-use Rattle.trace_report.specs.Held.{TwoValue}
+use Rattle.trace_report.specs.Kept.{TwoValue}
 use Rattle.trace_report.specs.proving.Rowing.{placed_if, row_if}
 use Rattle.trace_report.proofs.Comparing.{left-at, none-left}
 

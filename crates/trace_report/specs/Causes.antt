@@ -5,7 +5,7 @@ use Rattle.std.specs.Fmt.{decimal}
 use Rattle.trace_log.specs.declared.config.TheConstants.{LARGEST_LIMIT}
 use Rattle.trace_log.specs.declared.fault.Fault.{Fault}
 use Rattle.trace_log.specs.declared.fault.Fault.TheVariants.{BadLine, Oversize, LogLimit, OutputLimit, Read, Write, Memory}
-use Rattle.trace_report.specs.Looks.{lacks_stamp, look_of, row_of}
+use Rattle.trace_report.specs.Looks.{lacks_stamp, look_of, look_row}
 use Rattle.trace_report.specs.declared.cause.RefusalCause.{RefusalCause}
 use Rattle.trace_report.specs.declared.cause.RefusalCause.TheVariants as cause
 use Rattle.trace_report.specs.declared.cause.CauseRow.{CauseRow}
@@ -57,7 +57,7 @@ row_value row = record {
 -- the table of causes
 abbrev pub row_of_cause : RefusalCause → CauseRowValue
 row_of_cause (cause.Looks look) =
-    record { before = []; number = None; between = []; is_named = true; words = (row_of look).words; command = (row_of look).command }
+    record { before = []; number = None; between = []; is_named = true; words = (look_row look).words; command = (look_row look).command }
 row_of_cause cause.Cut = record {
   before = codes "the last line of ";
   number = None;

@@ -29,7 +29,7 @@ abbrev pub name_text : List ℕ → List ℕ
 name_text name = flat_map name_byte name
 
 -- What a page is made for: its style, the name of the log, the identifiers, and the limit of the log.
-pub record PageTitle : Type 0 where
+pub record PageTitleValue : Type 0 where
   pub style : List ℕ
   pub name : List ℕ
   pub tester : Id
@@ -37,7 +37,7 @@ pub record PageTitle : Type 0 where
   pub most : ℕ
 
 -- of a log with this name and this configuration
-abbrev pub page_title : List ℕ → List ℕ → Settings → PageTitle
+abbrev pub page_title : List ℕ → List ℕ → Settings → PageTitleValue
 page_title style name settings = record { style = style; name = name; tester = settings.tester; unit = settings.unit; most = settings.max_bytes }
 
 -- nothing may be fetched and nothing may run
@@ -49,7 +49,7 @@ page_start =
     ++ codes "<meta http-equiv=\"Content-Security-Policy\" content=\"default-src 'none'; style-src 'unsafe-inline'; base-uri 'none'; form-action 'none'\">\n"
 
 -- the head of the page
-abbrev pub head_text : PageTitle → List ℕ
+abbrev pub head_text : PageTitleValue → List ℕ
 head_text title =
     page_start ++ codes "<title>" ++ name_text title.name ++ codes " - udsnorm report</title>\n<style>\n" ++ title.style
     ++ codes "</style>\n</head>\n<body>\n"
@@ -86,7 +86,7 @@ identifiers_text tester unit =
     ++ identifier_text unit ++ codes "</span></p>\n"
 
 -- what the page is about, above all else
-abbrev pub header_text : PageTitle → List ℕ
+abbrev pub header_text : PageTitleValue → List ℕ
 header_text title =
     codes "<div class=\"page\">\n<header>\n<p class=\"brand\">udsnorm report</p>\n<h1>" ++ name_text title.name ++ codes "</h1>\n"
     ++ identifiers_text title.tester title.unit ++ notice_text
@@ -98,5 +98,5 @@ session_start =
     ++ codes "<p class=\"filter\"><input type=\"checkbox\" id=\"only\"> <label for=\"only\">Show only what needs a look</label></p>\n"
 
 -- the front of a page
-abbrev pub front_text : PageTitle → List ℕ
+abbrev pub front_text : PageTitleValue → List ℕ
 front_text title = head_text title ++ shapes_text ++ header_text title ++ session_start

@@ -1,7 +1,7 @@
 -- What holds of a page, whatever log it is of.
 use Prim.Native.Char.{code}
 use Rattle.std.specs.Prelude.{◌≡◌, ◌≢◌, ◌↔◌, ℕ, ◌==◌, ◌<◌, ◌^◌, ◌&&◌, not, ◌||◌, Bool, true, ⊤, List, [], ◌∷◌, codes, drop, false, length, map, nat_le, ◌++◌, Option, Some, None, Ok}
-use Rattle.std.specs.List.{AllByRecursion, find, list_any, starts_with}
+use Rattle.std.specs.List.{AllByRecursion, find, list_any}
 use Rattle.can_log.specs.declared.frame.Stamped.{Stamped}
 use Rattle.direction.specs.declared.Dir.{Dir}
 use Rattle.isotp_receive.specs.declared.TheConstants.{MESSAGE_LIMIT}
@@ -21,9 +21,10 @@ use Rattle.trace_report.specs.Difference.{begins_number, rows_around}
 use Rattle.trace_report.specs.Events.{asked_in, completes_request, rows_of}
 use Rattle.trace_report.specs.Roles.{role_of_step}
 use Rattle.trace_report.specs.Front.{name_text}
-use Rattle.trace_report.specs.Held.{HoldsTwo, TwoValue, comparison_by, comparison_in}
+use Rattle.trace_report.specs.Kept.{KeepsTwo, TwoValue, comparison_by, comparison_in}
 use Rattle.trace_report.specs.Items.{RowMessage, PlacedItem, item_value, items_in, pairs_of}
 use Rattle.trace_report.specs.Linked.{HasEachTarget, identifiers_in}
+use Rattle.trace_report.specs.Looks.{begins}
 use Rattle.trace_report.specs.Page.{all_rows}
 use Rattle.trace_report.specs.Rows.{RowValue}
 use Rattle.trace_report.specs.Roles.{asked_at}
@@ -42,15 +43,11 @@ abbrev pub is_harmless : ℕ → Bool
 is_harmless b =
     nat_le (code " ") b && (nat_le b (code "~") && (not (b == code "<") && (not (b == code ">") && (not (b == code "\"") && not (b == code "'")))))
 
--- the text has this front
-abbrev begins_with : List ℕ → List ℕ → Bool
-begins_with front text = starts_with (λ one other. one == other) text front
-
 -- the rest of the name that HTML has for one of the five signs, behind its &
 abbrev pub begins_sign : List ℕ → Bool
 begins_sign text =
-    begins_with (codes "amp;") text || begins_with (codes "lt;") text || begins_with (codes "gt;") text
-    || begins_with (codes "quot;") text || begins_with (codes "#39;") text
+    begins text (codes "amp;") || begins text (codes "lt;") || begins text (codes "gt;")
+    || begins text (codes "quot;") || begins text (codes "#39;")
 
 -- each & begins such a name
 abbrev pub is_escaped : List ℕ → Bool
@@ -101,7 +98,7 @@ ItemsAreTheMeaning = (T : List Entry) → map item_value (items_in (all_rows MES
 -- so what a page says of two logs is what `compare` answers, where that accepts both
 abbrev pub AgreesWithCompare : Type 0
 AgreesWithCompare = (settings : Settings) (one other : List ℕ) (held : TwoValue) (compared : Compared)
-    → HoldsTwo MESSAGE_LIMIT settings one other (Ok held) → Compares MESSAGE_LIMIT settings one other (Ok compared)
+    → KeepsTwo MESSAGE_LIMIT settings one other (Ok held) → Compares MESSAGE_LIMIT settings one other (Ok compared)
     → comparison_in held ≡ compared.comparison
 
 -- the rows around an item, which that page shows of each log, are where it is: the row that begins it is among them, if

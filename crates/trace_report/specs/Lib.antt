@@ -27,7 +27,7 @@ pub mod Marks
 pub mod ItemRows
 pub mod Difference
 pub mod Session
-pub mod Held
+pub mod Kept
 pub mod PairPage
 pub mod InMemory
 pub mod Numbers

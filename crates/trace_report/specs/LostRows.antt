@@ -3,6 +3,7 @@ use Rattle.std.specs.Prelude.{ℕ, Bool, List, [], ◌++◌, codes, if◌then◌
 use Rattle.std.specs.Fmt.{decimal}
 use Rattle.direction.specs.declared.Dir.{Dir}
 use Rattle.isotp_pdu.specs.declared.PduFault.{PduFault}
+use Rattle.isotp_receive.specs.declared.TheConstants.{MESSAGE_LIMIT}
 use Rattle.isotp_receive.specs.declared.event.Cause.{Cause}
 use Rattle.isotp_receive.specs.declared.event.Ended.{Ended}
 use Rattle.isotp_receive.specs.declared.event.Reason.{Reason}
@@ -67,7 +68,7 @@ reason_words reason.NextUnexpected = codes " <i>no message was under way that it
 reason_words reason.NextLate = []
 reason_words (reason.NextSequence expected found) = []
 reason_words reason.NextLength = []
-reason_words (reason.TooLong announced) = codes " <i>more than the limit of 1048575</i>"
+reason_words (reason.TooLong announced) = codes " <i>more than the limit of " ++ decimal MESSAGE_LIMIT ++ codes "</i>"
 
 -- why a reception ended, for the same reader
 abbrev pub cause_words : Cause → List ℕ

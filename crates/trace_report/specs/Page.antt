@@ -10,7 +10,7 @@ use Rattle.trace_report.specs.Blocks.{block_end, blocks_of}
 use Rattle.trace_report.specs.Chart.{rows_text}
 use Rattle.trace_report.specs.Causes.{cause_of}
 use Rattle.trace_report.specs.Events.{frame_rows, end_rows, rows_of}
-use Rattle.trace_report.specs.Front.{PageTitle, front_text}
+use Rattle.trace_report.specs.Front.{PageTitleValue, front_text}
 use Rattle.trace_report.specs.Help.{help_text}
 use Rattle.trace_report.specs.Rows.{RowValue}
 use Rattle.trace_report.specs.Sorts.{tally_of}
@@ -29,7 +29,7 @@ last_time earlier [] = earlier
 last_time earlier (e ∷ rest) = last_time e.micros rest
 
 -- the front of a page stands before its first frame
-abbrev pub front_before : PageTitle → List Entry → List ℕ
+abbrev pub front_before : PageTitleValue → List Entry → List ℕ
 front_before title [] = front_text title
 front_before title (e ∷ rest) = []
 
@@ -38,7 +38,7 @@ abbrev pub rows_after : ℕ → ℕ → List Entry → List RowValue → List �
 rows_after limit origin T rows = rows_text origin (blocks_of (rows_of limit T)) rows
 
 -- of each frame
-abbrev pub frame_text : PageTitle → ℕ → List Entry → Entry → List ℕ
+abbrev pub frame_text : PageTitleValue → ℕ → List Entry → Entry → List ℕ
 frame_text title limit T e = front_before title T ++ rows_after limit (first_time (T ++ e ∷ [])) T (frame_rows limit T e)
 
 -- all rows of a log that was read to its end
@@ -59,18 +59,18 @@ abbrev pub page_end_behind : List RowValue → List Entry → Summary → List �
 page_end_behind rows T summary = page_end (blocks_of rows) (tally_of rows) summary (first_time T) (last_time 0 T)
 
 -- what is told at the end of a log
-abbrev pub last_text : PageTitle → ℕ → List Entry → Summary → List ℕ
+abbrev pub last_text : PageTitleValue → ℕ → List Entry → Summary → List ℕ
 last_text title limit T summary =
     front_before title T ++ rows_after limit (first_time T) T (end_rows limit T) ++ page_end_behind (all_rows limit T) T summary
 
 -- what is told where a log is refused for this reason, behind the frames T, with its cause by what is seen of the
 -- source. What is open there is neither unfinished nor without an answer: so no row is told of it.
-abbrev pub refused_text : PageTitle → ℕ → GlimpseValue → RefusalText
+abbrev pub refused_text : PageTitleValue → ℕ → GlimpseValue → RefusalText
 refused_text title limit source T summary why =
     front_before title T ++ refused_end why (cause_of why title.most source) (blocks_of (rows_of limit T)) (tally_of (rows_of limit T)) summary (first_time T) (last_time 0 T)
 
 -- the script of a report
-abbrev pub report_script : PageTitle → ℕ → Script
+abbrev pub report_script : PageTitleValue → ℕ → Script
 report_script title limit = record { strict = false; word = frame_text title limit; last = last_text title limit }
 
 -- nothing is seen of a source

@@ -14,7 +14,7 @@ use Rattle.trace_report.specs.Contrast.{FirstContrast, contrast_words, first_con
 use Rattle.trace_report.specs.Counts.{counts_text}
 use Rattle.trace_report.specs.Difference.{contrast_chart}
 use Rattle.trace_report.specs.Front.{identifiers_text, name_text, notice_with, page_start, shapes_text}
-use Rattle.trace_report.specs.Held.{TwoValue, pairs_in}
+use Rattle.trace_report.specs.Kept.{TwoValue, pairs_in}
 use Rattle.trace_report.specs.Help.{pair_help_text}
 use Rattle.trace_report.specs.ItemRows.{pair_rows}
 use Rattle.trace_report.specs.Items.{ItemPair}

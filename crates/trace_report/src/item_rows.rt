@@ -1,7 +1,7 @@
 //! The rows of a page of two sessions that tell items, one for each number.
 ghost use Rattle.std.specs.Prelude.{◌≡◌, ◌+◌, ◌-◌, Some, drop, option_map, take};
 ghost use Rattle.trace_report.specs.Roles.{is_request_role as begins_exchange};
-ghost use Rattle.trace_report.specs.Held.{pairs_in};
+ghost use Rattle.trace_report.specs.Kept.{pairs_in};
 ghost use Rattle.trace_report.specs.Items.{both, only_left, only_right};
 ghost use Rattle.trace_report.specs.ItemRows.{different_row, item_note, item_side, item_sides, next_table, no_answer_text, no_item, note_of, open_mark, pair_row, pair_rows, row_opening, same_row, table_opening, told_answer, told_item, told_message, told_reply, told_reply_if};
 ghost use Rattle.trace_report.specs.ItemRows as Spec;

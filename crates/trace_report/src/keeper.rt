@@ -7,7 +7,7 @@ ghost use Rattle.trace_canon.specs.Compared.{fault_in};
 ghost use Rattle.trace_log.specs.declared.fault.Fault.{Fault as FaultValue};
 ghost use Rattle.trace_log.specs.Devices.{AgreesWith, bytes_given, ReadFrom, HasLowCounts};
 ghost use Rattle.trace_log.specs.Refusal.{HasNoBadPlaceWithin};
-ghost use Rattle.trace_report.specs.Held.{HoldsOne, HasOwnFrame, HoldsTwo};
+ghost use Rattle.trace_report.specs.Kept.{KeepsOne, HasOwnFrame, KeepsTwo};
 ghost use Rattle.trace_report.specs.proving.Following.{row_if, rows_in};
 ghost use Rattle.trace_report.specs.Session.{session_of};
 ghost use Rattle.trace_report.specs.proving.Heard.{IsHeardOf};
@@ -39,7 +39,7 @@ pub fn keep_two<A: Source, B: Source>(
     // What is answered, for all logs with which the bytes that were read agree.
     ensures answer { (one other : List ℕ)
         → AgreesWith A.Source left.old left.new one → AgreesWith B.Source right.old right.new other
-        → HoldsTwo MESSAGE_LIMIT config.now one other result }
+        → KeepsTwo MESSAGE_LIMIT config.now one other result }
 
     // After a fault of the first log nothing of the second was read.
     ensures unread { (fault : FaultValue) → result ≡ Err (CompareFault.Left fault) → right.new ≡ right.old }
@@ -76,7 +76,7 @@ pub fn keep_two<A: Source, B: Source>(
 /// Reads a log, and answers what it says.
 fn keep<R: Source>(alloc: Global, config: &Config, reader: &mut R) -> Result<Session, Fault>
     requires reader { HasLowCounts R.Source reader.old }
-    ensures answer { (log : List ℕ) → AgreesWith R.Source reader.old reader.new log → HoldsOne MESSAGE_LIMIT config.now log result }
+    ensures answer { (log : List ℕ) → AgreesWith R.Source reader.old reader.new log → KeepsOne MESSAGE_LIMIT config.now log result }
     ensures near { (log : List ℕ) → AgreesWith R.Source reader.old reader.new log
         → ReadsWhile (HasNoBadPlaceWithin log) (bytes_given R.Source reader.old reader.new) (R.failures reader.old) (R.failures reader.new) }
     ensures memory { (log : List ℕ) → AgreesWith R.Source reader.old reader.new log → result ≡ Err Fault.Memory → HasOwnFrame config.now log }

@@ -2,7 +2,7 @@
 
 ghost use Rattle.std.specs.Prelude.{◌≡◌, ◌++◌, ℕ, List, Some, map};
 ghost use Rattle.std.specs.List.{list_any};
-ghost use Rattle.trace_report.specs.Looks.{begins, has_at, has_more_decimals, is_dated, is_table, is_told, lacks_stamp, look_of, look_told, row_of, signs, text_look};
+ghost use Rattle.trace_report.specs.Looks.{begins, has_at, has_more_decimals, is_dated, is_table, is_told, lacks_stamp, look_of, look_told, look_row, signs, text_look};
 
 /// What a log looks like that is refused in its first line, or by the bytes that it begins with.
 #[derive(Clone, Copy)]
@@ -116,7 +116,7 @@ pub fn look_told(first: &[u8]) -> Option<Look>
 fn is_told(look: Look, first: &[u8]) -> bool
     ensures { result ≡ is_told first.now look }
 {
-    begins_with_one(first, row_of(look).first)
+    begins_with_one(first, look_row(look).first)
 }
 
 /// Whether bytes begin with one of these.
@@ -127,10 +127,10 @@ fn begins_with_one(bytes: &[u8], fronts: &[&[u8]]) -> bool
 }
 
 /// The table of looks.
-pub(crate) fn row_of(look: Look) -> LookRow
-    ensures first { map (λ first. first.now) result.first.now ≡ (row_of look).first }
-    ensures words { result.words.now ≡ (row_of look).words }
-    ensures command { result.command.now ≡ (row_of look).command }
+pub(crate) fn look_row(look: Look) -> LookRow
+    ensures first { map (λ first. first.now) result.first.now ≡ (look_row look).first }
+    ensures words { result.words.now ≡ (look_row look).words }
+    ensures command { result.command.now ≡ (look_row look).command }
 {
     let (first, words, command): (&[&[u8]], &str, &str) = match look {
         Look::Gzip => (

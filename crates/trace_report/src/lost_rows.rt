@@ -6,7 +6,7 @@ use crate::row::Arrow;
 use crate::durations::Seconds;
 use direction::Dir;
 use isotp_pdu::PduFault;
-use isotp_receive::{Cause, Ended, Reason};
+use isotp_receive::{Cause, Ended, MESSAGE_LIMIT, Reason};
 use text_parts::{Part, When, say};
 use trace_canon::reception_starts::FramePlace;
 use trace_io::TextSink;
@@ -134,7 +134,14 @@ impl Part for WhyDroppedInWords {
                 " <i>no message was under way that it goes on with</i>",
             ),
             Reason::NextLate | Reason::NextSequence { .. } | Reason::NextLength => {}
-            Reason::TooLong { .. } => say(out, " <i>more than the limit of 1048575</i>"),
+            Reason::TooLong { .. } => say(
+                out,
+                (
+                    " <i>more than the limit of ",
+                    Length(MESSAGE_LIMIT),
+                    "</i>",
+                ),
+            ),
         }
     }
 }

@@ -15,7 +15,7 @@ use crate::blocks::BlockEnd;
 use crate::cause::{RefusalCause, cause_of};
 use crate::chart::Chart;
 use crate::follower::Follower;
-use crate::front::{Front, Title};
+use crate::front::{Front, PageTitle};
 use crate::help::Help;
 use crate::refusal::StopLine;
 use crate::times::Times;
@@ -50,7 +50,7 @@ pub fn report<R: Source, W: Target>(
         config.now reader.old writer.old result reader.new writer.new }
 {
     let machine = Reporter {
-        title: Title {
+        title: PageTitle {
             style,
             name,
             tester: config.tester(),
@@ -67,7 +67,7 @@ pub fn report<R: Source, W: Target>(
 /// Says a page. It keeps no message, and no row.
 #[derive(Drop)]
 pub(crate) struct Reporter<'a> {
-    pub title: Title<'a>,
+    pub title: PageTitle<'a>,
     /// Of the frames so far, if there are any.
     pub times: Option<Times>,
     pub follower: Follower,
@@ -160,7 +160,7 @@ impl<'a> Machine for Reporter<'a> {
 
 /// Says the front of the page, where no frame came before. Answers the time of the first frame, which is this where none did.
 fn say_front_before<S: TextSink>(
-    title: &Title<'_>,
+    title: &PageTitle<'_>,
     times: Option<Times>,
     micros: u64,
     out: &mut S,

@@ -1,7 +1,7 @@
 //! Two sessions that are kept, and how they compare.
 ghost use Rattle.std.specs.Prelude.{◌≡◌, ◌<◌, ◌^◌, IfSome, Some, length, option_map, slice_get};
 ghost use Rattle.trace_report.specs.Contrast.{first_contrast};
-ghost use Rattle.trace_report.specs.Held.{comparison_by, comparison_in, pairs_in};
+ghost use Rattle.trace_report.specs.Kept.{comparison_by, comparison_in, pairs_in};
 ghost use Rattle.trace_report.specs.Items.{items_in, pairs_of};
 ghost use Rattle.trace_report.specs.proving.Lending.{contrast_at, contrast_found, pair_of};
 ghost use Rattle.trace_report.specs.proving.Rowing.{IsKnown};
@@ -23,7 +23,7 @@ pub struct Two {
 
 impl Model for Two {
     ghost use Rattle.std.specs.Prelude.{◌≡◌};
-    ghost use Rattle.trace_report.specs.Held.{TwoValue, comparison_in};
+    ghost use Rattle.trace_report.specs.Kept.{TwoValue, comparison_in};
 
     ghost Value = { TwoValue };
 

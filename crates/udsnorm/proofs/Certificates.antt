@@ -17,7 +17,7 @@ use Rattle.trace_log.specs.declared.summary.Summary.{Summary}
 use Rattle.trace_log.proofs.Promises.{clean_log_is_recording, clean_summary_is_certificate, summary_certifies}
 use Rattle.trace_run.specs.Script.{GlimpseValue, RefusalText, Script, answers_counts, tells_no_refusal}
 use Rattle.trace_run.specs.Told.{AnswersTold, IsReadToEnd}
-use Rattle.trace_report.specs.Held as Holds
+use Rattle.trace_report.specs.Kept as Keeps
 use Rattle.trace_report.specs.Session.{SessionValue}
 use Rattle.udsnorm.specs.Commands.{Engine, normalises, writes, finds, runs, runs_in_style, EngineAnswers, PairEngineAnswers, answers_of, engine_of}
 use Rattle.udsnorm.specs.Ending.{status_of_run_of_two}
@@ -89,7 +89,7 @@ is_certified settings log session gives clean =
     clean_log_is_recording MESSAGE_LIMIT settings log session.summary (of_accepted settings log gives.accepted session.summary gives.outcome gives.counted) clean
 
 -- a log that is held is clean
-of_held : (settings : Settings) (log : List ℕ) (session : SessionValue) → Holds.HoldsOne MESSAGE_LIMIT settings log (Ok session) → is_clean session.summary ≡ true → IsCertified MESSAGE_LIMIT settings log
+of_held : (settings : Settings) (log : List ℕ) (session : SessionValue) → Keeps.KeepsOne MESSAGE_LIMIT settings log (Ok session) → is_clean session.summary ≡ true → IsCertified MESSAGE_LIMIT settings log
 of_held settings log session (meanings, read, is) = of_told settings log meanings session.summary read.1 (ap (λ (s : SessionValue). Ok s.summary) is)
 
 -- what is certified of two logs by the answer of a job over them

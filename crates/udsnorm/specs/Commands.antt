@@ -37,7 +37,7 @@ use Rattle.trace_io.specs.declared.device.Source.{Ghosts as SourceGhosts}
 use Rattle.trace_io.specs.declared.device.Target.{Ghosts as TargetGhosts}
 use Rattle.trace_difference.specs.Written.{difference_text}
 use Rattle.trace_report.specs.Front.{page_title}
-use Rattle.trace_report.specs.Held.{HasOwnFrame, HoldsTwo, TwoValue, comparison_in}
+use Rattle.trace_report.specs.Kept.{HasOwnFrame, KeepsTwo, TwoValue, comparison_in}
 use Rattle.trace_report.specs.Page.{refused_text, report_script}
 use Rattle.trace_report.specs.PairPage.{cause_of_pair, held_page, pair_page, pair_title}
 use Rattle.udsnorm.specs.Ending.{has_unclean}
@@ -292,10 +292,10 @@ pair_held held = record { comparison = comparison_in held; left = held.left.summ
 -- both sources
 abbrev pub PagesPair : List ℕ → List ℕ → GlimpseValue → GlimpseValue → Bool → ℕ → Settings → List ℕ → List ℕ → Result PairAnswer CompareFault → List ℕ → Type 0
 PagesPair left_name right_name left_seen right_seen strict limit settings one other (Ok pair) text =
-    (style : List ℕ) × (held : TwoValue) × HoldsTwo limit settings one other (Ok held) × (pair ≡ pair_held held)
+    (style : List ℕ) × (held : TwoValue) × KeepsTwo limit settings one other (Ok held) × (pair ≡ pair_held held)
     × (text ≡ held_page (pair_title style left_name right_name settings) held)
 PagesPair left_name right_name left_seen right_seen strict limit settings one other (Err fault) text =
-    (style : List ℕ) × HoldsTwo limit settings one other (Err fault)
+    (style : List ℕ) × KeepsTwo limit settings one other (Err fault)
     × (text ≡ pair_page (pair_title style left_name right_name settings) (Err fault) (cause_of_pair fault settings.max_bytes left_seen right_seen))
 
 -- the job has a text of this answer: a comparison of logs of which each is clean that has to be; a page of all logs but

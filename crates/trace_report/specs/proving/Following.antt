@@ -15,7 +15,7 @@ use Rattle.trace_canon.specs.declared.reception_starts.FramePlace.{FramePlace}
 use Rattle.trace_canon.specs.proving.ReceptionStarts.{IsBegunAt}
 use Rattle.trace_report.specs.Blocks.{blocks_of}
 use Rattle.trace_report.specs.Events.{asked_in, is_request_step, ends_nothing, rows_of}
-use Rattle.trace_report.specs.Front.{PageTitle}
+use Rattle.trace_report.specs.Front.{PageTitleValue}
 use Rattle.trace_report.specs.Page.{last_time}
 use Rattle.trace_report.specs.Rows.{RowValue}
 use Rattle.trace_report.specs.Rows as row
@@ -125,7 +125,7 @@ times_of [] = None
 times_of (e ∷ rest) = Some (record { first = e.micros; last = last_time e.micros rest })
 
 -- the page is said up to the rows of the frames T
-pub record Reports (title : PageTitle) (T : List Entry) (reporter : Reporter) : Type 0 where
+pub record Reports (title : PageTitleValue) (T : List Entry) (reporter : Reporter) : Type 0 where
   pub few : length T ≤ 2 ^ 62
   pub same : title_of reporter.title ≡ title
   pub times : reporter.times ≡ times_of T

@@ -2,7 +2,7 @@
 use Rattle.std.specs.Prelude.{⊤, ℕ, Bool, List, [], Option, None, Result, Ok, Err}
 use Rattle.trace_canon.specs.declared.comparing.Compared.{Compared}
 use Rattle.trace_log.specs.declared.fault.CompareFault.{CompareFault}
-use Rattle.trace_report.specs.Held.{TwoValue}
+use Rattle.trace_report.specs.Kept.{TwoValue}
 use Rattle.trace_report.specs.PairPage.{cause_of_pair}
 use Rattle.trace_report.specs.declared.cause.RefusalCause.{RefusalCause}
 use Rattle.trace_run.specs.Script.{GlimpseValue}

@@ -1,4 +1,4 @@
--- What is answered of two logs that are held: what each of them says, or why one of them can't be read.
+-- What is answered of two logs that are kept: what each of them says, or why one of them can't be read.
 use Rattle.std.specs.Prelude.{◌≡◌, ℕ, ⊤, false, List, Option, Some, None, Result, Ok, Err}
 use Rattle.can_log.specs.declared.frame.Stamped.{Stamped}
 use Rattle.trace_log.specs.Needing.{HasFrame}
@@ -22,19 +22,19 @@ pub record TwoValue : Type 0 where
 
 -- What is answered of a log: what it says, where it can be read to its end, and else why it can't. No length that is
 -- announced and no canonical log refuses it.
-abbrev pub HoldsOne : ℕ → Settings → List ℕ → Result SessionValue Fault → Type 0
-HoldsOne limit settings log (Ok session) =
+abbrev pub KeepsOne : ℕ → Settings → List ℕ → Result SessionValue Fault → Type 0
+KeepsOne limit settings log (Ok session) =
     (meanings : List (Option Stamped)) × IsReadToEnd false limit settings log meanings
     × (session ≡ session_of limit (trace settings meanings) (summary_of limit settings log meanings))
-HoldsOne limit settings log (Err fault) = IsUnreadFor false limit settings log fault
+KeepsOne limit settings log (Err fault) = IsUnreadFor false limit settings log fault
 
 -- What is answered of two logs: what both say; else why the first can't be read; or why the second can't, where the
 -- first can.
-abbrev pub HoldsTwo : ℕ → Settings → List ℕ → List ℕ → Result TwoValue CompareFault → Type 0
-HoldsTwo limit settings one other (Ok held) = HoldsOne limit settings one (Ok held.left) × HoldsOne limit settings other (Ok held.right)
-HoldsTwo limit settings one other (Err (Left fault)) = HoldsOne limit settings one (Err fault)
-HoldsTwo limit settings one other (Err (Right fault)) =
-    ((session : SessionValue) × HoldsOne limit settings one (Ok session)) × HoldsOne limit settings other (Err fault)
+abbrev pub KeepsTwo : ℕ → Settings → List ℕ → List ℕ → Result TwoValue CompareFault → Type 0
+KeepsTwo limit settings one other (Ok two) = KeepsOne limit settings one (Ok two.left) × KeepsOne limit settings other (Ok two.right)
+KeepsTwo limit settings one other (Err (Left fault)) = KeepsOne limit settings one (Err fault)
+KeepsTwo limit settings one other (Err (Right fault)) =
+    ((session : SessionValue) × KeepsOne limit settings one (Ok session)) × KeepsOne limit settings other (Err fault)
 
 -- the log has a frame of one of the two sides
 abbrev pub HasOwnFrame : Settings → List ℕ → Type 0
@@ -42,7 +42,7 @@ HasOwnFrame = HasFrame (λ T e. ⊤)
 
 -- the items of both, number by number
 abbrev pub pairs_in : TwoValue → List ItemPair
-pairs_in held = pairs_of (items_in held.left.rows) (items_in held.right.rows)
+pairs_in two = pairs_of (items_in two.left.rows) (items_in two.right.rows)
 
 -- the place of a first difference
 abbrev pub comparison_by : Option FirstContrast → Comparison
@@ -51,4 +51,4 @@ comparison_by (Some first) = Different first.before
 
 -- what they are to each other
 abbrev pub comparison_in : TwoValue → Comparison
-comparison_in held = comparison_by (first_contrast (pairs_in held))
+comparison_in two = comparison_by (first_contrast (pairs_in two))
