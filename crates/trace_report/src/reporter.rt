@@ -11,7 +11,7 @@ ghost use Rattle.trace_report.specs.proving.Following.{times_of};
 ghost use Rattle.trace_report.specs.proving.Pages.{title_of};
 ghost use Rattle.trace_log.specs.Devices.{HasLowCounts};
 
-use crate::blocks::BlockEnd;
+use crate::blocks::{BlockEnd, Blocks};
 use crate::cause::{RefusalCause, cause_of};
 use crate::chart::Chart;
 use crate::follower::Follower;
@@ -19,7 +19,7 @@ use crate::front::{Front, PageTitle};
 use crate::help::Help;
 use crate::refusal::StopLine;
 use crate::times::Times;
-use crate::verdict::{RefusedVerdict, VerdictSection};
+use crate::verdict::{Findings, RefusedVerdict, VerdictSection};
 use isotp_receive::Pair;
 use std::alloc::{AllocError, Global};
 use text_parts::{Part, say};
@@ -125,9 +125,12 @@ impl<'a> Machine for Reporter<'a> {
         let origin = say_front_before(&title, times, 0, out);
         chart.say_rows(origin, follower.end(pair), out);
         let closing = PageEnd {
-            chart: &chart,
-            summary,
-            times,
+            blocks: chart.blocks,
+            found: Findings {
+                tally: &chart.tally,
+                summary,
+                times,
+            },
         };
         say(out, closing);
         Ok(*summary)
@@ -150,9 +153,12 @@ impl<'a> Machine for Reporter<'a> {
         let closing = RefusedEnd {
             why,
             cause: cause_of(why, title.most, glimpse),
-            chart: &chart,
-            summary,
-            times,
+            blocks: chart.blocks,
+            found: Findings {
+                tally: &chart.tally,
+                summary,
+                times,
+            },
         };
         say(out, closing);
     }
@@ -178,66 +184,57 @@ fn say_front_before<S: TextSink>(
     }
 }
 
-/// What stands behind all rows.
+/// What stands behind all rows, which left these blocks.
 #[derive(Clone, Copy)]
 struct PageEnd<'a> {
-    chart: &'a Chart,
-    summary: &'a Summary,
-    times: Option<Times>,
+    blocks: Blocks,
+    found: Findings<'a>,
 }
 
 impl<'a> Part for PageEnd<'a> {
     ghost use Rattle.trace_report.specs.Page.{page_end};
     ghost use Rattle.trace_report.specs.proving.Lending.{first_of_times, last_of_times};
 
-    ghost text = { λ end. page_end end.chart.now.blocks end.chart.now.tally end.summary.now (first_of_times end.times) (last_of_times end.times) };
+    ghost text = { λ end. page_end end.blocks end.found.tally.now end.found.summary.now (first_of_times end.found.times) (last_of_times end.found.times) };
 
     fn say<S: TextSink>(self, out: &mut S) {
-        let verdict = VerdictSection {
-            tally: &self.chart.tally,
-            summary: self.summary,
-            times: self.times,
-        };
         say(
             out,
             (
-                BlockEnd(self.chart.blocks.count),
+                BlockEnd(self.blocks.count),
                 "</main>\n",
-                verdict,
+                VerdictSection(self.found),
                 Help,
             ),
         );
     }
 }
 
-/// The same of the page of a log that is refused.
+/// What stands behind all rows of a log that is refused.
 #[derive(Clone, Copy)]
 struct RefusedEnd<'a> {
     why: Fault,
     cause: Option<RefusalCause>,
-    chart: &'a Chart,
-    summary: &'a Summary,
-    times: Option<Times>,
+    blocks: Blocks,
+    found: Findings<'a>,
 }
 
 impl<'a> Part for RefusedEnd<'a> {
     ghost use Rattle.trace_report.specs.Page.{refused_end};
     ghost use Rattle.trace_report.specs.proving.Lending.{first_of_times, last_of_times};
 
-    ghost text = { λ end. refused_end end.why end.cause end.chart.now.blocks end.chart.now.tally end.summary.now (first_of_times end.times) (last_of_times end.times) };
+    ghost text = { λ end. refused_end end.why end.cause end.blocks end.found.tally.now end.found.summary.now (first_of_times end.found.times) (last_of_times end.found.times) };
 
     fn say<S: TextSink>(self, out: &mut S) {
         let verdict = RefusedVerdict {
             why: self.why,
             cause: self.cause,
-            tally: &self.chart.tally,
-            summary: self.summary,
-            times: self.times,
+            found: self.found,
         };
         say(
             out,
             (
-                BlockEnd(self.chart.blocks.count),
+                BlockEnd(self.blocks.count),
                 StopLine(self.why),
                 "</main>\n",
                 verdict,

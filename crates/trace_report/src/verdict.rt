@@ -17,74 +17,55 @@ use trace_io::TextSink;
 use trace_log::{Fault, Summary};
 use trace_text::Stamp;
 
-/// The verdict of a log.
+/// What was found of a log: the tally of its rows, its counts, and the times of its first frame and its last one.
 #[derive(Clone, Copy)]
-pub(crate) struct VerdictSection<'a> {
+pub(crate) struct Findings<'a> {
     pub tally: &'a Tally,
     pub summary: &'a Summary,
     pub times: Option<Times>,
 }
+
+/// The verdict of a log of which this was found.
+#[derive(Clone, Copy)]
+pub(crate) struct VerdictSection<'a>(pub Findings<'a>);
 
 impl<'a> Part for VerdictSection<'a> {
     ghost use Rattle.trace_report.specs.Verdict.{verdict_text};
     ghost use Rattle.trace_report.specs.proving.Lending.{first_of_times, last_of_times};
 
-    ghost text = { λ verdict. verdict_text verdict.tally.now verdict.summary.now (first_of_times verdict.times) (last_of_times verdict.times) };
+    ghost text = { λ verdict. verdict_text verdict.0.tally.now verdict.0.summary.now (first_of_times verdict.0.times) (last_of_times verdict.0.times) };
 
     fn say<S: TextSink>(self, out: &mut S) {
-        let VerdictSection {
-            tally,
-            summary,
-            times,
-        } = self;
+        let found = self.0;
         say(
             out,
             (
-                Heading(summary),
-                AnswersOf(&tally.counts),
+                Heading(found.summary),
+                AnswersOf(&found.tally.counts),
                 "</p>\n",
-                Findings {
-                    tally,
-                    summary,
-                    times,
-                },
+                found,
             ),
         );
     }
 }
 
-/// The verdict of a log that is refused, with the cause, if one is known, by what the lines before say.
+/// The verdict of a log that is refused, with the cause, if one is known, by what was found of the lines before.
 #[derive(Clone, Copy)]
 pub(crate) struct RefusedVerdict<'a> {
     pub why: Fault,
     pub cause: Option<RefusalCause>,
-    pub tally: &'a Tally,
-    pub summary: &'a Summary,
-    pub times: Option<Times>,
+    pub found: Findings<'a>,
 }
 
 impl<'a> Part for RefusedVerdict<'a> {
     ghost use Rattle.trace_report.specs.Verdict.{refused_verdict};
     ghost use Rattle.trace_report.specs.proving.Lending.{first_of_times, last_of_times};
 
-    ghost text = { λ verdict. refused_verdict verdict.why verdict.cause verdict.tally.now verdict.summary.now (first_of_times verdict.times) (last_of_times verdict.times) };
+    ghost text = { λ verdict. refused_verdict verdict.why verdict.cause verdict.found.tally.now verdict.found.summary.now (first_of_times verdict.found.times) (last_of_times verdict.found.times) };
 
     fn say<S: TextSink>(self, out: &mut S) {
-        let findings = Findings {
-            tally: self.tally,
-            summary: self.summary,
-            times: self.times,
-        };
-        say(out, (RefusedHeading(self.why, self.cause), findings));
+        say(out, (RefusedHeading(self.why, self.cause), self.found));
     }
-}
-
-/// What was found of a log.
-#[derive(Clone, Copy)]
-struct Findings<'a> {
-    tally: &'a Tally,
-    summary: &'a Summary,
-    times: Option<Times>,
 }
 
 impl<'a> Part for Findings<'a> {
