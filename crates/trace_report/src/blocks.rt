@@ -3,9 +3,9 @@ ghost use Rattle.std.specs.Prelude.{◌≡◌, ◌^◌, ◌-◌, ◌<◌, ◌||�
 ghost use Rattle.trace_report.specs.Blocks as Spec;
 ghost use Rattle.trace_report.specs.proving.Pages.{row_of};
 
+use crate::durations::Seconds;
 use crate::roles::is_request_role;
 use crate::row::{MessagePlace, Row};
-use crate::durations::Seconds;
 use text_parts::{Either, Part, When, say};
 use trace_canon::reception_starts::FramePlace;
 use trace_io::TextSink;

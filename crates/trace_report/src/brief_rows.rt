@@ -2,10 +2,10 @@
 ghost use Rattle.trace_report.specs.BriefRows.{brief_message};
 
 use crate::cells::Side;
+use crate::data::BriefData;
 use crate::message_rows::{After, MessageFront, say_message_row};
 use crate::row::{MessagePlace, MessageRole};
 use crate::sorts::message_needs_attention;
-use crate::data::BriefData;
 use direction::Dir;
 use text_parts::{Part, say};
 use trace_io::TextSink;

@@ -1,5 +1,5 @@
 //! The rows of a session, as its frames come.
-ghost use Rattle.std.specs.Prelude.{◌≡◌, ◌^◌, ◌<◌, List, [], ◌∷◌, ◌++◌, length};
+ghost use Rattle.std.specs.Prelude.{◌≡◌, List, [], ◌∷◌, ◌++◌};
 ghost use Rattle.direction.specs.Dir.{Message};
 ghost use Rattle.isotp_receive.specs.declared.TheConstants.{MESSAGE_LIMIT};
 ghost use Rattle.isotp_receive.specs.EventSeen.{seen_event};
@@ -9,7 +9,7 @@ ghost use Rattle.isotp_receive.specs.Verdict.{verdict};
 ghost use Rattle.trace_run.specs.Seen.{IsSeen};
 ghost use Rattle.uds_exchange.specs.Judging.{IsJudgedAfter, number_after, sent, step_after};
 ghost use Rattle.trace_canon.specs.MessageLines.{place_of};
-ghost use Rattle.trace_report.specs.Events.{closing_rows, end_rows, ended_rows, frame_rows, rows_before, standing_row};
+ghost use Rattle.trace_report.specs.Events.{closing_rows, end_rows, ended_rows, frame_rows, rows_before};
 ghost use Rattle.trace_report.specs.Roles.{role_of_step as role_by};
 ghost use Rattle.trace_report.specs.Rows.{message as tells_message};
 ghost use Rattle.trace_report.specs.proving.Following.{Follows, IsSilent, IsWaiting, MeetsMessage, dropped_rows, row_if, rows_in, unfinished_if};

@@ -11,13 +11,13 @@ ghost use Rattle.uds_message.specs.Message.{is_suppressing as suppresses};
 
 use crate::blocks::{BlockEnd, FULL_BLOCK};
 use crate::contrast::{LogName, contrast_of};
+use crate::data::Data;
+use crate::durations::Seconds;
 use crate::items::{LentItem, LentMessage, LentPair};
 use crate::message_rows::{FurtherNote, NamedLines, RoleWords};
 use crate::roles::{asked_at, is_request_role};
 use crate::row::{MessagePlace, MessageRole};
 use crate::two::Two;
-use crate::data::Data;
-use crate::durations::Seconds;
 use text_parts::{Part, say};
 use trace_io::TextSink;
 use trace_text::values::{say_number, say_text};

@@ -2,8 +2,8 @@
 ghost use Rattle.trace_report.specs.LostRows.{dropped_row, ended_row, layout_fault_words, no_answer_row, unfinished_row};
 
 use crate::cells::{CellEnd, CellFront, Side};
-use crate::row::Arrow;
 use crate::durations::Seconds;
+use crate::row::Arrow;
 use direction::Dir;
 use isotp_pdu::PduFault;
 use isotp_receive::{Cause, Ended, MESSAGE_LIMIT, Reason};
@@ -136,11 +136,7 @@ impl Part for WhyDroppedInWords {
             Reason::NextLate | Reason::NextSequence { .. } | Reason::NextLength => {}
             Reason::TooLong { .. } => say(
                 out,
-                (
-                    " <i>more than the limit of ",
-                    Length(MESSAGE_LIMIT),
-                    "</i>",
-                ),
+                (" <i>more than the limit of ", Length(MESSAGE_LIMIT), "</i>"),
             ),
         }
     }

@@ -2,10 +2,10 @@
 ghost use Rattle.trace_report.specs.MessageRows.{message_row};
 
 use crate::cells::{CellEnd, CellFront};
-use crate::roles::{asked_at, begins_item};
-use crate::row::{Arrow, MessagePlace, MessageRole};
 use crate::data::Data;
 use crate::durations::{Milliseconds, Seconds};
+use crate::roles::{asked_at, begins_item};
+use crate::row::{Arrow, MessagePlace, MessageRole};
 use direction::Dir;
 use text_parts::{Either, Part, say};
 use trace_io::TextSink;

@@ -1,5 +1,5 @@
 //! What a report keeps of its rows for the verdict.
-ghost use Rattle.std.specs.Prelude.{◌≡◌, ◌<◌, ◌^◌, ◌-◌, ℕ, List, [], ◌∷◌, ◌++◌, length, take};
+ghost use Rattle.std.specs.Prelude.{◌≡◌, ◌<◌, ◌^◌, ◌-◌, List, [], ◌∷◌, ◌++◌, length, take};
 ghost use Rattle.trace_report.specs.Rows.{RowValue};
 ghost use Rattle.trace_report.specs.Sorts.{first_targets, most_links, tally_of};
 ghost use Rattle.trace_report.specs.proving.Pages.{row_of};

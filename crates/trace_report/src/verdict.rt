@@ -6,12 +6,12 @@ ghost use Rattle.trace_report.specs.Verdict as Spec;
 
 use crate::cause::RefusalCause;
 use crate::counts::{AnswersOf, Counts, SortCounts};
+use crate::durations::Seconds;
 use crate::links::AttentionLine;
 use crate::reasons::UncleanReasons;
 use crate::refusal::RefusedHeading;
 use crate::tally::Tally;
 use crate::times::{Times, first_of, last_of};
-use crate::durations::Seconds;
 use text_parts::{Either, Part, say};
 use trace_io::TextSink;
 use trace_log::{Fault, Summary};

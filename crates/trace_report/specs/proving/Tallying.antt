@@ -1,5 +1,5 @@
 -- Devices of proof: what the verdict of a report is made of, with one more row of a sort.
-use Rattle.std.specs.Prelude.{ℕ, [], ◌∷◌, ◌++◌, take}
+use Rattle.std.specs.Prelude.{[], ◌∷◌, ◌++◌, take}
 use Rattle.arrayvec.specs.ArrayVec.{ArrayVec}
 use Rattle.uds_exchange.specs.Judging.{one_more}
 use Rattle.trace_report.specs.Sorts.{most_links}
