@@ -12,7 +12,7 @@ use Rattle.trace_report.specs.MessageRows.{message_front, after_text, message_ro
 use Rattle.trace_report.specs.Sorts.{message_needs_attention}
 use Rattle.trace_report.specs.declared.row.MessageRole.TheVariants as role
 
--- the words of a brief row, of a message that needs no attention
+-- the words of a message that needs no attention, in a block of brief rows; one that does has none there
 abbrev pub brief_words : MessageRole → ℕ → List ℕ → List ℕ
 brief_words role.Request first bytes = service_text (sid bytes) ++ codes " request " ++ brief_data bytes ++ codes " &#8594;"
 brief_words (role.Positive asked) first bytes = codes "&#8592; positive " ++ brief_data bytes ++ codes " " ++ after_text asked first
@@ -21,11 +21,11 @@ brief_words (role.Pending asked) first bytes = codes "&#8592; pending " ++ brief
 brief_words role.KeepAlive first bytes = codes "keep-alive " ++ brief_data bytes ++ codes " &#8594;"
 brief_words role.Stray first bytes = []
 
--- a row of such words
+-- the row of a message that needs no attention, in a block of brief rows
 abbrev pub brief_row : ℕ → MessageRole → Dir → MessagePlace → List ℕ → List ℕ
 brief_row origin is d place bytes =
     message_front true origin is place ++ codes "<td class=\"" ++ side_text d ++ codes "\">" ++ brief_words is place.first.micros bytes ++ codes "\n"
 
--- the row of a message in a block of brief rows
+-- the row of a message in a block of brief rows: in full, where the message needs attention
 abbrev pub brief_message : ℕ → MessageRole → Dir → MessagePlace → List ℕ → List ℕ
 brief_message origin is d place bytes = if message_needs_attention is then message_row origin is d place bytes else brief_row origin is d place bytes

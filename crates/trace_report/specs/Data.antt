@@ -9,38 +9,38 @@ use Rattle.trace_report.specs.Letters.{letters_text}
 abbrev pub byte_behind : ℕ → List ℕ
 byte_behind b = codes " " ++ hexadecimal 2 b
 
--- and for each of these
+-- a blank and two digits for each of these bytes
 abbrev pub bytes_behind : List ℕ → List ℕ
 bytes_behind bytes = flat_map byte_behind bytes
 
--- two digits for each byte, and a blank between
+-- two digits for each of these bytes, and a blank between two of them
 abbrev pub bytes_apart : List ℕ → List ℕ
 bytes_apart [] = []
 bytes_apart (b ∷ rest) = hexadecimal 2 b ++ bytes_behind rest
 
--- up to so many bytes, all of a message are shown
+-- all bytes of a message are shown where these are not more
 abbrev pub most_shown : ℕ
 most_shown = 64
 
--- up to so many, those behind the first ones are folded, and beyond they are not shown
+-- the bytes of a message behind the first ones are folded where it has not more than so many, and else not shown
 abbrev pub most_folded : ℕ
 most_folded = 512
 
--- so many are the first ones
+-- so many bytes of a message are its first ones
 abbrev pub shown_first : ℕ
 shown_first = 32
 
--- all bytes of a short message
+-- all bytes of a short message, and as letters where they may be text
 abbrev pub short_data : List ℕ → List ℕ
 short_data bytes = codes "<code>" ++ bytes_apart bytes ++ codes "</code>" ++ letters_text bytes
 
--- the first bytes of a longer one, and the others folded
+-- the first bytes of a longer message, and the others folded
 abbrev pub folded_data : List ℕ → List ℕ → List ℕ
 folded_data front rest =
     codes "<code>" ++ bytes_apart front ++ codes "</code> <details><summary>" ++ decimal (length rest) ++ codes " bytes more</summary><code>"
     ++ bytes_apart rest ++ codes "</code>" ++ letters_text rest ++ codes "</details>"
 
--- the first bytes of a block of data, and how many others it has; the canonical log has those
+-- the first bytes of the longest messages, and how many others they have, which the canonical log shows
 abbrev pub cut_data : List ℕ → ℕ → List ℕ
 cut_data front more = codes "<code>" ++ bytes_apart front ++ codes "</code> <i>" ++ decimal more ++ codes " bytes more, not shown</i>"
 

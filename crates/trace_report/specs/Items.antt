@@ -42,21 +42,21 @@ answer_in (row ∷ rest) = answer_by (message_in row) (answer_in rest)
 abbrev pub answer_to : MessageRole → List RowValue → Option RowMessage
 answer_to is rest = if is_request_role is then answer_in rest else None
 
--- the item that a message begins, by the rows behind it
+-- the item that a message begins, which is answered among the rows behind it, or is not
 abbrev pub item_begun : RowMessage → List RowValue → PlacedItem
 item_begun begin rest = record { begin = begin; answer = answer_to begin.role rest }
 
--- the message, where it begins an item
+-- this message, where it begins an item
 abbrev pub beginning : Option RowMessage → Option RowMessage
 beginning None = None
 beginning (Some sent) = if begins_item sent.role then Some sent else None
 
--- the items of rows, by the message with which the first one begins an item, if it does, the others, and the items of those
+-- the items of a row and those behind it: that of the message, where the row begins an item with one, and these later ones
 abbrev pub items_by : Option RowMessage → List RowValue → List PlacedItem → List PlacedItem
 items_by None rest later = later
 items_by (Some begin) rest later = item_begun begin rest ∷ later
 
--- the items of these rows
+-- the items that these rows tell, in order
 abbrev pub items_in : List RowValue → List PlacedItem
 items_in [] = []
 items_in (row ∷ rest) = items_by (beginning (message_in row)) rest (items_in rest)

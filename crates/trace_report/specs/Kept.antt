@@ -40,15 +40,15 @@ KeepsTwo limit settings one other (Err (Right fault)) =
 abbrev pub HasOwnFrame : Settings → List ℕ → Type 0
 HasOwnFrame = HasFrame (λ T e. ⊤)
 
--- the items of both, number by number
+-- the items of the two sessions, number by number
 abbrev pub pairs_in : TwoValue → List ItemPair
 pairs_in two = pairs_of (items_in two.left.rows) (items_in two.right.rows)
 
--- the place of a first difference
+-- what two sessions are to each other, by their first difference, if they have one
 abbrev pub comparison_by : Option FirstContrast → Comparison
 comparison_by None = Same
 comparison_by (Some first) = Different first.before
 
--- what they are to each other
+-- what the two sessions are to each other
 abbrev pub comparison_in : TwoValue → Comparison
 comparison_in two = comparison_by (first_contrast (pairs_in two))

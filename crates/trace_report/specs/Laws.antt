@@ -43,32 +43,32 @@ abbrev pub is_harmless : ℕ → Bool
 is_harmless b =
     nat_le (code " ") b && (nat_le b (code "~") && (not (b == code "<") && (not (b == code ">") && (not (b == code "\"") && not (b == code "'")))))
 
--- the rest of the name that HTML has for one of the five signs, behind its &
+-- the text begins with what HTML has behind the & of one of the five signs
 abbrev pub begins_sign : List ℕ → Bool
 begins_sign text =
     begins text (codes "amp;") || begins text (codes "lt;") || begins text (codes "gt;")
     || begins text (codes "quot;") || begins text (codes "#39;")
 
--- each & begins such a name
+-- each & of the text begins one of these names of signs
 abbrev pub is_escaped : List ℕ → Bool
 is_escaped [] = true
 is_escaped (b ∷ rest) = (not (b == code "&") || begins_sign rest) && is_escaped rest
 
--- so is the name of a log on its page, whatever its file is called: its bytes are harmless, and an & stands for a sign
--- alone
+-- the name of a log is harmless on its page, whatever its file is called: its bytes open and close nothing, and an & stands
+-- for a sign alone
 abbrev pub NameIsHarmless : Type 0
 NameIsHarmless = (name : List ℕ) → AllByRecursion (λ b. is_harmless b ≡ true) (name_text name) × (is_escaped (name_text name) ≡ true)
 
--- and so is each letter that is shown for the bytes of a message, of which none is an &
+-- each letter that is shown for the bytes of a message opens and closes nothing, and is no &
 abbrev pub LettersAreHarmless : Type 0
 LettersAreHarmless = (bytes : List ℕ) → AllByRecursion (λ b. (is_harmless b && not (b == code "&")) ≡ true) (letters bytes)
 
--- nor does the style of a page, in which no byte is a <: what would end the element that it stands in begins with that, and
--- so does a comment, which could hide what stands behind it
+-- the style of a page holds no tag, since no byte of it is a <: what would end the element that it stands in begins with that,
+-- and so does a comment, which could hide what stands behind it
 abbrev pub StyleHoldsNoTag : Type 0
 StyleHoldsNoTag = list_any (λ b. b == code "<") page_style ≡ false
 
--- none of these is equal to one behind it
+-- no element of the list is equal to one behind it
 abbrev pub AreDistinct : {X : Type 0} → List X → Type 0
 AreDistinct [] = ⊤
 AreDistinct (x ∷ rest) = AllByRecursion (λ later. x ≢ later) rest × AreDistinct rest
@@ -80,7 +80,8 @@ IdentifiersStandOnce = (settings : Settings) (meanings : List (Option Stamped)) 
     → AreDistinct (identifiers_in (all_rows MESSAGE_LIMIT (trace settings meanings)))
     × AreDistinct (identifiers_in (rows_of MESSAGE_LIMIT (trace settings meanings)))
 
--- and each link of its verdict leads to one of its rows
+-- each link of the verdict of a log leads to one of its rows, on the page of the whole log, and on one that ends where the log
+-- is refused
 abbrev pub LinksHaveTargets : Type 0
 LinksHaveTargets = (settings : Settings) (meanings : List (Option Stamped))
     → HasEachTarget (all_rows MESSAGE_LIMIT (trace settings meanings)) × HasEachTarget (rows_of MESSAGE_LIMIT (trace settings meanings))
@@ -95,13 +96,13 @@ ComparisonIsOfItems = (left right : List PlacedItem)
 abbrev pub ItemsAreTheMeaning : Type 0
 ItemsAreTheMeaning = (T : List Entry) → map item_value (items_in (all_rows MESSAGE_LIMIT T)) ≡ meaning (messages MESSAGE_LIMIT T)
 
--- so what a page says of two logs is what `compare` answers, where that accepts both
+-- what a page says of two logs is what `compare` answers, where that accepts both
 abbrev pub AgreesWithCompare : Type 0
 AgreesWithCompare = (settings : Settings) (one other : List ℕ) (held : TwoValue) (compared : Compared)
     → KeepsTwo MESSAGE_LIMIT settings one other (Ok held) → Compares MESSAGE_LIMIT settings one other (Ok compared)
     → comparison_in held ≡ compared.comparison
 
--- the rows around an item, which that page shows of each log, are where it is: the row that begins it is among them, if
+-- the rows around an item, which the page of two logs shows of each, are where it is: the row that begins it is among them, if
 -- the log has one; they are one piece of the log's rows; and behind the first of them no other exchange begins
 abbrev pub RowsAroundHaveTheItem : Type 0
 RowsAroundHaveTheItem = (number : ℕ) (rows : List RowValue)
@@ -123,10 +124,11 @@ abbrev pub UnansweredHasNone : Type 0
 UnansweredHasNone = (left right : Option RowMessage) (log : LogName)
     → contrast_of_answers left right ≡ Some (contrast.Unanswered log) → answer_of log left right ≡ None
 
--- a message in its place, but that its first frame came at this time, or its last one
+-- a message in its place, but that its first frame came at this time
 abbrev pub begun_at : ℕ → MessagePlace → MessagePlace
 begun_at time place = record place { first = record place.first { micros = time } }
 
+-- a message in its place, but that its last frame came at this time
 abbrev pub ended_at : ℕ → MessagePlace → MessagePlace
 ended_at time place = record place { last = record place.last { micros = time } }
 
@@ -139,7 +141,8 @@ TimeIsOfTheLastFrame = (origin time : ℕ) (is : MessageRole) (d : Dir) (place :
 abbrev pub AfterIsToTheFirstFrame : Type 0
 AfterIsToTheFirstFrame = (time count : ℕ) (is : MessageRole) (place : MessagePlace) → note_text is (ended_at time place) count ≡ note_text is place count
 
--- and after the last request that was complete before, each of which is so with its last frame
+-- how long after its request a reply came counts from the last request that was complete before, and each request is so with
+-- its last frame
 abbrev pub AfterIsFromTheLastFrame : Type 0
 AfterIsFromTheLastFrame = (limit : ℕ) (T : List Entry) (e : Entry)
     → (completes_request limit T e ≡ true → asked_in limit (T ++ e ∷ []) ≡ e.micros)

@@ -10,7 +10,7 @@ use Rattle.trace_report.specs.Targets.{identifier}
 use Rattle.trace_report.specs.declared.targets.Target.{Target}
 use Rattle.trace_report.specs.declared.targets.Target.TheVariants as target
 
--- the place that a row is, if links may lead to it
+-- the place that a row is, if links lead to it
 abbrev pub target_at : RowValue → Option Target
 target_at (message is d place bytes) = if begins_item is then Some (target.Item place.item) else None
 target_at (no_answer number silent) = None
@@ -18,7 +18,7 @@ target_at (dropped place d linked why) = if linked then Some (target.Line place.
 target_at (ended place end) = Some (target.Line place.line)
 target_at (unfinished d begun len) = Some (target.Side d)
 
--- the places among these rows, in order
+-- the places that these rows are, in order
 abbrev pub targets_in : List RowValue → List Target
 targets_in rows = filter_map target_at rows
 
@@ -28,15 +28,15 @@ fixed_identifiers =
     codes "t" ∷ codes "u" ∷ codes "tx" ∷ codes "ux" ∷ codes "te" ∷ codes "ue" ∷ codes "cut" ∷ codes "session" ∷ codes "only"
     ∷ codes "verdict" ∷ codes "help" ∷ codes "end" ∷ []
 
--- the identifiers of a page with these rows
+-- all identifiers of a page with these rows
 abbrev pub identifiers_in : List RowValue → List (List ℕ)
 identifiers_in rows = fixed_identifiers ++ map identifier (targets_in rows)
 
--- x is one of these
+-- x is an element of this list
 abbrev pub IsAmong : {X : Type 0} → X → List X → Type 0
 IsAmong x xs = (place : ℕ) × (slice_get xs place ≡ Some x)
 
--- the links to these places lead to rows among these
+-- links to these places lead to rows among these
 abbrev pub LeadTo : List RowValue → ArrayVec Target → Type 0
 LeadTo rows targets = AllByRecursion (λ (place : Target). IsAmong place (targets_in rows)) targets.items
 

@@ -30,24 +30,24 @@ abbrev pub links_text : List Target → List ℕ
 links_text [] = []
 links_text (place ∷ rest) = link_text place ++ links_behind rest
 
--- so many more there are
+-- so many rows there are besides those that are linked to
 abbrev pub others_text : ℕ → List ℕ
 others_text count = codes " and " ++ decimal count ++ codes " more"
 
--- where there are more than are linked to
+-- how many more rows there are, where there are more than are linked to
 abbrev pub more_text : ℕ → List ℕ
 more_text count = if nat_lt most_links count then others_text (count - most_links) else []
 
--- what needs attention for one reason: how many, and links to the first
+-- what needs attention for one reason: how many rows, and links to the first
 abbrev pub attention_entry : List ℕ → ℕ → List Target → List ℕ
 attention_entry words count first =
     codes "<li>" ++ words ++ codes " <b>" ++ decimal count ++ codes "</b>: " ++ links_text first ++ more_text count ++ codes "\n"
 
--- if anything does
+-- what needs attention for one reason, if a row does
 abbrev pub attention_line : List ℕ → ℕ → List Target → List ℕ
 attention_line words count first = if count == 0 then [] else attention_entry words count first
 
--- for each reason
+-- what needs attention, a line for each reason
 abbrev pub attention_lines : Tally → List ℕ
 attention_lines tally =
     attention_line (codes "dropped frames") tally.counts.dropped tally.first.dropped.items
@@ -57,15 +57,15 @@ attention_lines tally =
     ++ attention_line (codes "without an answer") tally.counts.unanswered tally.first.unanswered.items
     ++ attention_line (codes "strays") tally.counts.strays tally.first.strays.items
 
--- nothing needs attention
+-- no row needs attention, by the counts of their sorts
 abbrev pub needs_no_attention : SortCounts → Bool
 needs_no_attention counts =
     counts.dropped == 0 && (counts.ended == 0 && (counts.unfinished == 0 && (counts.negatives == 0 && (counts.unanswered == 0 && counts.strays == 0))))
 
--- the list of what does
+-- the list of what needs attention
 abbrev pub attention_list : Tally → List ℕ
 attention_list tally = codes "<ul class=\"look\">\n" ++ attention_lines tally ++ codes "</ul>\n"
 
--- where something does
+-- the list of what needs attention, where a row does
 abbrev pub attention_text : Tally → List ℕ
 attention_text tally = if needs_no_attention tally.counts then [] else attention_list tally

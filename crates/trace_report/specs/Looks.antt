@@ -21,11 +21,11 @@ pub record LookRowValue : Type 0 where
   pub words : List ℕ
   pub command : List ℕ
 
--- a row of these
+-- a row of the table of looks, with these first bytes, what is said, and what makes a log of it
 abbrev pub known_by : List (List ℕ) → List ℕ → List ℕ → LookRowValue
 known_by first words command = record { first = first; words = words; command = command }
 
--- what reads the files of other tools
+-- what is said of a file that another tool has written: what reads it
 abbrev pub reads : List ℕ
 reads = codes "python3 -m udsnorm reads it"
 
@@ -60,36 +60,36 @@ look_row look.Csv = known_by [] (codes "looks like a CSV file") (codes "python3 
 look_row look.Nanoseconds =
     known_by [] (codes "looks like a log whose stamps have more than six decimals") (codes "python3 -m udsnorm rounds them")
 
--- first bytes, and the look that they tell
+-- a sign: first bytes, and the look that they tell
 abbrev pub Sign : Type 0
 Sign = List ℕ × Look
 
--- the first bytes of a look's row, with it
+-- the signs of a look: each of the first bytes in its row
 abbrev pub signs_of : Look → List Sign
 signs_of look = map (λ first. (first, look)) (look_row look).first
 
--- those of all rows
+-- the signs of all looks that first bytes tell
 abbrev pub signs : List Sign
 signs = flat_map signs_of TOLD
 
--- first bytes tell this look
+-- the first bytes tell this look
 abbrev pub is_told : List ℕ → Look → Bool
 is_told bytes look = list_any (begins bytes) (look_row look).first
 
--- the one look, or else the other
+-- the first of two looks that is one
 abbrev pub or_else : Option Look → Option Look → Option Look
 or_else (Some look) other = Some look
 or_else None other = other
 
--- what first bytes tell
+-- the look that first bytes tell, if they tell one
 abbrev pub look_told : List ℕ → Option Look
 look_told first = find (is_told first) TOLD
 
--- a stamp with a date: a year of four digits, and a hyphen
+-- the bytes begin with a stamp that has a date: a year of four digits, and a hyphen
 abbrev pub is_dated : List ℕ → Bool
 is_dated first = has_at first 0 (code "(") && has_at first 5 (code "-")
 
--- values with commas or semicolons between them, and no stamp in front
+-- the bytes are values with commas or semicolons between them, and no stamp stands in front
 abbrev pub is_table : List ℕ → Bool
 is_table first = not (has_at first 0 (code "(")) && (list_any (λ b. b == code ",") first || list_any (λ b. b == code ";") first)
 

@@ -20,27 +20,27 @@ use Rattle.isotp_receive.specs.declared.event.Cause.TheVariants as cause
 use Rattle.isotp_receive.specs.declared.event.Reason.TheVariants as reason
 use Rattle.trace_report.specs.declared.row.Arrow.TheVariants as arrow
 
--- the row of an item that asked for no positive answer, and has none
+-- the row of an item without an answer that asked for no positive one
 abbrev pub silent_row : ℕ → List ℕ
 silent_row number =
     codes "<tr class=\"p\"><td>" ++ decimal number ++ codes "<td><td>" ++ cell_front dir.Unit ++ codes "<b>silent</b> <i>item " ++ decimal number
     ++ codes " asked for no positive answer</i>" ++ cell_end dir.Unit arrow.Barred
 
--- of another that has none
+-- the row of an item without an answer that asked for one
 abbrev pub unanswered_row : ℕ → List ℕ
 unanswered_row number =
     codes "<tr class=\"m\"><td>" ++ decimal number ++ codes "<td><td>" ++ cell_front dir.Unit ++ codes "<b>no answer</b> <i>to item " ++ decimal number
     ++ codes "</i>" ++ cell_end dir.Unit arrow.Barred
 
--- the row of an item without an answer
+-- the row of an item without an answer, which asked for no positive one or did
 abbrev pub no_answer_row : ℕ → Bool → List ℕ
 no_answer_row number silent = if silent then silent_row number else unanswered_row number
 
--- a line of the log, to which links lead
+-- the identifier of a line of the log, to which links lead
 abbrev pub line_target : ℕ → List ℕ
 line_target number = codes " id=\"" ++ identifier (target.Line number) ++ codes "\""
 
--- where they lead to this row
+-- the identifier of a line, where links lead to this row of it
 abbrev pub target_if : Bool → ℕ → List ℕ
 target_if linked line = if linked then line_target line else []
 
@@ -60,7 +60,7 @@ layout_fault_words pdu.FirstLength = codes " <i>its length, or the one that it a
 layout_fault_words pdu.FlowShort = codes " <i>it has fewer than 3 bytes</i>"
 layout_fault_words pdu.FlowStatus = codes " <i>its status is none of continue, wait and overflow</i>"
 
--- why a frame was dropped, for the same reader; where it ended a reception too, the row of that says it
+-- why a frame was dropped, for a reader who knows no ISO 15765-2; where it ended a reception too, the row of that says it
 abbrev pub reason_words : Reason → List ℕ
 reason_words (reason.Pdu fault) = layout_fault_words fault
 reason_words reason.FlowUnexpected = codes " <i>the other side was sending nothing that it could be for</i>"
@@ -70,7 +70,7 @@ reason_words (reason.NextSequence expected found) = []
 reason_words reason.NextLength = []
 reason_words (reason.TooLong announced) = codes " <i>more than the limit of " ++ decimal MESSAGE_LIMIT ++ codes "</i>"
 
--- why a reception ended, for the same reader
+-- why a reception ended, for a reader who knows no ISO 15765-2
 abbrev pub cause_words : Cause → List ℕ
 cause_words cause.NewStart = codes "another message of this side began before its last frame"
 cause_words cause.Overflow = codes "the other side said that it has no room"
@@ -94,11 +94,11 @@ ended_row linked origin place end =
     frame_front linked origin place ++ cell_front end.dir ++ codes "<b>ended</b> <i>" ++ partial_text end.dir end.begun_line end.len
     ++ codes "</i> <em>" ++ cause_text end.cause ++ codes "</em> <i>" ++ cause_words end.cause ++ codes "</i>" ++ cell_end end.dir arrow.Barred
 
--- a side, to which links lead on a page of one log
+-- the identifier of what stands of a side at the end of the log, where links lead to this row
 abbrev pub side_target : Bool → Dir → List ℕ
 side_target linked d = if linked then codes " id=\"" ++ identifier (target.Side d) ++ codes "\"" else []
 
--- the row of a reception that stands at the end
+-- the row of a reception that stands at the end of the log, to which links lead or not
 abbrev pub unfinished_row : Bool → Dir → ℕ → ℕ → List ℕ
 unfinished_row linked d line len =
     codes "<tr class=\"x\"" ++ side_target linked d ++ codes "><td><td><td>" ++ cell_front d ++ codes "<b>unfinished</b> <i>" ++ partial_text d line len

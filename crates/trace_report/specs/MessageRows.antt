@@ -15,7 +15,7 @@ use Rattle.trace_report.specs.Roles.{begins_item, asked_at}
 use Rattle.trace_report.specs.declared.row.Arrow.TheVariants as arrow
 use Rattle.trace_report.specs.declared.row.MessageRole.TheVariants as role
 
--- how a message looks, by what it is
+-- the class of the style by which a message is shown: what it is to its item
 abbrev pub role_class : MessageRole → List ℕ
 role_class role.Request = codes "q"
 role_class (role.Positive asked) = codes "ok"
@@ -24,20 +24,20 @@ role_class (role.Pending asked) = codes "p"
 role_class role.KeepAlive = codes "p"
 role_class role.Stray = codes "s"
 
--- the number of its item as the header of the row, to which links lead on a page of one log
+-- the number of an item as the header of its row, to which links lead or not
 abbrev pub item_header : Bool → ℕ → List ℕ
 item_header true number = codes "\" id=\"" ++ identifier (target.Item number) ++ codes "\"><th scope=\"row\">" ++ decimal number
 item_header false number = codes "\"><th scope=\"row\">" ++ decimal number
 
--- and repeated
+-- the number of an item in a row that does not begin it
 abbrev pub item_repeated : ℕ → List ℕ
 item_repeated number = codes "\"><td>" ++ decimal number
 
--- the cell of the item
+-- the number of its item in the row of a message of this role, to which links lead or not
 abbrev pub item_cell : Bool → MessageRole → ℕ → List ℕ
 item_cell linked is number = if begins_item is then item_header linked number else item_repeated number
 
--- two lines of the log, and those between
+-- the lines of the log from one to a later one
 abbrev pub several_lines : ℕ → ℕ → List ℕ
 several_lines first last = decimal first ++ codes "&#8211;" ++ decimal last
 
@@ -45,29 +45,29 @@ several_lines first last = decimal first ++ codes "&#8211;" ++ decimal last
 abbrev pub lines_text : ℕ → ℕ → List ℕ
 lines_text first last = if first == last then decimal first else several_lines first last
 
--- those lines, called so
+-- the lines of the log from one to another, behind the word line or lines
 abbrev pub named_lines : ℕ → ℕ → List ℕ
 named_lines first last = if first == last then codes "line " ++ decimal first else codes "lines " ++ several_lines first last
 
--- where a message stands: its number, its lines, and the time of its last frame since the time `origin`
+-- where a message stands: its item, its lines, and the time of its last frame since the time `origin`
 abbrev pub message_front : Bool → ℕ → MessageRole → MessagePlace → List ℕ
 message_front linked origin is place =
     codes "<tr class=\"" ++ role_class is ++ item_cell linked is place.item ++ codes "<td>"
     ++ lines_text place.first.line place.last.line ++ codes "<td>" ++ seconds_between origin place.last.micros
 
--- a request by the name of its service
+-- a request, by the name of its service
 abbrev pub request_words : ℕ → List ℕ
 request_words service = codes "<b>" ++ service_text service ++ codes "</b> <i>request</i> "
 
--- a negative answer by the name of its response code
+-- a negative answer, by the name of its response code
 abbrev pub negative_words : ℕ → List ℕ
 negative_words why = codes "<b>negative</b> <em>" ++ code_text why ++ codes "</em> "
 
--- a stray by its side
+-- a message of no exchange, by the side that sent it
 abbrev pub stray_words : Dir → List ℕ
 stray_words d = codes "<b>stray</b> <i>from the " ++ direction_text d ++ codes "</i> "
 
--- what a message is, in words
+-- what a message is to its item, in words
 abbrev pub role_words : MessageRole → Dir → List ℕ → List ℕ
 role_words role.Request d bytes = request_words (sid bytes)
 role_words (role.Positive asked) d bytes = codes "<b>positive</b> "
@@ -76,15 +76,15 @@ role_words (role.Pending asked) d bytes = codes "<b>pending</b> "
 role_words role.KeepAlive d bytes = codes "<b>keep-alive</b> "
 role_words role.Stray d bytes = stray_words d
 
--- how long after that its first frame came
+-- how long after the last frame of its request the first frame of a reply came
 abbrev pub after_text : ℕ → ℕ → List ℕ
 after_text asked first = codes "after " ++ milliseconds_between asked first
 
--- that alone
+-- how long after its request a reply came, as a note by itself
 abbrev pub after_alone : ℕ → ℕ → List ℕ
 after_alone asked first = codes " <i>" ++ after_text asked first ++ codes "</i>"
 
--- and behind another note
+-- how long after its request a reply came, behind another note
 abbrev pub after_other : ℕ → ℕ → List ℕ
 after_other asked first = codes ", " ++ after_text asked first
 
@@ -93,22 +93,23 @@ abbrev pub single_note : Option ℕ → ℕ → List ℕ
 single_note None first = []
 single_note (Some asked) first = after_alone asked first
 
--- the same behind another note
+-- how long after its request a message came, behind another note, if it replies to one
 abbrev pub further_note : Option ℕ → ℕ → List ℕ
 further_note None first = []
 further_note (Some asked) first = after_other asked first
 
--- a note on a message of several frames: how many bytes they carry, and then the same
+-- a note on a message of several frames: how many bytes they carry, and how long after its request it came, if it replies to
+-- one
 abbrev pub frames_note : ℕ → ℕ → Option ℕ → ℕ → List ℕ
 frames_note count frames asked first =
     codes "<br><i>" ++ decimal count ++ codes " bytes in " ++ decimal frames ++ codes " frames" ++ further_note asked first ++ codes "</i>"
 
--- the note on a message
+-- the note on a message of so many bytes, by how many frames carry it
 abbrev pub note_text : MessageRole → MessagePlace → ℕ → List ℕ
 note_text is place count =
     if nat_lt 1 place.frames then frames_note count place.frames (asked_at is) place.first.micros else single_note (asked_at is) place.first.micros
 
--- the row of a message
+-- the full row of a message, where `origin` is the time of the first frame of the two sides
 abbrev pub message_row : ℕ → MessageRole → Dir → MessagePlace → List ℕ → List ℕ
 message_row origin is d place bytes =
     message_front true origin is place ++ cell_front d ++ role_words is d bytes ++ data_text bytes ++ note_text is place (length bytes)

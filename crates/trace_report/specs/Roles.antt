@@ -8,7 +8,7 @@ use Rattle.direction.specs.declared.Dir.TheVariants as dir
 use Rattle.trace_report.specs.declared.row.MessageRole.TheVariants as role
 use Rattle.uds_exchange.specs.declared.step.Step.TheVariants as becomes
 
--- a message with which an exchange begins
+-- the message is a request: an exchange begins with it
 abbrev pub is_request_role : MessageRole → Bool
 is_request_role role.Request = true
 is_request_role (role.Positive asked) = false
@@ -26,7 +26,7 @@ is_answer_role (role.Pending asked) = false
 is_answer_role role.KeepAlive = false
 is_answer_role role.Stray = false
 
--- it begins an item, and has no answer's number
+-- the message begins an item, and is no reply in one
 abbrev pub begins_item : MessageRole → Bool
 begins_item role.Request = true
 begins_item (role.Positive asked) = false
@@ -35,7 +35,7 @@ begins_item (role.Pending asked) = false
 begins_item role.KeepAlive = true
 begins_item role.Stray = true
 
--- when the last frame of the request came to which it replies, if it replies to one
+-- when the last frame of the request came to which a message replies, if it replies to one
 abbrev pub asked_at : MessageRole → Option ℕ
 asked_at role.Request = None
 asked_at (role.Positive asked) = Some asked
@@ -44,15 +44,15 @@ asked_at (role.Pending asked) = Some asked
 asked_at role.KeepAlive = None
 asked_at role.Stray = None
 
--- an answer by its first byte
+-- what an answer is to its item, by its first byte
 abbrev pub answer_role : ℕ → List ℕ → MessageRole
 answer_role asked bytes = if is_negative_response bytes then role.Negative asked else role.Positive asked
 
--- a message of a tester that belongs to no exchange: the keep-alive, or a stray
+-- what a message of the tester is that belongs to no exchange: the keep-alive, or a stray
 abbrev pub other_tester_role : List ℕ → MessageRole
 other_tester_role bytes = if is_keep_alive bytes then role.KeepAlive else role.Stray
 
--- of either side
+-- what a message of either side is that belongs to no exchange
 abbrev pub other_role : Dir → List ℕ → MessageRole
 other_role dir.Tester bytes = other_tester_role bytes
 other_role dir.Unit bytes = role.Stray

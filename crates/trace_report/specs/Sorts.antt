@@ -13,7 +13,7 @@ use Rattle.trace_report.specs.declared.tally.Tally.{Tally}
 use Rattle.trace_report.specs.declared.targets.Target.{Target}
 use Rattle.trace_report.specs.declared.targets.Target.TheVariants as target
 
--- the sort of a message
+-- the sort of the row of a message of this role
 abbrev pub sort_of_role : MessageRole → Sort
 sort_of_role role.Request = sort.Requests
 sort_of_role (role.Positive asked) = sort.Positives
@@ -22,7 +22,7 @@ sort_of_role (role.Pending asked) = sort.Pendings
 sort_of_role role.KeepAlive = sort.KeepAlives
 sort_of_role role.Stray = sort.Strays
 
--- rows of this sort need attention
+-- rows of this sort need attention: a page links to the first of them, and its filter hides each exchange without one
 abbrev pub needs_attention : Sort → Bool
 needs_attention sort.Requests = false
 needs_attention sort.Positives = false
@@ -40,7 +40,7 @@ needs_attention sort.Unfinished = true
 abbrev pub message_needs_attention : MessageRole → Bool
 message_needs_attention is = needs_attention (sort_of_role is)
 
--- the sort of an item without an answer
+-- the sort of the row of an item without an answer, which asked for no positive one or did
 abbrev pub sort_of_silence : Bool → Sort
 sort_of_silence true = sort.Silent
 sort_of_silence false = sort.Unanswered
@@ -67,7 +67,7 @@ rank sort.Dropped = 8
 rank sort.Ended = 9
 rank sort.Unfinished = 10
 
--- a row is of this sort
+-- the row is of this sort
 abbrev pub is_of : Sort → RowValue → Bool
 is_of kind row = rank kind == rank (sort_of row)
 
@@ -79,19 +79,19 @@ target_of (dropped place d linked why) = target.Line place.line
 target_of (ended place end) = target.Line place.line
 target_of (unfinished d line len) = target.Side d
 
--- the targets of the rows of a sort, in order
+-- the places to which links to the rows of a sort lead, in order
 abbrev pub targets_of : Sort → List RowValue → List Target
 targets_of kind rows = flat_map (λ row. if is_of kind row then target_of row ∷ [] else []) rows
 
--- how many there are
+-- how many of these rows are of this sort
 abbrev pub count_of : Sort → List RowValue → ℕ
 count_of kind rows = length (targets_of kind rows)
 
--- so many are linked to
+-- so many rows of a sort are linked to at the most
 abbrev pub most_links : ℕ
 most_links = 10
 
--- the first of them
+-- the places to which links lead to the first rows of a sort
 abbrev pub first_of : Sort → List RowValue → ArrayVec Target
 first_of kind rows = record { items = take most_links (targets_of kind rows) }
 
@@ -111,7 +111,7 @@ counts_in rows = record {
   unfinished = count_of sort.Unfinished rows;
 }
 
--- of each sort that needs attention
+-- of each sort that needs attention the places to which links to its first rows lead
 abbrev pub first_targets : List RowValue → FirstTargets
 first_targets rows = record {
   dropped = first_of sort.Dropped rows;
@@ -122,6 +122,6 @@ first_targets rows = record {
   strays = first_of sort.Strays rows;
 }
 
--- both: all that the verdict of a report has of its rows
+-- all that the verdict of a report has of its rows: how many there are of each sort, and where links to the first of them lead
 abbrev pub tally_of : List RowValue → Tally
 tally_of rows = record { counts = counts_in rows; first = first_targets rows }

@@ -6,12 +6,12 @@ use Rattle.direction.specs.declared.Dir.TheVariants as dir
 use Rattle.trace_report.specs.declared.targets.Target.{Target}
 use Rattle.trace_report.specs.declared.targets.Target.TheVariants as target
 
--- the letter of a side
+-- the letter of a side, in identifiers and in classes of the style
 abbrev pub side_text : Dir → List ℕ
 side_text dir.Tester = codes "t"
 side_text dir.Unit = codes "u"
 
--- the identifier of a place
+-- the identifier of a place on the page
 abbrev pub identifier : Target → List ℕ
 identifier (target.Item number) = codes "i" ++ decimal number
 identifier (target.Line number) = codes "l" ++ decimal number
