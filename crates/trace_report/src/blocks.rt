@@ -11,13 +11,13 @@ use trace_canon::reception_starts::FramePlace;
 use trace_io::TextSink;
 use trace_text::Number;
 
-/// A request closes a block that has this many rows.
+/// A block of so many rows ends before the next request.
 pub(crate) const FULL_BLOCK: u64 = 200;
 
-/// Any row closes one that has so many.
+/// A block of so many rows ends before any row.
 const LARGEST_BLOCK: u64 = 1000;
 
-/// So many blocks are open.
+/// So many blocks, the first ones, are written open.
 const OPEN_BLOCKS: u64 = 10;
 
 /// How many blocks stand, and how many rows the last of them has.
@@ -172,7 +172,7 @@ impl Part for BlockEnd {
     }
 }
 
-/// The header of a chart.
+/// The head of a table of rows: the names of its columns.
 #[derive(Clone, Copy)]
 pub(crate) struct ChartHead;
 
@@ -213,7 +213,7 @@ impl<'a> Part for BlockTitle<'a> {
     }
 }
 
-/// The title of a block that begins with a message.
+/// The title of a block that begins with the row of a message.
 #[derive(Clone, Copy)]
 struct MessageTitle(u64, MessagePlace);
 
@@ -238,7 +238,7 @@ impl Part for MessageTitle {
     }
 }
 
-/// The title of one that begins with a frame.
+/// The title of a block that begins with the row of a frame.
 #[derive(Clone, Copy)]
 struct FromPlace(u64, FramePlace);
 

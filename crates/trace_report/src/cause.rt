@@ -113,7 +113,7 @@ pub fn row_of_cause(cause: RefusalCause) -> CauseRow
     }
 }
 
-/// The row of a log that looks so.
+/// What is said of a log that looks like something else.
 fn row_of_look(look: Look) -> CauseRow
     ensures { row_value result ≡ Spec.row_of_cause (RefusalCause.Looks look) }
 {

@@ -9,13 +9,13 @@ use text_parts::{Either, Part, say};
 use trace_io::TextSink;
 use trace_text::{Byte, Number};
 
-/// Up to so many bytes, all of a message are shown.
+/// All bytes of a message are shown where these are not more.
 pub(crate) const MOST_SHOWN: usize = 64;
 
-/// Up to so many, those behind the first ones are folded.
+/// The bytes of a message behind the first ones are folded where it has not more than so many, and else not shown.
 const MOST_FOLDED: usize = 512;
 
-/// So many are the first ones.
+/// So many bytes of a message are its first ones.
 pub(crate) const SHOWN_FIRST: usize = 32;
 
 /// Says a blank and two digits for each byte: of eight bytes at once, as long as there are eight.
@@ -30,7 +30,7 @@ pub(crate) fn say_bytes_behind<S: TextSink>(bytes: &[u8], out: &mut S)
     say_few_behind(rest, out);
 }
 
-/// Says them of fewer than eight bytes: they stand in front of eight, whose digits are made at once.
+/// Says a blank and two digits for each of fewer than eight bytes: these stand in front of eight, whose digits are made at once.
 fn say_few_behind<S: TextSink>(bytes: &[u8], out: &mut S)
     requires { length bytes.now < 8 }
     ensures { S.says out.old (bytes_behind bytes.now) out.new }
@@ -48,7 +48,7 @@ fn say_few_behind<S: TextSink>(bytes: &[u8], out: &mut S)
     }
 }
 
-/// Says them of so many of eight bytes.
+/// Says a blank and two digits for each of the first bytes of eight.
 #[inline(always)]
 fn say_front_behind<S: TextSink>(eight: &[u8; 8], count: usize, out: &mut S)
     requires { count ≤ 8 }

@@ -41,7 +41,7 @@ pub(crate) struct Follower {
     pub places: Places,
     /// When the last request was complete.
     pub asked: u64,
-    /// Whether it asked for no positive answer.
+    /// Whether the last request asked for no positive answer.
     pub silent: bool,
 }
 
@@ -143,7 +143,7 @@ impl Follower {
     }
 }
 
-/// The row of the request that waits, if one does: it has no answer.
+/// The row that tells that the request of the open exchange has no answer, if one is open.
 fn closing_row_of<'a>(waits: Option<u64>, silent: bool) -> Option<Row<'a>>
     ensures { (M : List Message) → IsWaiting M waits → IsSilent M silent → row_if result ≡ closing_rows M }
 {

@@ -148,7 +148,7 @@ fn keep_row_if(rows: &mut KeptRows, row: Option<Row<'_>>) -> Result<(), AllocErr
 /// Keeps the rows of a session.
 #[derive(Drop)]
 pub(crate) struct Keeper {
-    /// Of the frames so far, if there are any.
+    /// The times of the first frame so far and of the last one, if there are frames.
     pub times: Option<Times>,
     pub follower: Follower,
     pub rows: KeptRows,

@@ -127,7 +127,7 @@ impl KeptRows {
         }
     }
 
-    /// How many items they tell.
+    /// How many items the rows tell.
     pub(crate) fn items(&self) -> usize
         ensures value { result ≡ length (items_in self.now) }
         ensures small { result < 2 ^ 63 }
@@ -146,7 +146,7 @@ impl KeptRows {
         }
     }
 
-    /// How many there are of each sort.
+    /// How many rows there are of each sort.
     pub(crate) fn counts(&self) -> SortCounts
         ensures { result ≡ counts_in self.now }
     {

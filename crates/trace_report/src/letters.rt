@@ -48,21 +48,21 @@ fn is_letter(byte: u8) -> bool
     matches!(byte, b'0'..=b'9' | b'A'..=b'Z' | b'a'..=b'z')
 }
 
-/// Whether it is one of the signs that are shown.
+/// Whether a byte is one of the signs that are shown.
 fn is_sign(byte: u8) -> bool
     ensures { result ≡ Spec.is_sign byte }
 {
     matches!(byte, b'-' | b'.' | b'/' | b':' | b'_')
 }
 
-/// Whether it is shown as it is, and is no blank.
+/// Whether a byte is shown as it is, and is no blank.
 fn is_mark(byte: u8) -> bool
     ensures { result ≡ Spec.is_mark byte }
 {
     is_letter(byte) || is_sign(byte)
 }
 
-/// Whether four bytes in a row are.
+/// Whether four bytes in a row are shown as they are, without a blank.
 fn has_word(bytes: &[u8]) -> bool
     ensures { result ≡ Spec.has_word bytes.now }
 {

@@ -7,29 +7,32 @@
 //! event -> Follower -> rows -> Chart -> page
 //! ```
 //!
-//! [`report`] is a machine over the driver of `trace_run` (`reporter`). A `follower` knows what the rows to come
-//! depend on: the number of the exchange that waits, how and when its request came, and the `places` where messages
-//! begin. It answers the rows of a frame (`row`). The `chart` says them, in `blocks` that fold, and keeps a `tally` for
-//! the verdict.
-//!
-//! The text of a page is in pieces: its `front`; the rows of messages (`message_rows`, `brief_rows`) and of what is
-//! missing (`lost_rows`), by `cells`, `words` and `letters`; the `verdict`, with `reasons`, `links` and `counts`; of a
-//! refused log the `refusal`, with its `cause`, by what it `looks` like; and the `help`. Of the style it is proved that it
-//! holds no tag.
-//!
-//! Of two logs a page says first whether they are the same. So both are kept: [`keep_two`] keeps the rows of each
-//! (`keeper`), and [`write_pair_page`] writes the page of both.
+//! [`report`] is a machine over the driver of `trace_run`. Of two logs a page says first whether they are the same: so
+//! [`keep_two`] keeps the rows of both, and [`write_pair_page`] writes the page.
 //!
 //! ```text
 //! event -> Follower -> rows -> Keeper -> Session -> Two -> page
 //! ```
 //!
-//! The rows of a [`Session`] are `kept_rows`, which note the `item_places` among them, and lend `items`. [`Two`] has both
-//! sessions, whose items stand side by side, and their comparison. The first `contrast` of a pair is the difference that
-//! the page tells (`pair_verdict`) and shows by the rows around it (`difference`), with a mark at the byte (`marks`). The
-//! items before and behind it are rows of a table (`item_rows`, `pair_items`).
-//!
-//! [`in_memory`] answers of logs in memory with their page and the counts.
+//! | Part | Files | Definitions |
+//! |---|---|---|
+//! | what a row tells | `row`, `roles` | `Rows`, `Roles` |
+//! | the rows of a frame, by what the frames before it were | `follower`, `places`, `frames`, `times` | `Events` |
+//! | the text of a row | `cells`, `message_rows`, `brief_rows`, `lost_rows` | `Rows`, `MessageRows`, `BriefRows`, `LostRows` |
+//! | times and bytes in it | `durations`, `data`, `letters` | `Durations`, `Data`, `Letters` |
+//! | the chart: rows one after another, in blocks that fold | `chart`, `blocks` | `Chart`, `Blocks` |
+//! | what is counted, and where links lead | `sorts`, `tally`, `targets` | `Sorts`, `Targets`, `Linked` |
+//! | the verdict of a log | `verdict`, `reasons`, `links`, `counts` | `Verdict`, `Links`, `Counts` |
+//! | why a log is refused | `refusal`, `cause`, `looks` | `Verdict`, `Causes`, `Looks` |
+//! | what stands before the rows and behind them | `front`, `log_names`, `style`, `help` | `Front`, `Style`, `Help` |
+//! | [`report`] | `reporter` | `Page` |
+//! | [`Session`], [`Two`], [`keep_two`] | `keeper`, `session`, `kept_rows`, `item_places`, `items`, `two` | `Session`, `Items`, `Kept` |
+//! | how two items differ | `contrast`, `marks` | `Contrast`, `Marks` |
+//! | the chart of the first difference | `difference` | `Difference` |
+//! | the items of two sessions, a row for each number | `item_rows`, `pair_items` | `ItemRows`, `PairPage` |
+//! | [`write_pair_page`] | `pair_page`, `pair_verdict` | `PairPage` |
+//! | pages of logs in memory, with the counts | [`in_memory`] | `InMemory` |
+//! | what holds of each page | [`laws`] | `Laws`, `Numbers` |
 #![tactic(auto)]
 
 mod blocks;

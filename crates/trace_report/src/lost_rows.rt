@@ -142,7 +142,7 @@ impl Part for WhyDroppedInWords {
     }
 }
 
-/// The same of a frame that has no layout.
+/// Says why a frame has no layout, for a reader who knows no ISO 15765-2.
 fn say_layout_fault_words<S: TextSink>(fault: PduFault, out: &mut S)
     ensures { S.says out.old (layout_fault_words fault) out.new }
 {

@@ -82,9 +82,9 @@ impl Part for MessageFront {
     }
 }
 
-/// How a message looks, a class of the style. The other rows have some, too:
+/// The class of the style by which a message is shown. The other rows have some, too:
 ///
-/// | Class | Rows | Look |
+/// | Class | Rows | How they are shown |
 /// |---|---|---|
 /// | `q` | a request | the tester's colour |
 /// | `ok` | a positive answer | the unit's colour |
@@ -153,7 +153,7 @@ impl Part for Lines {
     }
 }
 
-/// The same, called so.
+/// The lines of the log from one to another, behind the word line or lines.
 #[derive(Clone, Copy)]
 pub(crate) struct NamedLines(pub u64, pub u64);
 

@@ -68,7 +68,7 @@ pub fn report<R: Source, W: Target>(
 #[derive(Drop)]
 pub(crate) struct Reporter<'a> {
     pub title: PageTitle<'a>,
-    /// Of the frames so far, if there are any.
+    /// The times of the first frame so far and of the last one, if there are frames.
     pub times: Option<Times>,
     pub follower: Follower,
     pub chart: Chart,

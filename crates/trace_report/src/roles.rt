@@ -19,7 +19,7 @@ pub(crate) fn role_of_step(asked: u64, step: Step, dir: Dir, message: &[u8]) -> 
     }
 }
 
-/// An answer by its first byte.
+/// What an answer is to its item, by its first byte.
 fn answer_role(asked: u64, message: &[u8]) -> MessageRole
     ensures { result ≡ Spec.answer_role asked message.now }
 {
@@ -30,7 +30,7 @@ fn answer_role(asked: u64, message: &[u8]) -> MessageRole
     }
 }
 
-/// A message of no exchange.
+/// What a message of either side is that belongs to no exchange.
 fn other_role(dir: Dir, message: &[u8]) -> MessageRole
     ensures { result ≡ Spec.other_role dir message.now }
 {
@@ -40,7 +40,7 @@ fn other_role(dir: Dir, message: &[u8]) -> MessageRole
     }
 }
 
-/// The same of a tester.
+/// A message of the tester that belongs to no exchange: the keep-alive, or a stray.
 fn other_tester_role(message: &[u8]) -> MessageRole
     ensures { result ≡ Spec.other_tester_role message.now }
 {

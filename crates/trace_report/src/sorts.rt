@@ -35,7 +35,7 @@ pub(crate) fn sort_of(row: Row<'_>) -> Sort
     }
 }
 
-/// The sort of a message.
+/// The sort of the row of a message of this role.
 fn sort_of_role(role: MessageRole) -> Sort
     ensures { result ≡ Spec.sort_of_role role }
 {
@@ -49,7 +49,8 @@ fn sort_of_role(role: MessageRole) -> Sort
     }
 }
 
-/// Whether rows of this sort need attention.
+/// Whether rows of this sort need attention: a page links to the first of them, and its filter hides each exchange without
+/// one.
 pub(crate) fn needs_attention(sort: Sort) -> bool
     ensures { result ≡ Spec.needs_attention sort }
 {
@@ -73,7 +74,7 @@ pub(crate) fn message_needs_attention(role: MessageRole) -> bool
     needs_attention(sort_of_role(role))
 }
 
-/// The sort of an item without an answer.
+/// The sort of the row of an item without an answer, which asked for no positive one or did.
 fn sort_of_silence(silent: bool) -> Sort
     ensures { result ≡ Spec.sort_of_silence silent }
 {

@@ -11,13 +11,13 @@ use crate::sorts::{Sort, sort_of, target_of};
 use crate::targets::Target;
 use arrayvec::ArrayVec;
 
-/// So many rows of a sort are linked to.
+/// So many rows of a sort are linked to at the most.
 pub(crate) const MOST_LINKS: u64 = 10;
 
 /// Where links to rows of a sort lead: to the first [`MOST_LINKS`] of them.
 pub(crate) type Targets = ArrayVec<Target, 10>;
 
-/// Of each sort that needs attention, where links to its first rows lead.
+/// Where links to the first rows lead of each sort that needs attention.
 #[derive(Debug, Drop)]
 pub(crate) struct FirstTargets {
     pub dropped: Targets,
