@@ -12,7 +12,7 @@ use Rattle.trace_log.specs.declared.fault.CompareFault.{CompareFault}
 use Rattle.trace_log.specs.declared.fault.CompareFault.TheVariants.{Left, Right}
 use Rattle.trace_log.specs.declared.fault.Fault.{Fault}
 use Rattle.trace_report.specs.Contrast.{FirstContrast, first_contrast}
-use Rattle.trace_report.specs.Items.{ItemPair, items_in, pairs_of}
+use Rattle.trace_report.specs.Items.{ItemPairValue, items_in, pairs_of}
 use Rattle.trace_report.specs.Session.{SessionValue, session_of}
 
 -- What two logs say, which are kept.
@@ -41,7 +41,7 @@ abbrev pub HasOwnFrame : Settings → List ℕ → Type 0
 HasOwnFrame = HasFrame (λ T e. ⊤)
 
 -- the items of the two sessions, number by number
-abbrev pub pairs_in : TwoValue → List ItemPair
+abbrev pub pairs_in : TwoValue → List ItemPairValue
 pairs_in two = pairs_of (items_in two.left.rows) (items_in two.right.rows)
 
 -- what two sessions are to each other, by their first difference, if they have one

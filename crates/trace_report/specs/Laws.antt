@@ -22,7 +22,7 @@ use Rattle.trace_report.specs.Events.{asked_in, completes_request, rows_of}
 use Rattle.trace_report.specs.Roles.{role_of_step}
 use Rattle.trace_report.specs.Front.{name_text}
 use Rattle.trace_report.specs.Kept.{KeepsTwo, TwoValue, comparison_by, comparison_in}
-use Rattle.trace_report.specs.Items.{RowMessage, PlacedItem, item_value, items_in, pairs_of}
+use Rattle.trace_report.specs.Items.{RowMessageValue, PlacedItemValue, item_value, items_in, pairs_of}
 use Rattle.trace_report.specs.Linked.{HasEachTarget, identifiers_in}
 use Rattle.trace_report.specs.Looks.{begins}
 use Rattle.trace_report.specs.Page.{all_rows}
@@ -89,7 +89,7 @@ LinksHaveTargets = (settings : Settings) (meanings : List (Option Stamped))
 -- what the page of two sessions says of their items is so: they are the same exactly if their values are, and else
 -- differ first where these do
 abbrev pub ComparisonIsOfItems : Type 0
-ComparisonIsOfItems = (left right : List PlacedItem)
+ComparisonIsOfItems = (left right : List PlacedItemValue)
     → IsFirstDifference (map item_value left) (map item_value right) (difference (comparison_by (first_contrast (pairs_of left right))))
 
 -- the items that the rows of a session tell are what its messages mean, and so those that `list` and `compare` have
@@ -115,13 +115,13 @@ abbrev pub NegativeIsNegative : Type 0
 NegativeIsNegative = (asked : ℕ) (d : Dir) (bytes : List ℕ) → (role_of_step asked becomes.Answer d bytes ≡ message_role.Negative asked) ↔ (is_negative_response bytes ≡ true)
 
 -- the answer to an exchange in this one of two logs
-abbrev pub answer_of : LogName → Option RowMessage → Option RowMessage → Option RowMessage
+abbrev pub answer_of : LogName → Option RowMessageValue → Option RowMessageValue → Option RowMessageValue
 answer_of A left right = left
 answer_of B left right = right
 
 -- the log that is said to have no answer to an exchange has none
 abbrev pub UnansweredHasNone : Type 0
-UnansweredHasNone = (left right : Option RowMessage) (log : LogName)
+UnansweredHasNone = (left right : Option RowMessageValue) (log : LogName)
     → contrast_of_answers left right ≡ Some (contrast.Unanswered log) → answer_of log left right ≡ None
 
 -- a message in its place, but that its first frame came at this time

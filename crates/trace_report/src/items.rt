@@ -3,22 +3,22 @@ use crate::kept_rows::KeptMessage;
 
 /// A message of a session, lent.
 #[derive(Clone, Copy)]
-pub(crate) struct LentMessage<'a> {
+pub(crate) struct RowMessage<'a> {
     pub sent: &'a KeptMessage,
     pub bytes: &'a [u8],
 }
 
 /// An item of a session, lent: the message that begins it, and its answer, if it has one.
 #[derive(Clone, Copy)]
-pub(crate) struct LentItem<'a> {
-    pub begin: LentMessage<'a>,
-    pub answer: Option<LentMessage<'a>>,
+pub(crate) struct PlacedItem<'a> {
+    pub begin: RowMessage<'a>,
+    pub answer: Option<RowMessage<'a>>,
 }
 
 /// What two sessions have of one number, lent.
 #[derive(Clone, Copy)]
-pub(crate) enum LentPair<'a> {
-    Both(LentItem<'a>, LentItem<'a>),
-    OnlyLeft(LentItem<'a>),
-    OnlyRight(LentItem<'a>),
+pub(crate) enum ItemPair<'a> {
+    Both(PlacedItem<'a>, PlacedItem<'a>),
+    OnlyLeft(PlacedItem<'a>),
+    OnlyRight(PlacedItem<'a>),
 }

@@ -10,7 +10,7 @@ ghost use Rattle.trace_report.specs.proving.Pages.{row_of};
 
 use crate::counts::SortCounts;
 use crate::item_places::{ItemPlace, note_row};
-use crate::items::{LentItem, LentMessage};
+use crate::items::{PlacedItem, RowMessage};
 use crate::row::{MessagePlace, MessageRole, Row};
 use crate::sorts::sort_of;
 use direction::Dir;
@@ -137,7 +137,7 @@ impl KeptRows {
 
     /// The item at a place, counted from 0, if there is one.
     #[inline(always)]
-    pub(crate) fn item(&self, at: usize) -> Option<LentItem<'_>>
+    pub(crate) fn item(&self, at: usize) -> Option<PlacedItem<'_>>
         ensures { option_map item_of result ≡ slice_get (items_in self.now) at }
     {
         match self.items.get(at) {
@@ -227,7 +227,11 @@ fn row_at<'a>(messages: &'a Messages, row: KeptRow) -> Row<'a>
 
 /// The item that stands there among the rows, lent.
 #[inline(always)]
-fn item_at<'a>(messages: &'a Messages, rows: &'a [KeptRow], item: ItemPlace) -> Option<LentItem<'a>>
+fn item_at<'a>(
+    messages: &'a Messages,
+    rows: &'a [KeptRow],
+    item: ItemPlace,
+) -> Option<PlacedItem<'a>>
     requires { AreLaid messages.now rows.now }
     ensures { option_map item_of result ≡ Keeping.placed_at (rows_at messages.now rows.now) item }
 {
@@ -240,20 +244,20 @@ fn item_at<'a>(messages: &'a Messages, rows: &'a [KeptRow], item: ItemPlace) -> 
 fn item_with<'a>(
     messages: &'a Messages,
     rows: &'a [KeptRow],
-    begin: LentMessage<'a>,
+    begin: RowMessage<'a>,
     answer: Option<usize>,
-) -> Option<LentItem<'a>>
+) -> Option<PlacedItem<'a>>
     requires { AreLaid messages.now rows.now }
     ensures { option_map item_of result ≡ Keeping.item_with (rows_at messages.now rows.now) (message_of begin.entry) answer }
 {
     match answer {
-        None => Some(LentItem {
+        None => Some(PlacedItem {
             begin,
             answer: None,
         }),
         Some(at) => {
             let reply = message_at(messages, rows, at)?;
-            Some(LentItem {
+            Some(PlacedItem {
                 begin,
                 answer: Some(reply),
             })
@@ -263,7 +267,7 @@ fn item_with<'a>(
 
 /// The message of the row at a place, lent, if there is one.
 #[inline(always)]
-fn message_at<'a>(messages: &'a Messages, rows: &'a [KeptRow], at: usize) -> Option<LentMessage<'a>>
+fn message_at<'a>(messages: &'a Messages, rows: &'a [KeptRow], at: usize) -> Option<RowMessage<'a>>
     requires { AreLaid messages.now rows.now }
     ensures { option_map message_of result ≡ Keeping.message_at (rows_at messages.now rows.now) at }
 {
@@ -275,12 +279,12 @@ fn message_at<'a>(messages: &'a Messages, rows: &'a [KeptRow], at: usize) -> Opt
 
 /// The message of a row, lent, if it has one.
 #[inline(always)]
-fn message_of_row<'a>(messages: &'a Messages, row: &'a KeptRow) -> Option<LentMessage<'a>>
+fn message_of_row<'a>(messages: &'a Messages, row: &'a KeptRow) -> Option<RowMessage<'a>>
     requires { IsLaid messages.now row.now }
     ensures { option_map message_of result ≡ message_in (Keeping.row_at messages.now row.now) }
 {
     match row {
-        KeptRow::Message(sent) => Some(LentMessage {
+        KeptRow::Message(sent) => Some(RowMessage {
             sent,
             bytes: messages.message(sent.bytes),
         }),

@@ -1,7 +1,7 @@
 -- Devices of proof: the rows of a session as they are kept, and where its items stand among them.
 use Rattle.std.specs.Prelude.{◌≡◌, ℕ, zero, suc, ⊤, Bool, true, false, List, [], ◌∷◌, ◌++◌, length, map, Option, Some, None, option_map, slice_get}
 use Rattle.uds_exchange.specs.Blocks.{IsInside, bytes_at}
-use Rattle.trace_report.specs.Items.{RowMessage, PlacedItem, items_in, message_in}
+use Rattle.trace_report.specs.Items.{RowMessageValue, PlacedItemValue, items_in, message_in}
 use Rattle.trace_report.specs.Rows.{RowValue, message, no_answer, dropped, ended, unfinished}
 use Rattle.trace_report.specs.Sorts.{counts_in}
 use Rattle.trace_report.specs.declared.counts.SortCounts.{SortCounts}
@@ -42,13 +42,13 @@ AreLaid blocks (row ∷ rest) = IsLaid blocks row × AreLaid blocks rest
 
 -- What a row is to items: it begins an exchange, answers one, begins another item, or is nothing to them.
 pub data RowPart : Type 0 where
-  asks : RowMessage → RowPart
-  answers : RowMessage → RowPart
-  begins : RowMessage → RowPart
+  asks : RowMessageValue → RowPart
+  answers : RowMessageValue → RowPart
+  begins : RowMessageValue → RowPart
   nothing : RowPart
 
 -- what a row is to items that tells a message of this role
-abbrev pub part_by : MessageRole → RowMessage → RowPart
+abbrev pub part_by : MessageRole → RowMessageValue → RowPart
 part_by role.Request sent = asks sent
 part_by (role.Positive asked) sent = answers sent
 part_by (role.Negative asked) sent = answers sent
@@ -97,34 +97,34 @@ waiting_in rows = waiting_of (map part_of rows)
 -- Where items stand.
 
 -- the message of a row, if there is one
-abbrev pub message_if : Option RowValue → Option RowMessage
+abbrev pub message_if : Option RowValue → Option RowMessageValue
 message_if None = None
 message_if (Some row) = message_in row
 
 -- the message of the row at this place, if there is one
-abbrev pub message_at : List RowValue → ℕ → Option RowMessage
+abbrev pub message_at : List RowValue → ℕ → Option RowMessageValue
 message_at rows at = message_if (slice_get rows at)
 
 -- the item that this message begins and that has this answer, if it has one
-abbrev pub item_by : RowMessage → Option RowMessage → PlacedItem
+abbrev pub item_by : RowMessageValue → Option RowMessageValue → PlacedItemValue
 item_by begin answer = record { begin = begin; answer = answer }
 
 -- the item that begins with this message, and whose answer stands there, if it has one
-abbrev pub item_with : List RowValue → RowMessage → Option ℕ → Option PlacedItem
+abbrev pub item_with : List RowValue → RowMessageValue → Option ℕ → Option PlacedItemValue
 item_with rows begin None = Some (item_by begin None)
-item_with rows begin (Some at) = option_map (λ (reply : RowMessage). item_by begin (Some reply)) (message_at rows at)
+item_with rows begin (Some at) = option_map (λ (reply : RowMessageValue). item_by begin (Some reply)) (message_at rows at)
 
 -- the item that begins with this message, if there is one, and whose answer stands there, if it has one
-abbrev pub item_if : List RowValue → Option RowMessage → Option ℕ → Option PlacedItem
+abbrev pub item_if : List RowValue → Option RowMessageValue → Option ℕ → Option PlacedItemValue
 item_if rows None answer = None
 item_if rows (Some begin) answer = item_with rows begin answer
 
 -- the item that stands in this place among the rows
-abbrev pub placed_at : List RowValue → ItemPlace → Option PlacedItem
+abbrev pub placed_at : List RowValue → ItemPlace → Option PlacedItemValue
 placed_at rows item = item_if rows (message_at rows item.begin) item.answer
 
 -- these items stand in these places among the rows
-abbrev pub ArePlaced : List RowValue → List ItemPlace → List PlacedItem → Type 0
+abbrev pub ArePlaced : List RowValue → List ItemPlace → List PlacedItemValue → Type 0
 ArePlaced rows [] [] = ⊤
 ArePlaced rows [] (item ∷ items) = ⊥
 ArePlaced rows (place ∷ places) [] = ⊥
@@ -155,13 +155,13 @@ places_answered places None at = places
 places_answered places (Some number) at = place_answered places number at
 
 -- these items, of which the one of this number has this answer
-abbrev pub item_answered : List PlacedItem → ℕ → RowMessage → List PlacedItem
+abbrev pub item_answered : List PlacedItemValue → ℕ → RowMessageValue → List PlacedItemValue
 item_answered [] number reply = []
 item_answered (item ∷ rest) zero reply = item_by item.begin (Some reply) ∷ rest
 item_answered (item ∷ rest) (suc number) reply = item ∷ item_answered rest number reply
 
 -- these items, of which the one that waits, if one does, has this answer
-abbrev pub items_answered : List PlacedItem → Option ℕ → RowMessage → List PlacedItem
+abbrev pub items_answered : List PlacedItemValue → Option ℕ → RowMessageValue → List PlacedItemValue
 items_answered items None reply = items
 items_answered items (Some number) reply = item_answered items number reply
 
