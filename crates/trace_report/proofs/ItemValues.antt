@@ -18,7 +18,7 @@ use Rattle.trace_report.specs.Roles.{role_of_step}
 use Rattle.trace_report.specs.Items.{RowMessageValue, answer_in, item_value, items_in}
 use Rattle.trace_report.specs.Rows.{RowValue, message, no_answer, dropped, ended, unfinished}
 use Rattle.trace_report.specs.declared.row.MessagePlace.{MessagePlace}
-use Rattle.trace_report.specs.declared.row.MessageRole.TheVariants as role
+use Rattle.trace_report.specs.declared.roles.MessageRole.TheVariants as role
 
 -- What a row is to items.
 pub data RowKind : Type 0 where

@@ -6,7 +6,7 @@ use Rattle.std.proofs.lemmas.Option.{none-some, same_Some}
 use Rattle.trace_report.specs.Items.{RowMessageValue, PlacedItemValue, answer_in, items_in, message_in}
 use Rattle.trace_report.specs.Rows.{RowValue, message, no_answer, dropped, ended, unfinished}
 use Rattle.trace_report.specs.declared.item_places.ItemPlace.{ItemPlace}
-use Rattle.trace_report.specs.declared.row.MessageRole.TheVariants as role
+use Rattle.trace_report.specs.declared.roles.MessageRole.TheVariants as role
 use Rattle.trace_report.specs.proving.Keeping.{RowPart, asks, answers, begins, nothing, part_of, awaits, place_later, place_by, waiting_of, waiting_in, message_at, item_by, item_with, item_if, placed_at, ArePlaced, answered_at, place_answered, places_answered, item_answered, items_answered, places_begun, places_next, waiting_next}
 
 -- Items by what rows are to them.

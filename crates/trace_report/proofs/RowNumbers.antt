@@ -27,8 +27,8 @@ use Rattle.trace_report.specs.Roles.{role_of_step}
 use Rattle.trace_report.specs.Numbers.{HasItem, HasPart, HasPartBy, IsUnanswered, RowNumbersArePlaces, TellsItsItem}
 use Rattle.trace_report.specs.Rows.{RowValue}
 use Rattle.trace_report.specs.Rows as row
-use Rattle.trace_report.specs.declared.row.MessageRole.{MessageRole}
-use Rattle.trace_report.specs.declared.row.MessageRole.TheVariants as role
+use Rattle.trace_report.specs.declared.roles.MessageRole.{MessageRole}
+use Rattle.trace_report.specs.declared.roles.MessageRole.TheVariants as role
 use Rattle.trace_report.proofs.Distinct.{at-front}
 use Rattle.trace_report.proofs.ItemNumbers.{Becomes, begun-still, item-still, one-grows, one-has, open-number, open-stands}
 use Rattle.trace_report.proofs.Steps.{rows_next}

@@ -7,8 +7,8 @@ use Rattle.trace_report.specs.Laws.{NegativeIsNegative, UnansweredHasNone}
 use Rattle.trace_report.specs.declared.contrast.Contrast.TheVariants as contrast
 use Rattle.trace_report.specs.declared.contrast.LogName.{LogName}
 use Rattle.trace_report.specs.declared.contrast.LogName.TheVariants.{A, B}
-use Rattle.trace_report.specs.declared.row.MessageRole.{MessageRole}
-use Rattle.trace_report.specs.declared.row.MessageRole.TheVariants as is
+use Rattle.trace_report.specs.declared.roles.MessageRole.{MessageRole}
+use Rattle.trace_report.specs.declared.roles.MessageRole.TheVariants as is
 
 abbrev by_test : ℕ → Bool → MessageRole
 by_test asked negative = if negative then is.Negative asked else is.Positive asked

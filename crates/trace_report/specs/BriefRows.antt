@@ -4,13 +4,13 @@ use Rattle.std.specs.Prelude.{ℕ, true, List, [], ◌++◌, codes, if◌then◌
 use Rattle.direction.specs.declared.Dir.{Dir}
 use Rattle.uds_message.specs.Message.{sid}
 use Rattle.trace_report.specs.declared.row.MessagePlace.{MessagePlace}
-use Rattle.trace_report.specs.declared.row.MessageRole.{MessageRole}
+use Rattle.trace_report.specs.declared.roles.MessageRole.{MessageRole}
 use Rattle.trace_report.specs.Targets.{side_text}
 use Rattle.trace_report.specs.Data.{brief_data}
 use Rattle.trace_text.specs.Words.{service_text}
 use Rattle.trace_report.specs.MessageRows.{message_front, after_text, message_row}
 use Rattle.trace_report.specs.Sorts.{message_needs_attention}
-use Rattle.trace_report.specs.declared.row.MessageRole.TheVariants as role
+use Rattle.trace_report.specs.declared.roles.MessageRole.TheVariants as role
 
 -- the words of a message that needs no attention, in a block of brief rows; one that does has none there
 abbrev pub brief_words : MessageRole → ℕ → List ℕ → List ℕ

@@ -6,7 +6,7 @@ use Rattle.uds_exchange.specs.Meaning.{ItemValue, exchange, stray}
 use Rattle.trace_report.specs.Roles.{is_request_role, begins_item, is_answer_role}
 use Rattle.trace_report.specs.Rows.{RowValue, message, no_answer, dropped, ended, unfinished}
 use Rattle.trace_report.specs.declared.row.MessagePlace.{MessagePlace}
-use Rattle.trace_report.specs.declared.row.MessageRole.{MessageRole}
+use Rattle.trace_report.specs.declared.roles.MessageRole.{MessageRole}
 
 -- A message of a session: what it is to its item, who sent it, where it stands, and its bytes.
 pub record RowMessageValue : Type 0 where

@@ -35,8 +35,8 @@ use Rattle.trace_report.specs.declared.contrast.Contrast.TheVariants as contrast
 use Rattle.trace_report.specs.declared.contrast.LogName.{LogName}
 use Rattle.trace_report.specs.declared.contrast.LogName.TheVariants.{A, B}
 use Rattle.trace_report.specs.declared.row.MessagePlace.{MessagePlace}
-use Rattle.trace_report.specs.declared.row.MessageRole.{MessageRole}
-use Rattle.trace_report.specs.declared.row.MessageRole.TheVariants as message_role
+use Rattle.trace_report.specs.declared.roles.MessageRole.{MessageRole}
+use Rattle.trace_report.specs.declared.roles.MessageRole.TheVariants as message_role
 
 -- a byte that opens and closes nothing in HTML: printable ASCII, and none of < > " '
 abbrev pub is_harmless : ℕ → Bool

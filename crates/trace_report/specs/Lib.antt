@@ -1,8 +1,6 @@
 pub mod Durations
 pub mod Letters
 pub mod Data
-pub mod Style
-pub mod Front
 pub mod Targets
 pub mod Roles
 pub mod Rows
@@ -18,6 +16,8 @@ pub mod Counts
 pub mod Looks
 pub mod Causes
 pub mod Verdict
+pub mod Style
+pub mod Front
 pub mod Help
 pub mod Page
 pub mod Linked

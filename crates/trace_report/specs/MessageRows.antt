@@ -4,7 +4,7 @@ use Rattle.std.specs.Fmt.{decimal}
 use Rattle.direction.specs.declared.Dir.{Dir}
 use Rattle.uds_message.specs.Message.{sid, response_code}
 use Rattle.trace_report.specs.declared.row.MessagePlace.{MessagePlace}
-use Rattle.trace_report.specs.declared.row.MessageRole.{MessageRole}
+use Rattle.trace_report.specs.declared.roles.MessageRole.{MessageRole}
 use Rattle.trace_report.specs.Targets.{identifier}
 use Rattle.trace_report.specs.declared.targets.Target.TheVariants as target
 use Rattle.trace_report.specs.Data.{data_text}
@@ -13,7 +13,7 @@ use Rattle.trace_text.specs.Words.{direction_text, service_text, code_text}
 use Rattle.trace_report.specs.Rows.{cell_front, cell_end}
 use Rattle.trace_report.specs.Roles.{begins_item, asked_at}
 use Rattle.trace_report.specs.declared.row.Arrow.TheVariants as arrow
-use Rattle.trace_report.specs.declared.row.MessageRole.TheVariants as role
+use Rattle.trace_report.specs.declared.roles.MessageRole.TheVariants as role
 
 -- the class of the style by which a message is shown: what it is to its item
 abbrev pub role_class : MessageRole → List ℕ

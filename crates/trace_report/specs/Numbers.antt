@@ -13,8 +13,8 @@ use Rattle.uds_message.specs.Message.{is_suppressing}
 use Rattle.trace_canon.specs.MessageLines.{placed_behind}
 use Rattle.trace_report.specs.Page.{all_rows}
 use Rattle.trace_report.specs.Rows.{RowValue, message, no_answer, dropped, ended, unfinished}
-use Rattle.trace_report.specs.declared.row.MessageRole.{MessageRole}
-use Rattle.trace_report.specs.declared.row.MessageRole.TheVariants as message_role
+use Rattle.trace_report.specs.declared.roles.MessageRole.{MessageRole}
+use Rattle.trace_report.specs.declared.roles.MessageRole.TheVariants as message_role
 
 -- the item of this number, counted from 1, stands among these, and this holds of it
 abbrev pub HasItem : List ItemValue → ℕ → (ItemValue → Type 0) → Type 0

@@ -8,7 +8,7 @@ use Rattle.isotp_receive.specs.declared.event.Reason.{Reason}
 use Rattle.trace_canon.specs.declared.reception_starts.FramePlace.{FramePlace}
 use Rattle.trace_report.specs.declared.row.Arrow.{Arrow}
 use Rattle.trace_report.specs.declared.row.MessagePlace.{MessagePlace}
-use Rattle.trace_report.specs.declared.row.MessageRole.{MessageRole}
+use Rattle.trace_report.specs.declared.roles.MessageRole.{MessageRole}
 use Rattle.trace_report.specs.Targets.{side_text}
 use Rattle.trace_report.specs.declared.row.Arrow.TheVariants as arrow
 

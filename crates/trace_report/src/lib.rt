@@ -16,23 +16,24 @@
 //!
 //! | Part | Files | Definitions |
 //! |---|---|---|
-//! | what a row tells | `row`, `roles` | `Rows`, `Roles` |
-//! | the rows of a frame, by what the frames before it were | `follower`, `places`, `frames`, `times` | `Events` |
+//! | times and bytes, as rows show them | `durations`, `letters`, `data` | `Durations`, `Letters`, `Data` |
+//! | what a row tells | `targets`, `roles`, `row` | `Targets`, `Roles`, `Rows` |
+//! | what is counted, and where links lead | `sorts`, `tally` | `Sorts`, `Linked` |
 //! | the text of a row | `cells`, `message_rows`, `brief_rows`, `lost_rows` | `Rows`, `MessageRows`, `BriefRows`, `LostRows` |
-//! | times and bytes in it | `durations`, `data`, `letters` | `Durations`, `Data`, `Letters` |
-//! | the chart: rows one after another, in blocks that fold | `chart`, `blocks` | `Chart`, `Blocks` |
-//! | what is counted, and where links lead | `sorts`, `tally`, `targets` | `Sorts`, `Targets`, `Linked` |
-//! | the verdict of a log | `verdict`, `reasons`, `links`, `counts` | `Verdict`, `Links`, `Counts` |
-//! | why a log is refused | `refusal`, `cause`, `looks` | `Verdict`, `Causes`, `Looks` |
-//! | what stands before the rows and behind them | `front`, `log_names`, `style`, `help` | `Front`, `Style`, `Help` |
+//! | the chart: rows one after another, in blocks that fold | `blocks`, `chart` | `Blocks`, `Chart` |
+//! | the rows of a frame, by what the frames before it were | `follower`, `places`, `frames`, `times` | `Events` |
+//! | the verdict of a log | `verdict`, `links`, `counts`, `reasons` | `Links`, `Counts`, `Verdict` |
+//! | why a log is refused | `looks`, `cause`, `refusal` | `Looks`, `Causes`, `Verdict` |
+//! | what stands before the rows and behind them | `style`, `front`, `log_names`, `help` | `Style`, `Front`, `Help` |
 //! | [`report`] | `reporter` | `Page` |
-//! | [`Session`], [`Two`], [`keep_two`] | `keeper`, `session`, `kept_rows`, `item_places`, `items`, `two` | `Session`, `Items`, `Kept` |
+//! | the items of a session, by its rows | `kept_rows`, `item_places`, `items` | `Items` |
 //! | how two items differ | `contrast`, `marks` | `Contrast`, `Marks` |
-//! | the chart of the first difference | `difference` | `Difference` |
 //! | the items of two sessions, a row for each number | `item_rows`, `pair_items` | `ItemRows`, `PairPage` |
+//! | the chart of the first difference | `difference` | `Difference` |
+//! | [`keep_two`], [`Session`], [`Two`] | `keeper`, `session`, `two` | `Session`, `Kept` |
 //! | [`write_pair_page`] | `pair_page`, `pair_verdict` | `PairPage` |
 //! | pages of logs in memory, with the counts | [`in_memory`] | `InMemory` |
-//! | what holds of each page | [`laws`] | `Laws`, `Numbers` |
+//! | what holds of each page | [`laws`] | `Numbers`, `Laws` |
 #![tactic(auto)]
 
 mod blocks;

@@ -2,10 +2,20 @@
 ghost use Rattle.std.specs.Prelude.{◌≡◌};
 ghost use Rattle.trace_report.specs.Roles as Spec;
 
-use crate::row::MessageRole;
 use direction::Dir;
 use uds_exchange::Step;
 use uds_message::{TesterKind, is_negative_response, tester_kind};
+
+/// What a message is to its item. A reply has the time of the last frame of its request.
+#[derive(Clone, Copy, Debug)]
+pub(crate) enum MessageRole {
+    Request,
+    Positive { asked: u64 },
+    Negative { asked: u64 },
+    Pending { asked: u64 },
+    KeepAlive,
+    Stray,
+}
 
 /// What a message is, by what becomes of it, where the last request was complete at the time `asked`.
 pub(crate) fn role_of_step(asked: u64, step: Step, dir: Dir, message: &[u8]) -> MessageRole

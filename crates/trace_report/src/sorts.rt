@@ -3,7 +3,8 @@ ghost use Rattle.std.specs.Prelude.{◌≡◌};
 ghost use Rattle.trace_report.specs.Sorts as Spec;
 ghost use Rattle.trace_report.specs.proving.Pages.{row_of};
 
-use crate::row::{MessageRole, Row};
+use crate::roles::MessageRole;
+use crate::row::Row;
 use crate::targets::Target;
 
 /// What needs attention, and what else is counted.
