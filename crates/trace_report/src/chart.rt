@@ -1,7 +1,7 @@
 //! The chart of a page, as far as its rows were said.
 ghost use Rattle.std.specs.Prelude.{◌≡◌, ◌^◌, ◌<◌, ◌-◌, List, [], ◌∷◌, ◌++◌, length};
-ghost use Rattle.trace_report.specs.Blocks.{blocks_of};
-ghost use Rattle.trace_report.specs.Chart.{rows_text};
+ghost use Rattle.trace_report.specs.Blocks.{blocks_behind, blocks_of};
+ghost use Rattle.trace_report.specs.Chart.{message_text, row_text, rows_text};
 ghost use Rattle.trace_report.specs.Rows.{RowValue};
 ghost use Rattle.trace_report.specs.proving.Following.{IsChartOf, row_if, rows_in};
 ghost use Rattle.trace_report.specs.proving.Pages.{row_of};

@@ -11,3 +11,15 @@ pub(crate) enum Target {
     /// The row of what stands of this side at the end of the log.
     Side(Dir),
 }
+
+/// What stands in a place of a list that has no target yet. It is none of a page, since items are counted from 1.
+impl Default for Target {
+    ghost use Rattle.std.specs.Prelude.{◌≡◌};
+    ghost use Rattle.trace_report.specs.declared.targets.Target.TheVariants.{Item};
+
+    ghost is_default = { λ target. target ≡ Item 0 };
+
+    fn default() -> Self {
+        Target::Item(0)
+    }
+}
