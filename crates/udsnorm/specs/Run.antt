@@ -1,5 +1,5 @@
 -- What a run over logs answers, what it takes from its input, and what its output takes.
-use Rattle.std.specs.Prelude.{◌≡◌, ◌≢◌, ℕ, ◌+◌, ◌-◌, ◌⊎◌, Bool, List, length, true, false, Option, Result, Err}
+use Rattle.std.specs.Prelude.{◌≡◌, ◌≢◌, ℕ, ◌+◌, ◌⊎◌, Bool, List, true, false, Option, Result, Err}
 use Rattle.trace_log.specs.Settings.{Settings}
 use Rattle.trace_log.specs.Devices.{AgreesWith, bytes_given, ReadFrom}
 use Rattle.trace_log.specs.Failing.{FailedIf}
