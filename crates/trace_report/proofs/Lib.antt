@@ -15,13 +15,14 @@ mod ItemValues
 mod SessionItems
 mod Agreeing
 mod Placing
+mod Beginning
 mod Keeping
 mod Comparing
 mod PairTexts
 mod Distinct
 mod LineOrder
 mod RowTargets
-mod Identifiers
+mod DistinctIdentifiers
 pub mod Harmless
 pub mod PageStyle
 pub mod ToldAnswers

@@ -1,6 +1,6 @@
 -- The items of a session by its rows: each with the message that begins it and its answer, in the order of the numbers that
 -- `udsnorm list` gives them; and the items of two sessions side by side.
-use Rattle.std.specs.Prelude.{ℕ, Bool, true, false, List, [], ◌∷◌, Option, Some, None, option_map, if◌then◌else◌}
+use Rattle.std.specs.Prelude.{ℕ, ◌+◌, ◌-◌, ◌==◌, Bool, true, false, List, [], ◌∷◌, Option, Some, None, option_map, if◌then◌else◌}
 use Rattle.direction.specs.declared.Dir.{Dir}
 use Rattle.uds_exchange.specs.Meaning.{ItemValue, exchange, stray}
 use Rattle.trace_report.specs.Blocks.{is_request_role}
@@ -89,3 +89,17 @@ pairs_of [] [] = []
 pairs_of (a ∷ left) [] = only_left a ∷ pairs_of left []
 pairs_of [] (b ∷ right) = only_right b ∷ pairs_of [] right
 pairs_of (a ∷ left) (b ∷ right) = both a b ∷ pairs_of left right
+
+-- an item begins with the row
+abbrev pub begins : RowValue → Bool
+begins (message is d place bytes) = begins_item is
+begins (no_answer number silent) = false
+begins (dropped place d named why) = false
+begins (ended place end) = false
+begins (unfinished d line len) = false
+
+-- how many rows stand before the one with which the item of this place begins, counted from 0; all, where there is none
+abbrev pub rows_before : ℕ → List RowValue → ℕ
+rows_before item [] = 0
+rows_before item (row ∷ rows) =
+    if begins row then (if item == 0 then 0 else 1 + rows_before (item - 1) rows) else 1 + rows_before item rows

@@ -45,7 +45,7 @@ pub(crate) fn begins_exchange(row: Row<'_>) -> bool
 }
 
 /// Whether a message begins one.
-pub(crate) fn is_request_role(role: MessageRole) -> bool
+pub fn is_request_role(role: MessageRole) -> bool
     ensures { result ≡ Spec.is_request_role role }
 {
     match role {
@@ -187,7 +187,7 @@ impl Part for BlockEnd {
 
 /// The header of a chart.
 #[derive(Clone, Copy)]
-pub(crate) struct ChartHead;
+pub struct ChartHead;
 
 impl Part for ChartHead {
     ghost use Rattle.trace_report.specs.Blocks.{chart_head};

@@ -84,7 +84,7 @@ impl Part for PairHelpStart {
 
 /// The heading.
 #[derive(Clone, Copy)]
-struct HelpHeading;
+pub struct HelpHeading;
 
 impl Part for HelpHeading {
     ghost use Rattle.trace_report.specs.Help.{help_heading};
@@ -101,7 +101,7 @@ impl Part for HelpHeading {
 
 /// Which times are told.
 #[derive(Clone, Copy)]
-struct TimesWords;
+pub struct TimesWords;
 
 impl Part for TimesWords {
     ghost use Rattle.trace_report.specs.Help.{times_words};
@@ -118,7 +118,7 @@ impl Part for TimesWords {
 
 /// What each row is.
 #[derive(Clone, Copy)]
-struct Legend;
+pub struct Legend;
 
 impl Part for Legend {
     ghost use Rattle.trace_report.specs.Help.{legend_text};
@@ -186,7 +186,7 @@ impl Part for OthersLegend {
 
 /// What a page does not show.
 #[derive(Clone, Copy)]
-struct Limits;
+pub struct Limits;
 
 impl Part for Limits {
     ghost use Rattle.trace_report.specs.Help.{limits_text};
@@ -206,7 +206,7 @@ impl Part for Limits {
 
 /// The sign that the page is whole.
 #[derive(Clone, Copy)]
-struct Tail;
+pub struct Tail;
 
 impl Part for Tail {
     ghost use Rattle.trace_report.specs.Help.{tail_text};

@@ -7,14 +7,14 @@ use crate::row::MessageRole;
 
 /// A message of a session, lent.
 #[derive(Clone, Copy)]
-pub(crate) struct LentMessage<'a> {
+pub struct LentMessage<'a> {
     pub sent: &'a KeptMessage,
     pub bytes: &'a [u8],
 }
 
 /// An item of a session, lent: the message that begins it, and its answer, if it has one.
 #[derive(Clone, Copy)]
-pub(crate) struct LentItem<'a> {
+pub struct LentItem<'a> {
     pub begin: LentMessage<'a>,
     pub answer: Option<LentMessage<'a>>,
 }
@@ -28,7 +28,7 @@ pub(crate) enum LentPair<'a> {
 }
 
 /// Whether a message answers a request.
-pub(crate) fn is_answer_role(role: MessageRole) -> bool
+pub fn is_answer_role(role: MessageRole) -> bool
     ensures { result ≡ Spec.is_answer_role role }
 {
     match role {

@@ -43,7 +43,7 @@ pub(crate) fn say_message_row<S: TextSink>(
 
 /// Where a message stands, as a row to which links lead or not.
 #[derive(Clone, Copy)]
-pub(crate) struct MessageFront {
+pub struct MessageFront {
     pub linked: bool,
     pub origin: u64,
     pub role: MessageRole,
@@ -113,7 +113,7 @@ impl Part for RoleClass {
 }
 
 /// Whether a message begins an item.
-pub(crate) fn begins_item(role: MessageRole) -> bool
+pub fn begins_item(role: MessageRole) -> bool
     ensures { result ≡ Spec.begins_item role }
 {
     match role {
@@ -166,7 +166,7 @@ impl Part for Lines {
 
 /// The same, called so.
 #[derive(Clone, Copy)]
-pub(crate) struct NamedLines(pub u64, pub u64);
+pub struct NamedLines(pub u64, pub u64);
 
 impl Part for NamedLines {
     ghost use Rattle.trace_report.specs.Rows.{named_lines};
@@ -186,7 +186,7 @@ impl Part for NamedLines {
 
 /// What a message is to its item.
 #[derive(Clone, Copy)]
-pub(crate) struct RoleWords<'a>(pub MessageRole, pub Dir, pub &'a [u8]);
+pub struct RoleWords<'a>(pub MessageRole, pub Dir, pub &'a [u8]);
 
 impl<'a> Part for RoleWords<'a> {
     ghost use Rattle.trace_report.specs.Rows.{role_words};
@@ -217,7 +217,7 @@ impl<'a> Part for RoleWords<'a> {
 }
 
 /// When the last frame of the request came to which a message replies, if it replies to one.
-pub(crate) fn asked_at(role: MessageRole) -> Option<u64>
+pub fn asked_at(role: MessageRole) -> Option<u64>
     ensures { result ≡ Spec.asked_at role }
 {
     match role {
@@ -231,7 +231,7 @@ pub(crate) fn asked_at(role: MessageRole) -> Option<u64>
 /// The note on a message of so many bytes: how many frames carry them, and how long after its request the first of them
 /// came, if it replies to one.
 #[derive(Clone, Copy)]
-pub(crate) struct Note(pub MessageRole, pub MessagePlace, pub u64);
+pub struct Note(pub MessageRole, pub MessagePlace, pub u64);
 
 impl Part for Note {
     ghost use Rattle.trace_report.specs.Rows.{note_text};
@@ -263,7 +263,7 @@ impl Part for Note {
 
 /// How long after its request a message began, behind another note, if it replies to one.
 #[derive(Clone, Copy)]
-pub(crate) struct FurtherNote(pub Option<u64>, pub u64);
+pub struct FurtherNote(pub Option<u64>, pub u64);
 
 impl Part for FurtherNote {
     ghost use Rattle.trace_report.specs.Rows.{further_note};

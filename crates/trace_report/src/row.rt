@@ -6,7 +6,7 @@ use trace_canon::reception_starts::FramePlace;
 
 /// What a message is to its item. A reply has the time of the last frame of its request.
 #[derive(Clone, Copy, Debug)]
-pub(crate) enum MessageRole {
+pub enum MessageRole {
     Request,
     Positive { asked: u64 },
     Negative { asked: u64 },
@@ -17,7 +17,7 @@ pub(crate) enum MessageRole {
 
 /// Where a message stands: its item, its first frame and its last one, and how many carry its bytes.
 #[derive(Clone, Copy, Debug)]
-pub(crate) struct MessagePlace {
+pub struct MessagePlace {
     pub item: u64,
     pub first: FramePlace,
     pub last: FramePlace,
@@ -26,7 +26,7 @@ pub(crate) struct MessagePlace {
 
 /// How an arrow of the chart ends.
 #[derive(Clone, Copy, Debug)]
-pub(crate) enum Arrow {
+pub enum Arrow {
     /// In a head: a message.
     Headed,
     /// In a cross: a frame that was dropped.
@@ -37,7 +37,7 @@ pub(crate) enum Arrow {
 
 /// What a row tells.
 #[derive(Clone, Copy, Debug)]
-pub(crate) enum Row<'a> {
+pub enum Row<'a> {
     /// A message, which this side sent.
     Message {
         role: MessageRole,

@@ -20,7 +20,7 @@ pub(crate) const SHOWN_FIRST: usize = 32;
 
 /// The seconds from one time to another: a minus, where one is before another.
 #[derive(Clone, Copy)]
-pub(crate) struct Seconds(pub u64, pub u64);
+pub struct Seconds(pub u64, pub u64);
 
 impl Part for Seconds {
     ghost use Rattle.trace_report.specs.Words.{seconds_between};
@@ -120,7 +120,7 @@ fn eight_behind(bytes: &[u8; 8]) -> [u8; 24]
 
 /// Two digits for each byte, and a blank between.
 #[derive(Clone, Copy)]
-struct BytesApart<'a>(&'a [u8]);
+pub struct BytesApart<'a>(pub &'a [u8]);
 
 impl<'a> Part for BytesApart<'a> {
     ghost use Rattle.trace_report.specs.Words.{bytes_apart};
@@ -137,7 +137,7 @@ impl<'a> Part for BytesApart<'a> {
 
 /// The bytes of a message, as far as its row shows them.
 #[derive(Clone, Copy)]
-pub(crate) struct Data<'a>(pub &'a [u8]);
+pub struct Data<'a>(pub &'a [u8]);
 
 impl<'a> Part for Data<'a> {
     ghost use Rattle.trace_report.specs.Words.{data_text};
@@ -203,13 +203,22 @@ impl<'a> Part for BriefData<'a> {
             let more = rest.len() as u64;
             say(
                 out,
-                (
-                    BytesApart(front),
-                    " and ",
-                    Number(more),
-                    Either(more == 1, " byte more", " bytes more"),
-                ),
+                (BytesApart(front), " and ", Number(more), MoreWords(more)),
             );
         }
+    }
+}
+
+/// So many bytes more, in words behind their number.
+#[derive(Clone, Copy)]
+pub struct MoreWords(pub u64);
+
+impl Part for MoreWords {
+    ghost use Rattle.trace_report.specs.Words.{more_words};
+
+    ghost text = { λ more. more_words more.0 };
+
+    fn say<S: TextSink>(self, out: &mut S) {
+        say(out, Either(self.0 == 1, " byte more", " bytes more"));
     }
 }

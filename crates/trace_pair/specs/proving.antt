@@ -1,0 +1,3 @@
+-- Devices of proof.
+pub mod Marks
+pub mod Beside
