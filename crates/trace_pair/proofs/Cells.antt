@@ -63,8 +63,8 @@ module _ {S : Type 0} (says : S → List ℕ → S → Type 0) (onward : (s m t 
   turn-cell marked at here now new below there left said =
       let first = cut-first columns at to here below there in
       let parts : cells_behind log marked (here ∷ take (to - (at + 1)) (drop (at + 1) columns))
-          ≡ (mark_end marked (differs here) ++ codes " " ++ mark_start marked (differs here) ++ byte_or_gap (byte_of log here))
-          ++ cells_behind log (differs here) (take (to - (at + 1)) (drop (at + 1) columns)) = sym (simp append_assoc) in
+      ≡ (mark_end marked (differs here) ++ codes " " ++ mark_start marked (differs here) ++ byte_or_gap (byte_of log here))
+      ++ cells_behind log (differs here) (take (to - (at + 1)) (drop (at + 1) columns)) = sym (simp append_assoc) in
       say-more says onward old now new _ _ whole (same-rest says old now _ _ whole (ap (cells_behind log marked) first ∙ parts) left) said
 
   -- and that is all

@@ -32,8 +32,8 @@ module _ {S : Type 0} (says : S → List ℕ → S → Type 0) (onward : (s m t 
       let first = (stretches_are_walked columns at (count - at)).1 (omega arith) in
       let sum : count - at - fold ≡ count - (at + fold) = omega arith in
       let here = first
-          ∙ ap (λ (n : ℕ). folded at n ∷ stretches_from columns (at + n) (count - at - n)) (sym is)
-          ∙ ap (λ (n : ℕ). folded at fold ∷ stretches_from columns (at + fold) n) sum in
+      ∙ ap (λ (n : ℕ). folded at n ∷ stretches_from columns (at + n) (count - at - n)) (sym is)
+      ∙ ap (λ (n : ℕ). folded at fold ∷ stretches_from columns (at + fold) n) sum in
       say-more says onward old now new (text (folded at fold)) (flat_map text (stretches_from columns (at + fold) (count - (at + fold)))) whole
       (same-rest says old now _ _ whole (ap (flat_map text) here) left) said
 

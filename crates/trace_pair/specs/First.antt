@@ -78,7 +78,7 @@ chart_message log marked origin is d place bytes =
 abbrev pub chart_row : Log → Option Marked → ℕ → RowValue → List ℕ
 chart_row log marked origin (message is d place bytes) = chart_message log marked origin is d place bytes
 chart_row log marked origin (no_answer number silent) = no_answer_row number silent
-chart_row log marked origin (dropped place d named why) = dropped_row origin place d true why
+chart_row log marked origin (dropped place d linked why) = dropped_row false origin place d why
 chart_row log marked origin (ended place end) = ended_row false origin place end
 chart_row log marked origin (unfinished d line len) = unfinished_row false d line len
 

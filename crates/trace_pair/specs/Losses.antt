@@ -12,7 +12,7 @@ use Rattle.trace_pair.specs.Logs.{letter, letter_mark}
 abbrev pub is_loss : RowValue → Bool
 is_loss (message is d place bytes) = false
 is_loss (no_answer number silent) = false
-is_loss (dropped place d named why) = true
+is_loss (dropped place d linked why) = true
 is_loss (ended place end) = true
 is_loss (unfinished d line len) = true
 
@@ -43,7 +43,7 @@ losses_from rows item (suc more) = length (losses_of rows item) + losses_from ro
 abbrev pub loss_words : RowValue → List ℕ
 loss_words (message is d place bytes) = []
 loss_words (no_answer number silent) = []
-loss_words (dropped place d named why) = codes "line " ++ decimal place.line ++ codes ": " ++ dropped_words d why
+loss_words (dropped place d linked why) = codes "line " ++ decimal place.line ++ codes ": " ++ dropped_words d why
 loss_words (ended place end) = codes "line " ++ decimal place.line ++ codes ": " ++ ended_words end
 loss_words (unfinished d line len) = unfinished_words d line len
 

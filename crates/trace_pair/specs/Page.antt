@@ -11,8 +11,8 @@ use Rattle.trace_report.specs.Held.{TwoValue}
 use Rattle.trace_report.specs.Session.{SessionValue}
 use Rattle.trace_report.specs.Sorts.{counts_in}
 use Rattle.trace_report.specs.Verdict.{refusal_words, span_of}
-use Rattle.trace_report.specs.declared.cause.Cause.{Cause}
-use Rattle.trace_run.specs.Told.{Glimpse}
+use Rattle.trace_report.specs.declared.cause.RefusalCause.{RefusalCause}
+use Rattle.trace_run.specs.Told.{GlimpseValue}
 use Rattle.uds_difference.specs.Bound.{bound_for}
 use Rattle.uds_difference.specs.Rows.{is_shortest, rows_of}
 use Rattle.uds_difference.specs.declared.row.Row.{Row}
@@ -79,7 +79,7 @@ page_of title left right =
     (rows_of (values_in left) (values_in right)) left right
 
 -- the page where this log is refused
-abbrev pub refused_page : TitleValue → Log → Fault → Option Cause → List ℕ
+abbrev pub refused_page : TitleValue → Log → Fault → Option RefusalCause → List ℕ
 refused_page title log why cause =
     front title 0 ++ codes "<section id=\"verdict\" class=\"bad\">\n<h2><span aria-hidden=\"true\">&#10005;</span> " ++ letter log
     ++ codes " is refused, so nothing is compared</h2>\n<p><em>" ++ refusal_words why
@@ -96,16 +96,16 @@ has_page Read = false
 has_page Write = false
 has_page Memory = false
 
-abbrev pub unread_page : TitleValue → Log → Fault → Option Cause → List ℕ
+abbrev pub unread_page : TitleValue → Log → Fault → Option RefusalCause → List ℕ
 unread_page title log why cause = if has_page why then refused_page title log why cause else []
 
 -- the page of what is answered of two logs, where this is the cause of a refusal
-abbrev pub pair_page : TitleValue → Result TwoValue CompareFault → Option Cause → List ℕ
+abbrev pub pair_page : TitleValue → Result TwoValue CompareFault → Option RefusalCause → List ℕ
 pair_page title (Ok two) cause = page_of title two.left two.right
 pair_page title (Err (Left why)) cause = unread_page title A why cause
 pair_page title (Err (Right why)) cause = unread_page title B why cause
 
 -- the cause of a refusal of one of two logs with this limit, by what is seen of both sources
-abbrev pub cause_of_pair : CompareFault → ℕ → Glimpse → Glimpse → Option Cause
+abbrev pub cause_of_pair : CompareFault → ℕ → GlimpseValue → GlimpseValue → Option RefusalCause
 cause_of_pair (Left why) most left right = cause_of why most left
 cause_of_pair (Right why) most left right = cause_of why most right

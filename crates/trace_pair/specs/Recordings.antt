@@ -4,13 +4,13 @@ use Rattle.std.specs.Fmt.{decimal}
 use Rattle.can_log.specs.Digits as digits
 use Rattle.calendar.specs.declared.time.CivilTime.{CivilTime}
 use Rattle.calendar.specs.Times.{time_after}
-use Rattle.trace_canon.specs.MessageLines.{stamp_text}
 use Rattle.trace_log.specs.Summing.{is_clean}
 use Rattle.trace_log.specs.declared.summary.Summary.{Summary}
 use Rattle.trace_report.specs.Front.{name_text}
 use Rattle.trace_report.specs.Session.{SessionValue}
 use Rattle.trace_report.specs.Verdict.{is_called_clean, strict_words}
 use Rattle.trace_report.specs.Words.{seconds_between}
+use Rattle.trace_text.specs.Words.{stamp_text}
 use Rattle.trace_pair.specs.declared.log.Log.{Log}
 use Rattle.trace_pair.specs.declared.log.Log.TheVariants.{A, B}
 use Rattle.trace_pair.specs.Logs.{lettered_name}

@@ -109,7 +109,12 @@ fn say_row<S: TextSink>(
             say(
                 out,
                 (
-                    MessageFront(false, origin, role, place),
+                    MessageFront {
+                        linked: false,
+                        origin,
+                        role,
+                        place,
+                    },
                     CellFront(dir),
                     RoleWords(role, dir, message),
                 ),
@@ -129,7 +134,7 @@ fn say_row<S: TextSink>(
             dir,
             reason,
             ..
-        } => say_dropped_row(origin, place, dir, true, reason, out),
+        } => say_dropped_row(false, origin, place, dir, reason, out),
         Row::Ended { place, ended } => say_ended_row(false, origin, place, ended, out),
         Row::Unfinished { dir, line, len } => say_unfinished_row(false, dir, line, len, out),
     }

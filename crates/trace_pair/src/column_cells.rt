@@ -70,10 +70,7 @@ fn say_cells<S: TextSink>(log: Log, columns: &Beside<'_>, from: usize, to: usize
         let differs = column.differs();
         say(
             out,
-            (
-                MarkStart(false, differs),
-                ByteOrGap(byte_of(log, column)),
-            ),
+            (MarkStart(false, differs), ByteOrGap(byte_of(log, column))),
         );
         say_cells_behind(log, columns, from + 1, to, differs, out);
     }

@@ -5,8 +5,7 @@ ghost use Rattle.can_log.specs.Digits.{decimal};
 use calendar::{CivilTime, civil_time};
 use text_parts::{Part, say};
 use trace_io::TextSink;
-use trace_report::Stamp;
-use trace_text::Number;
+use trace_text::Stamp;
 
 /// A stamp, with its date where it is one.
 #[derive(Clone, Copy)]

@@ -9,7 +9,7 @@ use crate::aligned::Aligned;
 use crate::page::write_pair_page;
 use crate::title::Title;
 use std::alloc::Global;
-use trace_canon::counted::CountedComparison;
+use trace_canon::in_memory::CountedComparison;
 use trace_io::{Bytes, Writing};
 use trace_log::{CompareFault, Config, Fault};
 use trace_report::{Two, keep_two};

@@ -4,7 +4,7 @@ ghost use Rattle.trace_pair.specs.ItemWords as Spec;
 
 use text_parts::{Part, say};
 use trace_io::TextSink;
-use trace_text::Code;
+use trace_text::ResponseCode;
 use uds_message::{is_negative_response, is_suppressing, response_code};
 
 /// What came of a request.
@@ -26,7 +26,7 @@ impl Part for Outcome {
     fn say<S: TextSink>(self, out: &mut S) {
         match self {
             Outcome::Positive => say(out, "positive"),
-            Outcome::Refused(code) => say(out, ("refused with <b>", Code(code), "</b>")),
+            Outcome::Refused(code) => say(out, ("refused with <b>", ResponseCode(code), "</b>")),
             Outcome::Silent => say(out, "silent, as the request asks"),
             Outcome::Unanswered => say(out, "without an answer"),
         }

@@ -19,7 +19,7 @@ use shown_rows::count_changes;
 use text_parts::{Part, say};
 use trace_io::{Target, TextSink};
 use trace_log::{CompareFault, Fault};
-use trace_report::{Cause, CauseLine, Counts, Refusal, Session, SpanOf};
+use trace_report::{CauseLine, Counts, Refusal, RefusalCause, Session, SpanOf};
 use trace_run::print;
 
 /// Writes the page of what is answered of two logs, where this is the cause of a refusal. Nothing is written where a
@@ -29,7 +29,7 @@ use trace_run::print;
 pub fn write_pair_page<W: Target>(
     title: &Title<'_>,
     answer: &Result<Aligned, CompareFault>,
-    cause: Option<Cause>,
+    cause: Option<RefusalCause>,
     target: &mut W,
 ) -> Result<(), Fault>
     requires { IsLowCount (W.failures target.old) }
@@ -50,7 +50,7 @@ pub fn write_pair_page<W: Target>(
 struct PairPage<'a> {
     title: &'a Title<'a>,
     answer: &'a Result<Aligned, CompareFault>,
-    cause: Option<Cause>,
+    cause: Option<RefusalCause>,
 }
 
 impl<'a> Part for PairPage<'a> {
@@ -105,7 +105,11 @@ fn say_counts<S: TextSink>(log: Log, name: &[u8], session: &Session, out: &mut S
             State(&summary),
             "</p>\n",
             Counts(&session.rows().counts(), &summary),
-            SpanOf(summary.frames, session.first(), session.last()),
+            SpanOf {
+                frames: summary.frames,
+                first: session.first(),
+                last: session.last(),
+            },
             "</section>\n",
         ),
     );
@@ -116,7 +120,7 @@ fn say_unread<S: TextSink>(
     title: &Title<'_>,
     log: Log,
     why: Fault,
-    cause: Option<Cause>,
+    cause: Option<RefusalCause>,
     out: &mut S,
 )
     ensures { S.says out.old (Spec.unread_page (title_of title.now) log why cause) out.new }

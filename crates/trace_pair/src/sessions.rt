@@ -6,7 +6,7 @@ ghost use Rattle.trace_report.specs.proving.Lending.{item_of as placed_item, mes
 ghost use Rattle.trace_pair.specs.Sessions.{values_in};
 
 use trace_report::{LentItem, LentMessage, Session, is_request_role};
-use uds_difference::Items;
+use uds_difference::ItemSource;
 use uds_exchange::Item;
 
 /// Both sessions of a page.
@@ -20,7 +20,7 @@ pub(crate) struct Sessions<'a> {
 #[derive(Clone, Copy)]
 pub(crate) struct ItemsOf<'a>(pub &'a Session);
 
-impl<'a> Items for ItemsOf<'a> {
+impl<'a> ItemSource for ItemsOf<'a> {
     ghost use Rattle.trace_pair.specs.Sessions.{values_in};
 
     ghost items = { λ of. values_in of.0.now };

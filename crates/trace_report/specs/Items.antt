@@ -94,7 +94,7 @@ pairs_of (a ∷ left) (b ∷ right) = both a b ∷ pairs_of left right
 abbrev pub begins : RowValue → Bool
 begins (message is d place bytes) = begins_item is
 begins (no_answer number silent) = false
-begins (dropped place d named why) = false
+begins (dropped place d linked why) = false
 begins (ended place end) = false
 begins (unfinished d line len) = false
 

@@ -139,7 +139,7 @@ begin_places before (row ∷ rows) = if Items.begins row then before ∷ begin_p
 abbrev pub begun_at : RowValue → ℕ → List ℕ
 begun_at row at = if Items.begins row then at ∷ [] else []
 
-abbrev pub begin_of : KeptItem → ℕ
+abbrev pub begin_of : ItemPlace → ℕ
 begin_of item = item.begin
 
 -- the place that is found, or else the end
