@@ -72,9 +72,9 @@ fn kilobytes_are_held_for_an_answer(rt: HostRuntime) -> Result<(), Fail> {
     for _ in 0..MANY {
         orderer.take(Unit, &STRAY, &mut put)?;
     }
-    assert!(rt; orderer.held_bytes() == 50_000 && put.messages == 1);
+    assert!(rt; orderer.held() == 50_000 && put.messages == 1);
     orderer.take(Unit, &[0x62, 0xF1, 0x90], &mut put)?;
-    assert!(rt; orderer.held_bytes() == 0 && put.messages == MANY + 2 && put.bytes == 50_006);
+    assert!(rt; orderer.held() == 0 && put.messages == MANY + 2 && put.bytes == 50_006);
     Ok(())
 }
 

@@ -6,7 +6,7 @@ use crate::rows::{
 };
 use direction::Dir::Unit;
 use isotp_receive::MESSAGE_LIMIT;
-use isotp_segment::{CanonicalFrames, SINGLE_LIMIT, frame_count, single_frame};
+use isotp_segment::{SINGLE_LIMIT, Segments, frame_count, single_frame};
 use std::alloc::Global;
 use std::process::Abort;
 use std::test::Fail;
@@ -32,7 +32,7 @@ fn each_message_has_its_frames_and_then_none(rt: HostRuntime) -> Result<(), Fail
         let (dir, message) = message_spelled(alloc, message)?;
         assert!(rt; !message.is_empty() && message.len() <= MESSAGE_LIMIT as usize);
         let count = frame_count(message.len());
-        let mut frames = CanonicalFrames::new(dir, &message);
+        let mut frames = Segments::new(dir, &message);
         let mut text = String::new(alloc);
         for _ in 0..count {
             let (dir, data) = frames.next().ok_or("no frame")?;
@@ -149,7 +149,7 @@ fn ends_of(alloc: Global, len: usize) -> Result<Ends, Fail> {
         first: [0; 8],
         last: [0; 8],
     };
-    for (_dir, data) in CanonicalFrames::new(Unit, &message) {
+    for (_dir, data) in Segments::new(Unit, &message) {
         if ends.frames == 0 {
             ends.first = data;
         }

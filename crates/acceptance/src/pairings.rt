@@ -489,7 +489,7 @@ fn steps_of(alloc: Global, row: &str, sink: &mut Recorder) -> Result<String, Fai
         if let Some(message) = line.strip_prefix("message ") {
             let (dir, bytes) = message_spelled(alloc, message)?;
             let answer = orderer.take(dir, &bytes, sink);
-            push_step(alloc, &mut steps, answer, orderer.held_bytes(), sink.put)?;
+            push_step(alloc, &mut steps, answer, orderer.held(), sink.put)?;
         }
     }
     let answer = orderer.finish(sink);

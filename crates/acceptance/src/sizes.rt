@@ -118,7 +118,7 @@ fn strays_of_each_size_are_held_together(rt: HostRuntime) -> Result<(), Fail> {
         orderer.take(Unit, front_of(&stray, size), &mut bytes)?;
         held = held.saturating_add(size);
     }
-    assert!(rt; orderer.held_bytes() == held as u64 && bytes.put == 1);
+    assert!(rt; orderer.held() == held as u64 && bytes.put == 1);
     orderer.take(Unit, &[ANSWER], &mut bytes)?;
     assert!(rt; bytes.put == held.saturating_add(2));
     Ok(())

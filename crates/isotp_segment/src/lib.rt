@@ -7,7 +7,7 @@
 //!
 //! ```
 //! let answer = [0x62, 0xF1, 0x90, 0x41, 0x42, 0x43, 0x44, 0x45];
-//! for (dir, bytes) in CanonicalFrames::new(Dir::Unit, &answer) {
+//! for (dir, bytes) in Segments::new(Dir::Unit, &answer) {
 //!     // Unit   10 08 62 F1 90 41 42 43
 //!     // Tester 30 00 00 CC CC CC CC CC
 //!     // Unit   21 44 45 CC CC CC CC CC
@@ -15,11 +15,11 @@
 //! ```
 #![tactic(auto)]
 
-mod canonical_frames;
 mod frame;
 pub mod laws;
+mod segments;
 mod single;
 
-pub use canonical_frames::CanonicalFrames;
 pub use frame::frame_count;
+pub use segments::Segments;
 pub use single::{SINGLE_LIMIT, single_frame};

@@ -4,7 +4,7 @@ use crate::message::{message_of, sum_of};
 use can_log::{Frame, Id, Kind};
 use direction::Dir;
 use isotp_receive::{Pair, Verdict};
-use isotp_segment::CanonicalFrames;
+use isotp_segment::Segments;
 use std::alloc::{AllocError, Global};
 
 /// The lengths and the last bytes of `count` messages of this size, as they are received, added up.
@@ -26,7 +26,7 @@ pub(crate) fn sum_of_messages(alloc: Global, size: u64, count: u64) -> Result<u6
 fn frames_of(alloc: Global, size: u64) -> Result<Vec<(Dir, Frame)>, AllocError> {
     let message = message_of(alloc, size)?;
     let mut frames = Vec::new(alloc);
-    for (dir, bytes) in CanonicalFrames::new(Dir::Unit, &message) {
+    for (dir, bytes) in Segments::new(Dir::Unit, &message) {
         if let Some(frame) = Frame::new(Id::Std(0x7E8), Kind::Classic, &bytes) {
             frames.push((dir, frame))?;
         }

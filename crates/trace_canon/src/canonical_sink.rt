@@ -21,7 +21,7 @@ use can_log::{
     extended_name, line_end, line_length,
 };
 use direction::Dir;
-use isotp_segment::{CanonicalFrames, SINGLE_LIMIT, single_frame};
+use isotp_segment::{SINGLE_LIMIT, Segments, single_frame};
 use std::alloc::AllocError;
 use trace_io::TextSink;
 use trace_log::Config;
@@ -73,13 +73,7 @@ fn say_canonical<S: TextSink>(
         if message.len() <= SINGLE_LIMIT {
             say_frame(out, config, progress, dir, &single_frame(message));
         } else {
-            say_frames(
-                out,
-                config,
-                progress,
-                dir,
-                CanonicalFrames::new(dir, message),
-            );
+            say_frames(out, config, progress, dir, Segments::new(dir, message));
         }
     }
 }
@@ -91,7 +85,7 @@ fn say_frames<S: TextSink>(
     config: &Config,
     progress: &mut Progress,
     dir: Dir,
-    frames: CanonicalFrames<'_>,
+    frames: Segments<'_>,
 )
     ensures says { S.says out.old (text_from config.now progress.old frames.entry) out.new }
     ensures progress { progress.new ≡ progress_after config.now progress.old frames.entry }
@@ -151,8 +145,8 @@ fn say_full_frames<'a, S: TextSink>(
     config: &Config,
     progress: &mut Progress,
     sender: Dir,
-    frames: CanonicalFrames<'a>,
-) -> CanonicalFrames<'a>
+    frames: Segments<'a>,
+) -> Segments<'a>
     ensures says { SaysFront S.says config.now progress.old out.old frames.entry progress.new out.new result }
     ensures fewer { length result ≤ length frames.entry }
     ensures misses_none { IsFullNext sender result → progress.new.room ≡ 0 }
@@ -194,8 +188,8 @@ fn say_stretch<'a, S: TextSink, const NAME: usize>(
     progress: &mut Progress,
     sender: Dir,
     name: [u8; NAME],
-    frames: CanonicalFrames<'a>,
-) -> CanonicalFrames<'a>
+    frames: Segments<'a>,
+) -> Segments<'a>
     requires name { name ≡ canonical_name (id_of config.now sender) }
     requires short { NAME ≤ EXTENDED_NAME }
     ensures says { SaysFront S.says config.now progress.old out.old frames.entry progress.new out.new result }

@@ -158,14 +158,18 @@ impl<M: Machine, W: Target> Receiver<M, W> {
         ensures told { (T : List Entry) → self.old.pair.receptions ≡ receptions_after MESSAGE_LIMIT T → length T < 2 ^ 62
             → TellsFrame M.stands M.script M.needs W.Target T (entry_at line stamped.now dir) self.old.telling device.old result self.new.telling device.new }
     {
-        let event = self.pair.accept(line, stamped.micros, dir, &stamped.frame)?;
-        let frame = FrameEvent {
-            line,
-            micros: stamped.micros,
-            dir,
-            event,
-        };
-        hand_on(&mut self.counts, &mut self.telling, device, frame)
+        match self.pair.accept(line, stamped.micros, dir, &stamped.frame) {
+            Ok(event) => {
+                let frame = FrameEvent {
+                    line,
+                    micros: stamped.micros,
+                    dir,
+                    event,
+                };
+                hand_on(&mut self.counts, &mut self.telling, device, frame)
+            }
+            Err(_refused) => Err(Fault::Memory),
+        }
     }
 }
 

@@ -111,7 +111,10 @@ impl<M: Machine, W: Target> Telling<M, W> {
                     event,
                     message,
                 };
-                Ok(tell(&mut self.machine, target, &mut self.page, seen)?)
+                match tell(&mut self.machine, target, &mut self.page, seen) {
+                    Ok(()) => Ok(()),
+                    Err(_refused) => Err(Fault::Memory),
+                }
             }
         }
     }

@@ -44,10 +44,10 @@ impl Orderer {
 
     /// The sum of the lengths of the messages that are held; 0 where no request is open. After a fault of the sink it
     /// says nothing.
-    pub fn held_bytes(&self) -> u64
+    pub fn held(&self) -> u64
         ensures { result ≡ sum_by (λ x. length x.1) self.now.holds }
     {
-        self.orderer.held_bytes()
+        self.orderer.held()
     }
 
     /// Takes one more message, and puts all whose place is now known. No memory is taken for a message that is put

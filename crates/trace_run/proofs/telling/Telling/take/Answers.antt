@@ -6,7 +6,6 @@ use Rattle.isotp_receive.specs.Verdict.{messages}
 use Rattle.isotp_receive.proofs.Promises.{messages_are_few}
 use Rattle.trace_log.specs.declared.fault.Fault.TheVariants.{Oversize}
 use Rattle.trace_run.specs.proving.Telling.{stops_for}
-use Rattle.trace_log.proofs.Promises.{handed_on}
 use Rattle.trace_run.proofs.ToldFrames.{tells_next, stops_at, stops_before}
 use Rattle.trace_run.proofs.StoppedLines.{stopped_for, not_stopped_for}
 use Rattle.trace_run.proofs.telling.Telling.take.Goals as goal
@@ -26,40 +25,40 @@ returns-in-Some-clause-told g c = λ T e seen.
       kept = λ start first earlier tells sure. sure;
     }
 
-pub returns-in_ok-tell-in-None-clause-told : goal.returns-in_ok-tell-in-None-clause-told
-returns-in_ok-tell-in-None-clause-told g c = λ T e seen.
+pub returns-in-Ok-clause-told : goal.returns-in-Ok-clause-told
+returns-in-Ok-clause-told g c = λ T e seen.
     let M = g.M.Machine in
     let few : length (messages MESSAGE_LIMIT T) < 2 ^ 62 = omega (arith, messages_are_few MESSAGE_LIMIT T, seen.few) in
     record {
       ok = λ start first tells.
           let script = M.script first in
           let strict = c.is_strict.ensures first T tells.machine_stands in
-          let said = c.in_ok-tell-in-None.ensures.ok first T e (record { event = seen; message = c.judged_message-message.ensures.judged (messages MESSAGE_LIMIT T) few tells.judged.counted }) tells.machine_stands in
+          let said = c.in-Ok.ensures.ok first T e (record { event = seen; message = c.judged_message-message.ensures.judged (messages MESSAGE_LIMIT T) few tells.judged.counted }) tells.machine_stands in
           tells_next (M.stands first) g.W.Target script (M.needs first) start T e c.args.frame.line c.args.frame.dir (seen_event c.args.frame.event) seen.dir seen.did
           _ _ _ _ _ _ _ _ _ _ tells (c.judged_message-message.ensures.next (messages MESSAGE_LIMIT T) few tells.judged) said.0
           (not_stopped_for script.strict T e (seen_event c.args.frame.event) seen.did
           (subst (λ b. stops_for b (seen_event c.args.frame.event).verdict ≡ None) strict (sym c.stops_for.ensures ∙ c.in-None.is))) said.1;
       err = tt;
       kept = λ start first earlier tells sure.
-          let said = c.in_ok-tell-in-None.ensures.ok first T e (record { event = seen; message = c.judged_message-message.ensures.judged (messages MESSAGE_LIMIT T) few tells.judged.counted }) tells.machine_stands in
+          let said = c.in-Ok.ensures.ok first T e (record { event = seen; message = c.judged_message-message.ensures.judged (messages MESSAGE_LIMIT T) few tells.judged.counted }) tells.machine_stands in
           record { within = sure.within; mid = sure.mid; said = sure.said ++ (M.script first).word T e; wrote = sure.wrote; carried = said.1 sure.mid sure.said sure.carried };
     }
 
-pub returns-in_err-tell-in-None-clause-told : goal.returns-in_err-tell-in-None-clause-told
-returns-in_err-tell-in-None-clause-told g c = λ T e seen.
+pub returns-in-Err-clause-told : goal.returns-in-Err-clause-told
+returns-in-Err-clause-told g c = λ T e seen.
     let M = g.M.Machine in
     let few : length (messages MESSAGE_LIMIT T) < 2 ^ 62 = omega (arith, messages_are_few MESSAGE_LIMIT T, seen.few) in
-    rw (handed_on c.from_residual.result _ c.from_residual.ensures.1) (record {
+    record {
       ok = tt;
       err = λ start first tells.
           let script = M.script first in
           let strict = c.is_strict.ensures first T tells.machine_stands in
-          let needs = c.in_err-tell-in-None.ensures.needs first T e (record { event = seen; message = c.judged_message-message.ensures.judged (messages MESSAGE_LIMIT T) few tells.judged.counted }) tells.machine_stands in
+          let needs = c.in-Err.ensures.needs first T e (record { event = seen; message = c.judged_message-message.ensures.judged (messages MESSAGE_LIMIT T) few tells.judged.counted }) tells.machine_stands in
           stops_at (M.stands first) g.W.Target script (M.needs first) start T e _ _ _ _ _ _ _ _ tells
           (not_stopped_for script.strict T e (seen_event c.args.frame.event) seen.did
           (subst (λ b. stops_for b (seen_event c.args.frame.event).verdict ≡ None) strict (sym c.stops_for.ensures ∙ c.in-None.is)))
-          needs (c.in_err-tell-in-None.ensures.err first T tells.machine_stands);
+          needs (c.in-Err.ensures.err first T tells.machine_stands);
       kept = λ start first earlier tells sure.
-          let said = c.in_err-tell-in-None.ensures.err first T tells.machine_stands in
+          let said = c.in-Err.ensures.err first T tells.machine_stands in
           record { within = sure.within; mid = sure.mid; said = sure.said ++ []; wrote = sure.wrote; carried = said sure.mid sure.said sure.carried };
-    })
+    }

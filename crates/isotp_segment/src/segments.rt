@@ -12,7 +12,7 @@ use std::marker::Model;
 
 /// The canonical frames of a message, one after another: who sends it, and its bytes.
 #[derive(Debug, Drop)]
-pub struct CanonicalFrames<'a> {
+pub struct Segments<'a> {
     dir: Dir,
     message: &'a [u8],
     /// How many frames there are.
@@ -22,7 +22,7 @@ pub struct CanonicalFrames<'a> {
 }
 
 // A contract sees the frames that it still gives.
-impl<'a> Model for CanonicalFrames<'a> {
+impl<'a> Model for Segments<'a> {
     ghost use Rattle.std.specs.Prelude.{ℕ, List, drop};
     ghost use Rattle.direction.specs.declared.Dir.{Dir};
     ghost use Rattle.isotp_receive.specs.declared.TheConstants.{MESSAGE_LIMIT};
@@ -36,18 +36,18 @@ impl<'a> Model for CanonicalFrames<'a> {
     ghost invariant = { λ s. AreGiven s.message.now s.count s.number };
 }
 
-impl<'a> CanonicalFrames<'a> {
+impl<'a> Segments<'a> {
     ghost use Rattle.std.specs.Prelude.{◌≡◌, ◌≤◌, [], ◌∷◌, List, ℕ, length, IfSome, IfNone, IsSome};
     ghost use Rattle.isotp_segment.specs.CanonicalFrames.{IsFullNext, canonical_frames};
     ghost use Rattle.isotp_receive.specs.declared.TheConstants.{MESSAGE_LIMIT};
 
     /// The frames of a message that is sent in the direction `dir`.
-    pub fn new(dir: Dir, message: &'a [u8]) -> CanonicalFrames<'a>
+    pub fn new(dir: Dir, message: &'a [u8]) -> Segments<'a>
         requires some { 1 ≤ length message.now }
         requires limit { length message.now ≤ MESSAGE_LIMIT }
         ensures frames { result ≡ canonical_frames MESSAGE_LIMIT dir message.now }
     {
-        CanonicalFrames {
+        Segments {
             dir,
             message,
             count: frame_count(message.len()) as usize,
@@ -91,7 +91,7 @@ impl<'a> CanonicalFrames<'a> {
     }
 }
 
-impl<'a> Iterator for CanonicalFrames<'a> {
+impl<'a> Iterator for Segments<'a> {
     type Item = (Dir, [u8; 8]);
 
     ghost use Rattle.std.specs.Prelude.{IfSome};
@@ -123,11 +123,11 @@ impl<'a> Iterator for CanonicalFrames<'a> {
     }
 }
 
-impl<'a> ExactSizeIterator for CanonicalFrames<'a> {
+impl<'a> ExactSizeIterator for Segments<'a> {
     #[tactic(auto, using(crate::proofs::Frames::count_left))]
     fn len(&self) -> usize {
         self.count - self.number
     }
 }
 
-impl<'a> FusedIterator for CanonicalFrames<'a> {}
+impl<'a> FusedIterator for Segments<'a> {}

@@ -5,8 +5,8 @@ use Rattle.direction.specs.contracts.Dir.{the_type}
 use Rattle.isotp_receive.specs.declared.TheConstants.{MESSAGE_LIMIT}
 use Rattle.isotp_segment.specs.CanonicalFrames.{IsFullNext}
 use Rattle.isotp_segment.proofs.NextFull.{is_full_at}
-use Rattle.isotp_segment.proofs.canonical_frames.CanonicalFrames.next_full.Goals.{then-self-lt2-via-then-self-lt2, then-self-lt2-via-else-self-lt2+then-self, then-self-lt2-via-else-self-lt2+else-self+then-ne}
-use Rattle.isotp_segment.proofs.canonical_frames.CanonicalFrames.next_full.Goals as goal
+use Rattle.isotp_segment.proofs.segments.Segments.next_full.Goals.{then-self-lt2-via-then-self-lt2, then-self-lt2-via-else-self-lt2+then-self, then-self-lt2-via-else-self-lt2+else-self+then-ne}
+use Rattle.isotp_segment.proofs.segments.Segments.next_full.Goals as goal
 
 pub returns-then-self-lt2-clause-misses_none : goal.returns-then-self-lt2-clause-misses_none
 returns-then-self-lt2-clause-misses_none c full =
