@@ -36,7 +36,7 @@ module _ {X Y : Type 0} (P : X → Type 0) (text : X → Y) (apart : (a b : X) �
 
 -- What is among a list is among a longer one.
 
-at-front : {X : Type 0} (xs ys : List X) (place : ℕ) (x : X) → slice_get xs place ≡ Some x → slice_get (xs ++ ys) place ≡ Some x
+pub at-front : {X : Type 0} (xs ys : List X) (place : ℕ) (x : X) → slice_get xs place ≡ Some x → slice_get (xs ++ ys) place ≡ Some x
 at-front [] ys place x is = cc
 at-front (y ∷ xs) ys zero x is = is
 at-front (y ∷ xs) ys (suc place) x is = at-front xs ys place x is

@@ -11,7 +11,7 @@ use Rattle.uds_exchange.specs.OneMessage.{step_if_open, step_of}
 use Rattle.uds_exchange.specs.Order.{has_exchange}
 use Rattle.uds_exchange.specs.declared.step.Step.{Step}
 use Rattle.uds_exchange.specs.declared.step.Step.TheVariants as becomes
-use Rattle.uds_exchange.specs.OpenExchange.{one_later, open_exchange_in, open_sid_in}
+use Rattle.uds_exchange.specs.proving.OpenExchange.{one_later, open_exchange_in, open_sid_in}
 use Rattle.uds_exchange.specs.proving.Pairing.{items_with, items_with_other}
 use Rattle.uds_message.specs.Message.{is_keep_alive, is_negative_response, sid}
 use Rattle.trace_report.specs.Events.{role_of_step}

@@ -13,6 +13,8 @@ mod RowsAround
 mod ItemComparisons
 mod ItemValues
 mod SessionItems
+mod ItemNumbers
+mod RowNumbers
 mod Agreeing
 mod Placing
 mod Beginning

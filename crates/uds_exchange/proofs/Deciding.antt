@@ -15,7 +15,7 @@ use Rattle.uds_exchange.specs.proving.Deciding.{step_in, decided_for, decided_by
 use Rattle.uds_message.specs.Message.{sid}
 use Rattle.uds_exchange.specs.Judging.{step_after}
 use Rattle.uds_exchange.proofs.Kept.{not-request}
-use Rattle.uds_exchange.specs.OpenExchange.{one_later, open_exchange_in}
+use Rattle.uds_exchange.specs.proving.OpenExchange.{one_later, open_exchange_in}
 use Rattle.uds_exchange.specs.proving.Pairing.{items_with_other, items_with}
 use Rattle.uds_exchange.specs.proving.Steps.{Standing, standing_after, standing_after_step}
 use Rattle.uds_exchange.specs.declared.step.Step.{Step}
@@ -24,7 +24,7 @@ use Rattle.uds_exchange.proofs.MustWait.{open-request-waits, open-request-behind
 use Rattle.uds_exchange.proofs.NextStep.{stands-next}
 use Rattle.uds_exchange.proofs.OneMore.{meaning-append}
 use Rattle.uds_exchange.proofs.OpenRequestOfMore.{open_request_goes_on}
-use Rattle.uds_exchange.proofs.OpenExchange.{has-more, has-last, has-set, open_exchange-at, one_later-some, request_of}
+use Rattle.uds_exchange.proofs.OpenExchange.{has-more, has-last, has-set, open_exchange-at, one_later-none, one_later-some, request_of}
 
 -- items without an exchange are the strays of their messages
 strays-again : (its : List ItemValue) → has_exchange its ≡ false → map stray_of (flattened its) ≡ its
@@ -49,10 +49,6 @@ decided-request [] r = refl
 decided-request (stray d m ∷ its) r = ap (λ l. stray d m ∷ l) (decided-request its r)
 decided-request (exchange q (Some a) ∷ its) r = ap (λ l. exchange q (Some a) ∷ l) (decided-request its r)
 decided-request (exchange q None ∷ its) r = rw (has-last its r None) (ap (λ l. exchange q None ∷ l) (decided-request its r))
-
-one_later-none : (o : Option (ℕ × List ℕ)) → one_later o ≡ None → o ≡ None
-one_later-none None h = refl
-one_later-none (Some w) h = cc
 
 -- where no request waits all is decided, and one more stray is
 decided-all : (its : List ItemValue) → open_exchange_in its ≡ None → decided_in its ≡ its

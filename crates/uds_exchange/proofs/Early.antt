@@ -9,10 +9,10 @@ use Rattle.direction.specs.Dir.{Message}
 use Rattle.direction.specs.declared.Dir.{Dir}
 use Rattle.direction.specs.declared.Dir.TheVariants.{Tester, Unit}
 use Rattle.uds_exchange.specs.Meaning.{ItemValue, exchange, stray, is_tester_request, is_answer_to, is_pending_reply_to, meaning, flattened}
-use Rattle.uds_exchange.specs.OpenExchange.{one_later, open_exchange_in}
+use Rattle.uds_exchange.specs.proving.OpenExchange.{one_later, open_exchange_in}
 use Rattle.uds_exchange.specs.proving.Pairing.{items_with_other, items_with}
 use Rattle.uds_exchange.specs.Order.{has_exchange, held_in, held, early}
-use Rattle.uds_exchange.proofs.OpenExchange.{has-more, has-last, has-set, open_exchange-at, one_later-some}
+use Rattle.uds_exchange.proofs.OpenExchange.{has-more, has-last, has-set, open_exchange-at, one_later-none, one_later-some}
 use Rattle.uds_exchange.proofs.Replies.{from-tester, from-unit}
 use Rattle.uds_exchange.proofs.InOrder.{flattened-push}
 use Rattle.uds_exchange.proofs.OneMore.{meaning-append}
@@ -45,10 +45,6 @@ early-request [] r = (refl, refl)
 early-request (stray d m ∷ its) r = let rest = early-request its r in (ap (λ l. (d, m) ∷ l) rest.0, rest.1)
 early-request (exchange q (Some a) ∷ its) r = let rest = early-request its r in (ap (λ l. (Tester, q) ∷ (Unit, a) ∷ l) rest.0, rest.1)
 early-request (exchange q None ∷ its) r = let rest = early-request its r in rw (has-last its r None) (ap (λ l. (Tester, q) ∷ l) rest.0, rest.1)
-
-one_later-none : (o : Option (ℕ × List ℕ)) → one_later o ≡ None → o ≡ None
-one_later-none None h = refl
-one_later-none (Some w) h = cc
 
 -- one more stray where no request waits
 pub early-stray : (its : List ItemValue) (d : Dir) (m : List ℕ) → open_exchange_in its ≡ None

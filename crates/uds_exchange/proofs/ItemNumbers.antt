@@ -10,14 +10,14 @@ use Rattle.uds_message.specs.Message.{sid, is_request, is_final_for, is_pending_
 use Rattle.uds_exchange.specs.Laws.{removed_with}
 use Rattle.uds_exchange.specs.Meaning.{ItemValue, exchange, stray, stray_of, is_from_tester, is_tester_request, is_answer_to, is_pending_reply_to, meaning, flattened, removed_messages}
 use Rattle.uds_exchange.specs.Order.{has_exchange, held, held_in, early, open_request, open_request_in}
-use Rattle.uds_exchange.specs.OpenExchange.{open_exchange_in, open_sid_in}
+use Rattle.uds_exchange.specs.proving.OpenExchange.{open_exchange_in, open_sid_in}
 use Rattle.uds_exchange.specs.proving.Pairing.{items_after_step, items_with_other, items_with}
 use Rattle.uds_exchange.specs.OneMessage.{step_of}
 use Rattle.uds_exchange.specs.proving.Steps.{Standing, standing_after, standing_after_step}
-use Rattle.uds_exchange.specs.Judging.{step_after, number_by, number_after, IsOpenSid, HasCounted}
+use Rattle.uds_exchange.specs.Judging.{step_after, number_by, number_after, open_number_if_any, IsOpenSid, HasCounted}
 use Rattle.uds_exchange.specs.declared.judge.Judge.{Judge}
 use Rattle.uds_exchange.specs.Exchanged.{is_tester_response, is_unit_non_response, sides_of}
-use Rattle.uds_exchange.specs.proving.ItemNumbers.{item_count_after_step, open_number_if_any, open_number_after_step}
+use Rattle.uds_exchange.specs.proving.ItemNumbers.{item_count_after_step, open_number_after_step}
 use Rattle.uds_exchange.specs.proving.Judging.{judge_after_step, noted, number_in}
 use Rattle.uds_exchange.specs.declared.sides.Sides.{Sides}
 use Rattle.uds_exchange.specs.declared.step.Step.{Step}
@@ -61,8 +61,8 @@ pub step-is : (M : List Message) (x : Message) → step_of (open_sid_in (meaning
 step-is M x = ap (λ (o : Standing). step_of o.open_sid x) (sym (stands-is M))
 
 -- the items with one more message, by the step that was found
-pub joined-found : (M : List Message) (x : Message) (s : Step) (its : List ItemValue) → its ≡ meaning M → s ≡ step_after M x → items_after_step s (open_exchange_in its) its x ≡ meaning (M ++ x ∷ [])
-joined-found M x s its is step_is =
+pub items-found : (M : List Message) (x : Message) (s : Step) (its : List ItemValue) → its ≡ meaning M → s ≡ step_after M x → items_after_step s (open_exchange_in its) its x ≡ meaning (M ++ x ∷ [])
+items-found M x s its is step_is =
     (λ i. items_after_step ((step_is ∙ sym (step-is M x)) i) (open_exchange_in (is i)) (is i) x) ∙ sym (join-step (meaning M) x) ∙ sym (meaning-append M x)
 
 pub items-next : (M : List Message) (x : Message) → length (meaning (M ++ x ∷ [])) ≡ item_count_after_step (step_after M x) (length (meaning M))
@@ -147,36 +147,36 @@ next-by (step.Request service) M x judge seen few counts stands grown gone =
     let few_items = few-items M in let is = counts.items in record {
       is_open = ap (λ (o : Standing). o.open_sid) (sym stands);
       items = omega arith;
-      held = ap (λ (o : Standing). length o.holds) (sym stands);
+      held_count = ap (λ (o : Standing). length o.holds) (sym stands);
       removed = omega (arith, counts.removed, gone);
     }
 next-by step.Answer M x judge seen few counts stands grown gone =
     record {
       is_open = ap (λ (o : Standing). o.open_sid) (sym stands);
       items = counts.items ∙ sym grown;
-      held = ap (λ (o : Standing). length o.holds) (sym stands);
+      held_count = ap (λ (o : Standing). length o.holds) (sym stands);
       removed = omega (arith, counts.removed, gone);
     }
 next-by step.Removed M x judge seen few counts stands grown gone =
     let few_removed = few-removed M in let removed_were = counts.removed in record {
       is_open = counts.is_open ∙ ap (λ (o : Standing). o.open_sid) (sym stands);
       items = counts.items ∙ sym grown;
-      held = counts.held ∙ ap (λ (o : Standing). length o.holds) (sym stands);
+      held_count = counts.held_count ∙ ap (λ (o : Standing). length o.holds) (sym stands);
       removed = omega arith;
     }
 next-by step.Hold M x judge seen few counts stands grown gone =
-    let few_items = few-items M in let few_held = few-held M in let items_were = counts.items in let held_were = counts.held in
+    let few_items = few-items M in let few_held = few-held M in let items_were = counts.items in let held_were = counts.held_count in
     let more = length-append (held M) (x ∷ []) in let now = ap (λ (o : Standing). length o.holds) stands in record {
       is_open = counts.is_open ∙ ap (λ (o : Standing). o.open_sid) (sym stands);
       items = omega arith;
-      held = omega arith;
+      held_count = omega arith;
       removed = omega (arith, counts.removed, gone);
     }
 next-by step.Pass M x judge seen few counts stands grown gone =
     let few_items = few-items M in let is = counts.items in record {
       is_open = counts.is_open ∙ ap (λ (o : Standing). o.open_sid) (sym stands);
       items = omega arith;
-      held = counts.held ∙ ap (λ (o : Standing). length o.holds) (sym stands);
+      held_count = counts.held_count ∙ ap (λ (o : Standing). length o.holds) (sym stands);
       removed = omega (arith, counts.removed, gone);
     }
 
@@ -202,8 +202,8 @@ sides-found M x judge now s seen were seen_is now_is =
 
 number-by : (s : Step) (M : List Message) (judge : Judge) (seen : Sides) → length M < 2 ^ 62 → HasCounted M judge → number_in s (record judge { sides = seen }) ≡ number_by s M
 number-by (step.Request service) M judge seen few counts = let few_items = few-items M in let is = counts.items in omega arith
-number-by step.Answer M judge seen few counts = let items_are = counts.items in let held_are = counts.held in omega arith
-number-by step.Removed M judge seen few counts = let items_are = counts.items in let held_are = counts.held in omega arith
+number-by step.Answer M judge seen few counts = let items_are = counts.items in let held_are = counts.held_count in omega arith
+number-by step.Removed M judge seen few counts = let items_are = counts.items in let held_are = counts.held_count in omega arith
 number-by step.Hold M judge seen few counts = let few_items = few-items M in let is = counts.items in omega arith
 number-by step.Pass M judge seen few counts = let few_items = few-items M in let is = counts.items in omega arith
 

@@ -7,7 +7,7 @@ use Rattle.direction.specs.Dir.{Message}
 use Rattle.uds_message.specs.Message.{is_final_for, is_pending_for}
 use Rattle.uds_exchange.specs.declared.step.Step.TheVariants as step
 use Rattle.uds_exchange.specs.Meaning.{ItemValue, exchange, stray_of, is_from_tester, is_tester_request, is_answer_to, is_pending_reply_to}
-use Rattle.uds_exchange.specs.OpenExchange.{open_exchange_in, open_sid_in}
+use Rattle.uds_exchange.specs.proving.OpenExchange.{open_exchange_in, open_sid_in}
 use Rattle.uds_exchange.specs.proving.Pairing.{IsOpenPlace, items_after_step, items_with_other, items_with}
 use Rattle.uds_exchange.specs.OneMessage.{step_if_open, step_of}
 use Rattle.uds_exchange.proofs.OpenExchange.{sid_of, open_exchange-stray, open_exchange-request, open_exchange-at, open_exchange-answered}

@@ -6,7 +6,7 @@ use Rattle.uds_message.specs.Message.{sid}
 use Rattle.uds_exchange.specs.Meaning.{ItemValue, is_tester_request, is_answer_to, is_pending_reply_to, meaning, flattened}
 use Rattle.uds_exchange.specs.Order.{held_in, held, early}
 use Rattle.uds_exchange.specs.Orderer.{JudgedOrdererValue, judged_orderer_after, IsDue, PutsDue, IsHeld, StopsDue}
-use Rattle.uds_exchange.specs.OpenExchange.{open_exchange_in, open_sid_in}
+use Rattle.uds_exchange.specs.proving.OpenExchange.{open_exchange_in, open_sid_in}
 use Rattle.uds_exchange.specs.proving.Pairing.{items_with_other, items_with}
 use Rattle.uds_exchange.specs.OneMessage.{step_of}
 use Rattle.uds_exchange.specs.proving.Steps.{Standing, standing_after, due_for, due, standing_after_step, orderer_after_step, standing_with, Stops}

@@ -7,7 +7,7 @@ use Rattle.direction.specs.Dir.{Message}
 use Rattle.uds_exchange.specs.Meaning.{is_tester_request, is_answer_to, is_pending_reply_to, before_requests, Part, part, parts, answer, strays_in}
 use Rattle.uds_exchange.specs.Meaning.{ItemValue, exchange, stray, stray_of, items_of, meaning}
 use Rattle.uds_exchange.specs.Order.{has_exchange}
-use Rattle.uds_exchange.specs.OpenExchange.{one_later, open_exchange_in}
+use Rattle.uds_exchange.specs.proving.OpenExchange.{one_later, open_exchange_in}
 use Rattle.uds_exchange.specs.proving.Pairing.{items_with_other, items_with}
 
 -- the parts, and what comes before them, with one more message

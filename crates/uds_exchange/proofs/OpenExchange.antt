@@ -7,7 +7,7 @@ use Rattle.direction.specs.declared.Dir.{Dir}
 use Rattle.uds_message.specs.Message.{sid}
 use Rattle.uds_exchange.specs.Meaning.{ItemValue, exchange, stray}
 use Rattle.uds_exchange.specs.Order.{has_exchange}
-use Rattle.uds_exchange.specs.OpenExchange.{one_later, open_exchange_in}
+use Rattle.uds_exchange.specs.proving.OpenExchange.{one_later, open_exchange_in}
 
 pub has-more : (its : List ItemValue) (p : ItemValue) → has_exchange (p ∷ []) ≡ false → has_exchange (its ++ p ∷ []) ≡ has_exchange its
 has-more [] p h = h
@@ -31,6 +31,10 @@ open_exchange-request [] r = refl
 open_exchange-request (stray e n ∷ its) r = ap one_later (open_exchange-request its r)
 open_exchange-request (exchange q (Some a) ∷ its) r = ap one_later (open_exchange-request its r)
 open_exchange-request (exchange q None ∷ its) r = rw (has-last its r None, open_exchange-request its r) refl
+
+pub one_later-none : (o : Option (ℕ × List ℕ)) → one_later o ≡ None → o ≡ None
+one_later-none None h = refl
+one_later-none (Some w) h = cc
 
 pub one_later-some : (o : Option (ℕ × List ℕ)) (w : ℕ × List ℕ) → one_later o ≡ Some w
     → (v : ℕ × List ℕ) × (o ≡ Some v) × (w ≡ (suc v.0, v.1))

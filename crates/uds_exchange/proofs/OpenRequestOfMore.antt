@@ -6,7 +6,7 @@ use Rattle.direction.specs.declared.Dir.TheVariants as dir
 use Rattle.uds_message.specs.Message.{is_request}
 use Rattle.uds_exchange.specs.Laws.{open_with, OpenRequestGoesOn, removed_with, RemovedGoOn}
 use Rattle.uds_exchange.specs.Meaning.{ItemValue, exchange, is_tester_request, is_answer_to, is_pending_reply_to, meaning, removed_messages}
-use Rattle.uds_exchange.specs.OpenExchange.{open_exchange_in}
+use Rattle.uds_exchange.specs.proving.OpenExchange.{open_exchange_in}
 use Rattle.uds_exchange.specs.proving.Pairing.{items_with_other, items_with}
 use Rattle.uds_exchange.specs.Roles.{as_request, those_removed}
 use Rattle.uds_exchange.proofs.MustWait.{open-request-waits}

@@ -12,7 +12,7 @@ use Rattle.uds_exchange.specs.Meaning.{is_tester_request, is_answer_to, is_pendi
 use Rattle.uds_exchange.specs.Meaning.{ItemValue, exchange, stray, stray_of, items_of, meaning, flattened}
 use Rattle.uds_exchange.specs.Roles.{behind_last_request, placed}
 use Rattle.uds_exchange.specs.Order.{has_exchange}
-use Rattle.uds_exchange.specs.OpenExchange.{open_exchange_in}
+use Rattle.uds_exchange.specs.proving.OpenExchange.{open_exchange_in}
 use Rattle.uds_exchange.specs.proving.Pairing.{items_with_other}
 use Rattle.uds_exchange.proofs.OpenExchange.{one_later-some}
 use Rattle.uds_exchange.proofs.OneMore.{meaning-append}

@@ -1,14 +1,15 @@
 -- What is removed of a list, by the roles of its messages.
-use Rattle.std.proofs.Common.{◌≡◌, ℕ, true, false, List, [], ◌∷◌, ◌++◌, map, Option, Some, None, refl, sym, ◌∙◌, ap, cond, inl, inr, append_assoc}
+use Rattle.std.proofs.Common.{◌≡◌, ℕ, true, false, List, [], ◌∷◌, ◌++◌, map, Option, Some, None, refl, sym, ◌∙◌, ap, inl, inr, append_assoc}
 use Rattle.std.specs.List.{flat_map}
 use Rattle.std.proofs.lemmas.List.{append-nil}
 use Rattle.std.proofs.lemmas.Bool.{cases_Bool}
 use Rattle.direction.specs.Dir.{Message}
 use Rattle.uds_exchange.specs.Meaning.{is_tester_request, is_answer_to, is_pending_reply_to, before_requests, Part, parts, answer, strays_in}
 use Rattle.uds_exchange.specs.Meaning.{removed, removed_of, removed_messages, ItemValue, exchange, stray_of, items_of, meaning}
+use Rattle.uds_exchange.specs.Laws.{removed_with}
 use Rattle.uds_exchange.specs.Roles.{those_removed}
 use Rattle.uds_exchange.specs.Order.{has_exchange}
-use Rattle.uds_exchange.specs.OpenExchange.{open_exchange_in}
+use Rattle.uds_exchange.specs.proving.OpenExchange.{open_exchange_in}
 use Rattle.uds_exchange.proofs.OpenExchange.{request_of, same-request}
 use Rattle.uds_exchange.proofs.OneMore.{grown, grows, no-strays, open_exchange-cons, has-behind, has-items, one-part}
 use Rattle.uds_exchange.proofs.RolesFound.{role_by, role_behind}
@@ -42,13 +43,8 @@ meaning-waits-by : (b : List Message) (ps : List Part) → request_of (open_exch
 meaning-waits-by b [] = rw (append-nil (map stray_of b), (no-strays b).1) refl
 meaning-waits-by b (p ∷ ps) = waits-behind (map stray_of b) (flat_map items_of (p ∷ ps)) (has-items p ps) ∙ parts-wait (p ∷ ps)
 
--- what one more message adds to what is removed
-abbrev more_removed : Option (List ℕ) → Message → List Message
-more_removed None x = []
-more_removed (Some r) x = cond (is_answer_to r x) [] (cond (is_pending_reply_to r x) (x ∷ []) [])
-
 removed-append : (r : List ℕ) (xs : List Message) (x : Message)
-    → removed r (xs ++ x ∷ []) ≡ removed r xs ++ more_removed (open_if (answer r xs) r) x
+    → removed r (xs ++ x ∷ []) ≡ removed r xs ++ removed_with (open_if (answer r xs) r) x
 removed-append r [] x = refl
 removed-append r (y ∷ ys) x =
     elim (cases_Bool (is_answer_to r y)) [
@@ -65,15 +61,15 @@ grown-request (p ∷ []) x e = rw e refl
 grown-request (p ∷ q ∷ ps) x e = ap (λ l. removed_of p ++ l) (grown-request (q ∷ ps) x e)
 
 grown-other : (ps : List Part) (x : Message) → is_tester_request x ≡ false
-    → flat_map removed_of (grown ps x) ≡ flat_map removed_of ps ++ more_removed (open_in ps) x
+    → flat_map removed_of (grown ps x) ≡ flat_map removed_of ps ++ removed_with (open_in ps) x
 grown-other [] x e = rw e refl
 grown-other (p ∷ []) x e = rw e (
     append-nil _
     ∙ removed-append p.request p.behind x
-    ∙ ap (λ l. l ++ more_removed (open_in (p ∷ [])) x) (sym (append-nil (removed_of p))))
+    ∙ ap (λ l. l ++ removed_with (open_in (p ∷ [])) x) (sym (append-nil (removed_of p))))
 grown-other (p ∷ q ∷ ps) x e = ap (λ l. removed_of p ++ l) (grown-other (q ∷ ps) x e) ∙ sym (append_assoc (removed_of p) _ _)
 
-more-by-role : (o : Option (ℕ × List ℕ)) (x : Message) → more_removed (request_of o) x ≡ those_removed (x ∷ []) (role_by o x ∷ [])
+more-by-role : (o : Option (ℕ × List ℕ)) (x : Message) → removed_with (request_of o) x ≡ those_removed (x ∷ []) (role_by o x ∷ [])
 more-by-role None x = refl
 more-by-role (Some w) x =
     elim (cases_Bool (is_answer_to w.1 x)) [
@@ -88,6 +84,6 @@ removed_messages-append M x =
       | inl e ↦ rw e (grown-request (parts M) x e ∙ sym (append-nil (removed_messages M)))
       | inr e ↦ rw e (
           grown-other (parts M) x e
-          ∙ ap (λ o. removed_messages M ++ more_removed o x) (sym (meaning-waits-by (before_requests M) (parts M)))
+          ∙ ap (λ o. removed_messages M ++ removed_with o x) (sym (meaning-waits-by (before_requests M) (parts M)))
           ∙ ap (λ l. removed_messages M ++ l) (more-by-role (open_exchange_in (meaning M)) x))
     ]

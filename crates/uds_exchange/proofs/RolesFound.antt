@@ -5,7 +5,7 @@ use Rattle.std.proofs.lemmas.Option.{none-some}
 use Rattle.direction.specs.Dir.{Message}
 use Rattle.uds_exchange.specs.Meaning.{is_tester_request, is_answer_to, is_pending_reply_to, meaning}
 use Rattle.uds_exchange.specs.Roles.{MessageRole, IsOpenBehind, as_request, as_answer, as_removed, as_stray, AnswersOpen, IsPendingForOpen, HasRole}
-use Rattle.uds_exchange.specs.OpenExchange.{open_exchange_in}
+use Rattle.uds_exchange.specs.proving.OpenExchange.{open_exchange_in}
 use Rattle.uds_exchange.proofs.OpenRequests.{opens, waits-open, same-open}
 use Rattle.uds_exchange.proofs.Replies.{pending-not-answer, answer-not-request, pending-not-request}
 

@@ -4,7 +4,7 @@ use Rattle.direction.specs.Dir.{Message}
 use Rattle.uds_exchange.specs.Meaning.{ItemValue, exchange, stray, stray_of, meaning}
 use Rattle.uds_exchange.specs.Order.{has_exchange, open_request, held}
 
--- the items before the last exchange, where that has no answer; else all of them
+-- of a list of items those before the last exchange, where that has no answer; else all of them
 abbrev pub decided_in : List ItemValue → List ItemValue
 decided_in [] = []
 decided_in (stray d bytes ∷ later) = stray d bytes ∷ decided_in later
@@ -20,6 +20,6 @@ abbrev pub exchange_items : Option (List ℕ) → Option (List ℕ) → List Mes
 exchange_items None reply holds = []
 exchange_items (Some request) reply holds = exchange request reply ∷ map stray_of holds
 
--- the items that are not: the exchange of the open request, and the strays after it
+-- the items that are not decided by a list of messages: the exchange of its open request, and the strays after that
 abbrev pub undecided : List Message → List ItemValue
 undecided M = exchange_items (open_request M) None (held M)

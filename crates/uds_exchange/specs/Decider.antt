@@ -7,7 +7,7 @@ use Rattle.uds_exchange.specs.Meaning.{ItemValue, is_tester_request}
 use Rattle.uds_exchange.specs.Order.{open_request, held}
 use Rattle.uds_exchange.specs.Orderer.{IsHeld}
 
--- the open request, and the messages that are held
+-- what a decider is seen as: the open request, and the messages that are held behind it
 pub record DeciderValue : Type 0 where
   pub request : Option (List ℕ)
   pub holds : List Message

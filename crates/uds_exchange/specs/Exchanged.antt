@@ -1,5 +1,6 @@
 -- Whether tester and unit look exchanged, by the messages alone: bit 6 of a service identifier tells those of responses
--- from those of requests (ISO 14229-1, service identifier values).
+-- from those of requests (ISO 14229-1, service identifier values). Exchanged is swapped here, one side taken for the other, as
+-- in the answers of the library; with an exchange, a request and its answer, it has nothing to do.
 use Rattle.std.specs.Prelude.{Bool, not, ◌&&◌, List}
 use Rattle.std.specs.List.{list_any}
 use Rattle.direction.specs.Dir.{Message}
@@ -7,11 +8,11 @@ use Rattle.uds_message.specs.Message.{is_response_sid, sid}
 use Rattle.uds_exchange.specs.Meaning.{is_from_tester, is_tester_request}
 use Rattle.uds_exchange.specs.declared.sides.Sides.{Sides}
 
--- a message of the tester with the service identifier of a response
+-- whether a message is one of the tester with the service identifier of a response
 abbrev pub is_tester_response : Message → Bool
 is_tester_response message = is_from_tester message.0 && is_response_sid (sid message.1)
 
--- a message of the unit without one
+-- whether a message is one of the unit without the service identifier of a response
 abbrev pub is_unit_non_response : Message → Bool
 is_unit_non_response message = not (is_from_tester message.0) && not (is_response_sid (sid message.1))
 
@@ -20,10 +21,10 @@ is_unit_non_response message = not (is_from_tester message.0) && not (is_respons
 abbrev pub look_exchanged : List Message → Bool
 look_exchanged M = not (list_any is_tester_request M) && (list_any is_tester_response M && list_any is_unit_non_response M)
 
--- the three facts of these messages
+-- what tells of these messages whether tester and unit look exchanged
 abbrev pub sides_of : List Message → Sides
 sides_of M = record {
-  asked = list_any is_tester_request M;
+  tester_asked = list_any is_tester_request M;
   tester_responds = list_any is_tester_response M;
   unit_sends_other = list_any is_unit_non_response M;
 }

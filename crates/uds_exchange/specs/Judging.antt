@@ -1,10 +1,9 @@
 -- What is judged of one more message by those before it alone: what becomes of it, and the number of its item; and what a judge keeps.
-use Rattle.std.specs.Prelude.{◌≡◌, ℕ, ◌+◌, ◌-◌, List, [], ◌∷◌, length, Option, Some, None, option_map, min}
+use Rattle.std.specs.Prelude.{◌≡◌, ℕ, ◌+◌, ◌-◌, ◌^◌, List, [], ◌∷◌, length, Option, Some, None, option_map, min}
 use Rattle.direction.specs.Dir.{Message}
 use Rattle.uds_message.specs.Message.{sid}
 use Rattle.uds_exchange.specs.Meaning.{meaning, removed_messages}
 use Rattle.uds_exchange.specs.Order.{open_request, held}
-use Rattle.uds_exchange.specs.Order as order
 use Rattle.uds_exchange.specs.Exchanged.{sides_of}
 use Rattle.uds_exchange.specs.OneMessage.{step_of}
 use Rattle.uds_exchange.specs.declared.judge.Judge.{Judge}
@@ -23,6 +22,10 @@ next_number M = length (meaning M) + 1
 -- the number of the exchange whose request is open: only the strays that are held come after it
 abbrev pub open_number : List Message → ℕ
 open_number M = length (meaning M) - length (held M)
+
+-- the number of the open exchange, if one is open
+abbrev pub open_number_if_any : List Message → Option ℕ
+open_number_if_any M = option_map (λ service. open_number M) (option_map sid (open_request M))
 
 -- the number of the item of a message of which this becomes: a request or a stray is the next item, and an answer or a pending
 -- reply belongs to the open exchange
@@ -46,10 +49,10 @@ IsOpenSid M open_sid = open_sid ≡ option_map sid (open_request M)
 pub record HasCounted (M : List Message) (judge : Judge) : Type 0 where
   pub is_open : IsOpenSid M judge.open_sid
   pub items : judge.items ≡ length (meaning M)
-  pub held : judge.held_count ≡ length (order.held M)
+  pub held_count : judge.held_count ≡ length (held M)
   pub removed : judge.removed ≡ length (removed_messages M)
 
--- It is the judge of these messages: it has also gathered what tells whether tester and unit look exchanged.
+-- A judge is that of these messages: it has counted them, and has gathered what tells whether tester and unit look exchanged.
 pub record IsJudgeOf (M : List Message) (judge : Judge) : Type 0 where
   pub counted : HasCounted M judge
   pub sides : judge.sides ≡ sides_of M
@@ -58,7 +61,7 @@ pub record IsJudgeOf (M : List Message) (judge : Judge) : Type 0 where
 abbrev pub sent : Judged → Message
 sent judged = (judged.dir, judged.bytes.now)
 
--- what becomes of it is right behind the messages M
+-- A message was judged after the messages M: its step is what becomes of it there.
 abbrev pub IsJudgedAfter : List Message → Judged → Type 0
 IsJudgedAfter M judged = judged.step ≡ step_after M (sent judged)
 
@@ -67,6 +70,6 @@ abbrev pub IsJudgmentOf : List Message → List Message → Option Judged → Ty
 IsJudgmentOf M came None = came ≡ []
 IsJudgmentOf M came (Some judged) = (came ≡ sent judged ∷ []) × IsJudgedAfter M judged × (judged.item_number ≡ number_after M (sent judged))
 
--- a count that stays at the largest number of 64 bits
+-- one more of a count, which stays at the largest number of 64 bits
 abbrev pub one_more : ℕ → ℕ
-one_more n = min (n + 1) 18446744073709551615
+one_more n = min (n + 1) (2 ^ 64 - 1)

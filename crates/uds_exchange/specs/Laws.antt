@@ -28,7 +28,7 @@ abbrev pub EachHasOneRole : Type 0
 EachHasOneRole = (past : List Message) (message : Message)
     → (role : MessageRole) × HasRole past message role × ((other : MessageRole) → HasRole past message other → other ≡ role)
 
--- so the messages of a list have roles in one way
+-- the messages of a list have their roles in one way
 abbrev pub EachListHasRoles : Type 0
 EachListHasRoles = (M : List Message)
     → (roles : List MessageRole) × AreRoles [] M roles × ((others : List MessageRole) → AreRoles [] M others → others ≡ roles)
@@ -50,7 +50,7 @@ open_with None message = if is_tester_request message then Some message.1 else N
 open_with (Some request) message =
     if is_tester_request message then Some message.1 else if is_answer_to request message then None else Some request
 
--- so the open request is known from that of the messages before
+-- the open request of a list and one more message is known from that of the list
 abbrev pub OpenRequestGoesOn : Type 0
 OpenRequestGoesOn = (M : List Message) (message : Message) → open_request (M ++ message ∷ []) ≡ open_with (open_request M) message
 
@@ -60,10 +60,31 @@ removed_with None message = []
 removed_with (Some request) message =
     if is_answer_to request message then [] else if is_pending_reply_to request message then message ∷ [] else []
 
--- so what is removed grows by what the open request tells
+-- what is removed of a list and one more message is known from what is removed of the list, and from its open request
 abbrev pub RemovedGoOn : Type 0
 RemovedGoOn = (M : List Message) (message : Message)
     → removed_messages (M ++ message ∷ []) ≡ removed_messages M ++ removed_with (open_request M) message
+
+-- The messages before, with this one put in somewhere, and else in order, are those after.
+pub record IsPutIn (before : List Message) (message : Message) (after : List Message) : Type 0 where
+  pub front : List Message
+  pub rest : List Message
+  pub was : before ≡ front ++ rest
+  pub is : after ≡ front ++ message ∷ rest
+
+-- by what becomes of a message, it is left out or put in
+abbrev pub IsPutInBy : Step → List Message → Message → List Message → Type 0
+IsPutInBy (step.Request service) before message after = IsPutIn before message after
+IsPutInBy step.Answer before message after = IsPutIn before message after
+IsPutInBy step.Removed before message after = after ≡ before
+IsPutInBy step.Hold before message after = IsPutIn before message after
+IsPutInBy step.Pass before message after = IsPutIn before message after
+
+-- the messages of a meaning with one more message are those without it and that one, where it isn't removed: so none is
+-- ever taken out again
+abbrev pub OneMoreIsPutIn : Type 0
+OneMoreIsPutIn = (M : List Message) (message : Message)
+    → IsPutInBy (step_after M message) (flattened (meaning M)) message (flattened (meaning (M ++ message ∷ [])))
 
 -- what is early and then what is held are the messages of the meaning
 abbrev pub EarlyThenHeld : Type 0
@@ -73,15 +94,6 @@ EarlyThenHeld = (M : List Message) → early M ++ held M ≡ flattened (meaning 
 abbrev pub HeldByOpenRequest : Type 0
 HeldByOpenRequest = (M : List Message) → open_request M ≡ None → held M ≡ []
 
--- what is early stays in front of the messages of the meaning, whatever follows
-abbrev pub EarlyStays : Type 0
-EarlyStays = (M more : List Message)
-    → (rest : List Message) × (flattened (meaning (M ++ more)) ≡ early M ++ rest)
-
--- and it begins what is early, whatever follows
-abbrev pub EarlyGrows : Type 0
-EarlyGrows = (M more : List Message) → (rest : List Message) × (early (M ++ more) ≡ early M ++ rest)
-
 -- where messages are held, a rejection of the open request would come before them, and it is not the first of them:
 -- so nothing more could be put
 abbrev pub HeldMustWait : Type 0
@@ -89,6 +101,19 @@ HeldMustWait = (M : List Message) (first : Message) (rest : List Message) → he
     → (request : List ℕ) × IsOpenBehind M request
     × (flattened (meaning (M ++ rejection_of request ∷ [])) ≡ early M ++ rejection_of request ∷ held M)
     × (first ≢ rejection_of request)
+
+-- what is early stays in front of the messages of the meaning, whatever follows
+abbrev pub EarlyStays : Type 0
+EarlyStays = (M more : List Message)
+    → (rest : List Message) × (flattened (meaning (M ++ more)) ≡ early M ++ rest)
+
+-- what is early begins what is early after more messages
+abbrev pub EarlyGrows : Type 0
+EarlyGrows = (M more : List Message) → (rest : List Message) × (early (M ++ more) ≡ early M ++ rest)
+
+-- the messages put in all, early ones and then held ones, and the removed ones are as many as the list's
+abbrev pub NoneIsLostInOrder : Type 0
+NoneIsLostInOrder = (M : List Message) → length (early M ++ held M) + length (removed_messages M) ≡ length M
 
 -- what is decided and then what is not are the items of the meaning
 abbrev pub DecidedThenUndecided : Type 0
@@ -103,28 +128,3 @@ DecidedGrows = (M more : List Message) → (rest : List ItemValue) × (decided (
 abbrev pub UndecidedMustWait : Type 0
 UndecidedMustWait = (M : List Message) (request : List ℕ) → open_request M ≡ Some request
     → meaning (M ++ rejection_of request ∷ []) ≡ decided M ++ exchange request (Some (rejection_of request).1) ∷ map stray_of (held M)
-
--- the messages put in all, early ones and then held ones, and the removed ones are as many as the list's
-abbrev pub NoneIsLostInOrder : Type 0
-NoneIsLostInOrder = (M : List Message) → length (early M ++ held M) + length (removed_messages M) ≡ length M
-
--- The ones with this message put in somewhere, and else in order, are the others.
-pub record IsPutIn (before : List Message) (message : Message) (after : List Message) : Type 0 where
-  pub front : List Message
-  pub rest : List Message
-  pub was : before ≡ front ++ rest
-  pub is : after ≡ front ++ message ∷ rest
-
--- by what becomes of it: it is left out, or put in
-abbrev pub IsPutInBy : Step → List Message → Message → List Message → Type 0
-IsPutInBy (step.Request service) before message after = IsPutIn before message after
-IsPutInBy step.Answer before message after = IsPutIn before message after
-IsPutInBy step.Removed before message after = after ≡ before
-IsPutInBy step.Hold before message after = IsPutIn before message after
-IsPutInBy step.Pass before message after = IsPutIn before message after
-
--- the messages of a meaning with one more message are those without it and that one, where it isn't removed: so none is
--- ever taken out again
-abbrev pub OneMoreIsPutIn : Type 0
-OneMoreIsPutIn = (M : List Message) (message : Message)
-    → IsPutInBy (step_after M message) (flattened (meaning M)) message (flattened (meaning (M ++ message ∷ [])))

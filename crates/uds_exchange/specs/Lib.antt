@@ -1,5 +1,4 @@
 pub mod Meaning
-pub mod Roles
 pub mod ItemSeen
 pub mod Difference
 pub mod Order
@@ -8,10 +7,10 @@ pub mod Orderer
 pub mod Decided
 pub mod ItemSink
 pub mod Decider
-pub mod Laws
-pub mod OneMessage
-pub mod OpenExchange
 pub mod Exchanged
+pub mod OneMessage
 pub mod Judging
 pub mod Blocks
+pub mod Roles
+pub mod Laws
 pub mod proving

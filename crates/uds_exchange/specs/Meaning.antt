@@ -7,20 +7,20 @@ use Rattle.direction.specs.declared.Dir.{Dir}
 use Rattle.direction.specs.declared.Dir.TheVariants as dir
 use Rattle.uds_message.specs.Message.{sid, is_request, is_final_for, is_pending_for}
 
--- whether the tester sent it
+-- whether this is the direction of the tester's messages
 abbrev pub is_from_tester : Dir → Bool
 is_from_tester dir.Tester = true
 is_from_tester dir.Unit = false
 
--- a request of the tester
+-- whether a message is a request of the tester
 abbrev pub is_tester_request : Message → Bool
 is_tester_request message = is_from_tester message.0 && is_request message.1
 
--- a message of the unit that is final for the request
+-- whether a message is one of the unit that is final for the request
 abbrev pub is_answer_to : List ℕ → Message → Bool
 is_answer_to request message = not (is_from_tester message.0) && is_final_for (sid request) message.1
 
--- a message of the unit that is pending for the request
+-- whether a message is one of the unit that is pending for the request
 abbrev pub is_pending_reply_to : List ℕ → Message → Bool
 is_pending_reply_to request message = not (is_from_tester message.0) && is_pending_for (sid request) message.1
 
@@ -48,7 +48,7 @@ abbrev pub answer : List ℕ → List Message → Option (List ℕ)
 answer request [] = None
 answer request (message ∷ later) = if is_answer_to request message then Some message.1 else answer request later
 
--- what is removed of them: the replies pending for the request before its answer, or all where there is no answer
+-- what is removed of the messages after a request: the replies pending for it before its answer, or all where there is no answer
 abbrev pub removed : List ℕ → List Message → List Message
 removed request [] = []
 removed request (message ∷ later) =
@@ -56,7 +56,7 @@ removed request (message ∷ later) =
     else if is_pending_reply_to request message then message ∷ removed request later
     else removed request later
 
--- the strays among them: those that are neither answer nor removed
+-- the strays among the messages after a request: those that are neither its answer nor removed
 abbrev pub strays_in : List ℕ → List Message → List Message
 strays_in request [] = []
 strays_in request (message ∷ later) =

@@ -7,7 +7,7 @@ use Rattle.direction.specs.declared.Dir.{Dir}
 abbrev pub AfterOk : Type 0 → Type 1
 AfterOk Sink = Sink → Dir → List ℕ → Sink → Type 0
 
--- and which may follow an Err with this fault
+-- which values of a sink may follow an Err of a `put` of a message: the value before, the message, the fault, the value after
 abbrev pub AfterErr : Type 0 → Type 0 → Type 1
 AfterErr Sink Fault = Sink → Dir → List ℕ → Fault → Sink → Type 0
 

@@ -29,14 +29,14 @@ held_in (exchange request None ∷ later) = if has_exchange later then held_in l
 abbrev pub open_request : List Message → Option (List ℕ)
 open_request M = open_request_in (meaning M)
 
--- what must wait: an answer to the open request would come before it
+-- the messages that must wait at the end of a list: an answer to the open request would come before them
 abbrev pub held : List Message → List Message
 held M = held_in (meaning M)
 
--- what has its place: the messages of the meaning, without those held at its end
+-- the messages that have their place at the end of a list: those of the meaning, without those held at its end
 abbrev pub early : List Message → List Message
 early M = take (length (flattened (meaning M)) - length (held M)) (flattened (meaning M))
 
--- the negative response of the unit with the code generalReject
+-- the message of the unit that rejects a request: the negative response with the code generalReject (ISO 14229-1)
 abbrev pub rejection_of : List ℕ → Message
 rejection_of request = (dir.Unit, negative_response ∷ sid request ∷ 0x10 ∷ [])

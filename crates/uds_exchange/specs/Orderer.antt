@@ -7,8 +7,8 @@ use Rattle.uds_exchange.specs.declared.order_fault.OrderFault.TheVariants as fau
 use Rattle.uds_exchange.specs.Order.{open_request, held, early}
 use Rattle.uds_exchange.specs.MessageSink.{AfterOk, AfterErr, Puts, Fails}
 
--- whether an earlier call ended with a fault of the sink, the first byte of the open request, and the messages that are
--- held
+-- what an orderer is seen as: whether an earlier call ended with a fault of the sink, the first byte of the open request,
+-- and the messages that are held behind it
 pub record OrdererValue : Type 0 where
   pub has_failed : Bool
   pub open_sid : Option ℕ
@@ -18,12 +18,12 @@ pub record OrdererValue : Type 0 where
 abbrev pub orderer_after : List Message → OrdererValue
 orderer_after M = record { has_failed = false; open_sid = option_map sid (open_request M); holds = held M }
 
--- the same of an orderer that is told what becomes of each message: it knows of no request
+-- what an orderer is seen as that is told what becomes of each message: it knows of no request
 pub record JudgedOrdererValue : Type 0 where
   pub has_failed : Bool
   pub holds : List Message
 
--- such a one that stands after the messages M
+-- an orderer that is told what becomes of each message, and stands after the messages M
 abbrev pub judged_orderer_after : List Message → JudgedOrdererValue
 judged_orderer_after M = record { has_failed = false; holds = held M }
 

@@ -67,12 +67,12 @@ abbrev pub arranged : List Message → List Message → List MessageRole → Lis
 arranged out (message ∷ later) (role ∷ roles) = arranged (placed role out message) later roles
 arranged out messages roles = out
 
--- whether it is that of a pending reply that is left out
+-- whether a role is that of a pending reply that is left out
 abbrev pub is_removed : MessageRole → Bool
 is_removed as_removed = true
 is_removed role = false
 
--- those of the messages that are removed
+-- the messages that are removed, by the roles of all
 abbrev pub those_removed : List Message → List MessageRole → List Message
 those_removed (message ∷ later) (role ∷ roles) =
     if is_removed role then message ∷ those_removed later roles else those_removed later roles

@@ -1,4 +1,5 @@
 -- Devices of proof, apart from the definitions that the promises are made of.
+pub mod OpenExchange
 pub mod Judging
 pub mod ItemNumbers
 pub mod Pairing

@@ -1,6 +1,6 @@
 //! The items of a meaning, each as soon as it is decided.
 
-ghost use Rattle.std.specs.Prelude.{◌≡◌, ◌++◌, ◌∷◌, [], List, OnOk, OnErr, IfOk, map, option_map};
+ghost use Rattle.std.specs.Prelude.{◌≡◌, ◌++◌, ◌∷◌, [], List, OnOk, OnErr, map, option_map};
 ghost use Rattle.direction.specs.Dir.{Message};
 ghost use Rattle.uds_exchange.specs.Meaning.{stray_of};
 ghost use Rattle.uds_exchange.specs.Decided.{exchange_items, undecided};
@@ -14,6 +14,7 @@ use crate::item::Item;
 use crate::item_sink::ItemSink;
 use crate::judge::Judged;
 use crate::message_sink::{MessageSink, NoFault};
+use crate::messages::block_with;
 use crate::step::Step;
 use direction::Dir;
 use std::alloc::{AllocError, Global};
@@ -62,7 +63,7 @@ impl Decider {
 
         ensures err { OnErr result (self.new ≡ self.old) }
         ensures unput { OnErr result (sink.new ≡ sink.old) }
-        ensures kept_only { OnErr result ((M : List Message) → self.old ≡ decider_after M → IsJudgedAfter M message.entry → IsKept M (sent message.entry)) }
+        ensures needs { OnErr result ((M : List Message) → self.old ≡ decider_after M → IsJudgedAfter M message.entry → IsKept M (sent message.entry)) }
     {
         self.advance(message, sink)
     }
@@ -85,12 +86,12 @@ impl Decider {
         ensures puts { OnOk result (PutsItems S.takes sink.old (decided_for message.entry.step self.old (sent message.entry)) sink.new) }
         ensures err { OnErr result (self.new ≡ self.old) }
         ensures unput { OnErr result (sink.new ≡ sink.old) }
-        ensures kept { OnErr result (Refuses message.entry.step self.old (sent message.entry)) }
+        ensures needs { OnErr result (Refuses message.entry.step self.old (sent message.entry)) }
     {
         let Judged { dir, bytes, .. } = message;
         match message.step {
             Step::Request(_) => {
-                let request = copy(self.alloc, bytes)?;
+                let request = block_with(self.alloc, bytes.len(), bytes)?;
                 put_exchange(&self.request, None, &self.held, sink);
                 self.request = Some(request);
                 self.held.clear();
@@ -141,7 +142,7 @@ fn put_strays<S: ItemSink>(held: &HeldMessages, sink: &mut S)
     }
 }
 
-/// Puts each message as a stray.
+/// What takes messages and puts each into a sink of items, as a stray.
 #[derive(Drop)]
 pub(crate) struct StraySink<'a, S> {
     pub sink: &'a mut S,
@@ -164,13 +165,4 @@ impl<'a, S: ItemSink> MessageSink for StraySink<'a, S> {
         });
         Ok(())
     }
-}
-
-/// The bytes, copied into new memory of their length.
-fn copy(alloc: Global, bytes: &[u8]) -> Result<Vec<u8>, AllocError>
-    ensures { IfOk result (λ v. v.items ≡ bytes.now) }
-{
-    let mut copied = Vec::with_capacity(alloc, bytes.len())?;
-    copied.extend_from_slice(bytes)?;
-    Ok(copied)
 }

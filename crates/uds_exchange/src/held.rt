@@ -1,4 +1,4 @@
-//! Messages that wait, with who sent them.
+//! Messages that wait behind the open request, with who sent them.
 
 ghost use Rattle.std.specs.Prelude.{◌≡◌, ◌++◌, ◌∷◌, [], OnOk, OnErr, IfErr, length, sum_by};
 ghost use Rattle.uds_exchange.specs.MessageSink.{Puts, Fails};
@@ -10,7 +10,7 @@ use direction::Dir;
 use std::alloc::{AllocError, Global};
 use std::marker::Model;
 
-/// A list of messages.
+/// Messages that wait behind the open request, in order.
 #[derive(Drop)]
 pub(crate) struct HeldMessages {
     pub(crate) places: Vec<HeldMessage>,

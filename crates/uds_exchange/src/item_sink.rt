@@ -10,6 +10,7 @@ use crate::item::Item;
 pub trait ItemSink {
     ghost takes: { Self → ItemValue → Self → Type 0 };
 
+    /// Takes the next item.
     fn put(&mut self, item: Item<'_>)
         ensures { takes self.old (item_value item.entry) self.new };
 }

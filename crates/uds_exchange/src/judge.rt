@@ -63,7 +63,7 @@ impl Judge {
     {
         let step = step_of(self.open_sid, dir, message);
         self.sides.note(step, dir, message);
-        let item_number = self.advance(step);
+        let item_number = self.count(step);
         Judged {
             dir,
             bytes: message,
@@ -87,7 +87,7 @@ impl Judge {
     }
 
     /// Counts one more message by what becomes of it, and answers the number of its item.
-    fn advance(&mut self, step: Step) -> u64
+    fn count(&mut self, step: Step) -> u64
         ensures now { self.new ≡ judge_after_step step self.old }
         ensures number { result ≡ number_in step self.old }
     {

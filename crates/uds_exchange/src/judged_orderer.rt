@@ -68,7 +68,7 @@ impl JudgedOrderer {
             → PutsDue S.after_ok M (sent message.entry) sink.old sink.new) }
 
         ensures memory { result ≡ Err Memory → (self.new ≡ self.old) × (sink.new ≡ sink.old) }
-        ensures held_only { result ≡ Err Memory → (M : List Message) → self.old ≡ judged_orderer_after M → IsJudgedAfter M message.entry
+        ensures needs { result ≡ Err Memory → (M : List Message) → self.old ≡ judged_orderer_after M → IsJudgedAfter M message.entry
             → IsHeld M (sent message.entry) }
         ensures stops { IfErr result (λ fault. (M : List Message) → self.old ≡ judged_orderer_after M → IsJudgedAfter M message.entry
             → StopsDue S.after_ok S.after_err M (sent message.entry) sink.old sink.new fault) }
@@ -115,40 +115,39 @@ impl JudgedOrderer {
         if self.has_failed {
             return Err(OrderFault::Failed);
         }
-        if let Step::Hold = message.step {
-            return self
-                .held
-                .push(message.dir, message.bytes)
-                .map_err(|_| OrderFault::Memory);
-        }
-        if let Err(fault) = put_due(message, &self.held, sink) {
-            self.has_failed = true;
-            return Err(OrderFault::Sink(fault));
-        }
+        let Judged { dir, bytes, .. } = message;
         match message.step {
-            Step::Request(_) | Step::Answer => self.held.clear(),
-            Step::Removed | Step::Hold | Step::Pass => {}
+            Step::Request(_) => match put_behind(&self.held, dir, bytes, sink) {
+                Ok(()) => {
+                    self.held.clear();
+                    Ok(())
+                }
+                Err(fault) => Err(self.fail(fault)),
+            },
+            Step::Answer => match put_before(dir, bytes, &self.held, sink) {
+                Ok(()) => {
+                    self.held.clear();
+                    Ok(())
+                }
+                Err(fault) => Err(self.fail(fault)),
+            },
+            Step::Removed => Ok(()),
+            Step::Hold => self.held.push(dir, bytes).map_err(|_| OrderFault::Memory),
+            Step::Pass => match sink.put(dir, bytes) {
+                Ok(()) => Ok(()),
+                Err(fault) => Err(self.fail(fault)),
+            },
         }
-        Ok(())
     }
-}
 
-/// Puts what has its place by what becomes of a message.
-fn put_due<S: MessageSink>(
-    message: Judged<'_>,
-    held: &HeldMessages,
-    sink: &mut S,
-) -> Result<(), S::Fault>
-    ensures ok { OnOk result (Puts S.after_ok sink.old (due_for message.entry.step held.now (sent message.entry)) sink.new) }
-    ensures err { IfErr result (λ e. Fails S.after_ok S.after_err sink.old
-        (due_for message.entry.step held.now (sent message.entry)) e sink.new) }
-{
-    let Judged { dir, bytes, .. } = message;
-    match message.step {
-        Step::Request(_) => put_behind(held, dir, bytes, sink),
-        Step::Answer => put_before(dir, bytes, held, sink),
-        Step::Removed | Step::Hold => Ok(()),
-        Step::Pass => sink.put(dir, bytes),
+    /// The fault of the sink, after which the orderer has failed.
+    #[inline(always)]
+    fn fail<E>(&mut self, fault: E) -> OrderFault<E>
+        ensures failed { self.new ≡ record self.old { has_failed = true } }
+        ensures fault { result ≡ Sink fault }
+    {
+        self.has_failed = true;
+        OrderFault::Sink(fault)
     }
 }
 

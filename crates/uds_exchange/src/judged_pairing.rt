@@ -4,7 +4,7 @@ ghost use Rattle.std.specs.Prelude.{◌≡◌, ◌≢◌, ◌++◌, ◌∷◌, [
 ghost use Rattle.direction.specs.Dir.{Message};
 ghost use Rattle.uds_exchange.specs.Meaning.{meaning};
 ghost use Rattle.uds_exchange.specs.Judging.{IsJudgedAfter, sent};
-ghost use Rattle.uds_exchange.specs.OpenExchange.{open_exchange_in};
+ghost use Rattle.uds_exchange.specs.proving.OpenExchange.{open_exchange_in};
 ghost use Rattle.uds_exchange.specs.proving.Pairing as Spec;
 
 use crate::judge::Judged;
@@ -51,10 +51,10 @@ impl JudgedPairing {
         ensures ok { OnOk result ((M : List Message) → self.old ≡ meaning M → IsJudgedAfter M message.entry
             → self.new ≡ meaning (M ++ sent message.entry ∷ [])) }
         ensures err { OnErr result (self.new ≡ self.old) }
-        ensures changes { OnErr result ((M : List Message) → self.old ≡ meaning M → IsJudgedAfter M message.entry
+        ensures needs { OnErr result ((M : List Message) → self.old ≡ meaning M → IsJudgedAfter M message.entry
             → meaning (M ++ sent message.entry ∷ []) ≢ meaning M) }
     {
-        self.join(message)
+        self.advance(message)
     }
 
     /// The meaning of the messages that were taken. It takes no memory.
@@ -68,10 +68,10 @@ impl JudgedPairing {
     /// Takes one more message, by what becomes of it and the items alone: `take` promises the same by the messages. Where
     /// none is open, no answer is taken.
     #[inline(always)]
-    fn join(&mut self, message: Judged<'_>) -> Result<(), AllocError>
+    fn advance(&mut self, message: Judged<'_>) -> Result<(), AllocError>
         ensures ok { OnOk result (self.new ≡ Spec.items_after_step message.entry.step (open_exchange_in self.old) self.old (sent message.entry)) }
         ensures err { OnErr result (self.new ≡ self.old) }
-        ensures changes { OnErr result (Spec.items_after_step message.entry.step (open_exchange_in self.old) self.old (sent message.entry) ≢ self.old) }
+        ensures needs { OnErr result (Spec.items_after_step message.entry.step (open_exchange_in self.old) self.old (sent message.entry) ≢ self.old) }
     {
         match message.step {
             Step::Request(_) => {

@@ -6,15 +6,15 @@ ghost use Rattle.uds_exchange.specs.Meaning.{meaning, flattened};
 ghost use Rattle.uds_exchange.specs.Order.{early, held};
 ghost use Rattle.uds_exchange.specs.MessageSink.{Puts};
 ghost use Rattle.uds_exchange.specs.Orderer.{PutsDue};
+ghost use Rattle.uds_exchange.specs.Decided.{decided, undecided};
+ghost use Rattle.uds_exchange.specs.ItemSink.{PutsItems};
+ghost use Rattle.uds_exchange.specs.Decider.{PutsDecided};
+ghost use Rattle.uds_exchange.specs.Blocks.{MessageStays};
 ghost use Rattle.uds_exchange.specs.Laws.{MeaningIsKept, NoneIsLost, NoneIsMadeUp};
 ghost use Rattle.uds_exchange.specs.Laws.{EachHasOneRole, EachListHasRoles, MessagesByRoles};
-ghost use Rattle.uds_exchange.specs.Laws.{OpenRequestIsLast, OpenRequestGoesOn, RemovedGoOn, HeldByOpenRequest, HeldMustWait};
-ghost use Rattle.uds_exchange.specs.Decided.{decided, undecided};
-ghost use Rattle.uds_exchange.specs.Decider.{PutsDecided};
-ghost use Rattle.uds_exchange.specs.ItemSink.{PutsItems};
-ghost use Rattle.uds_exchange.specs.Laws.{EarlyThenHeld, OneMoreIsPutIn, EarlyStays, EarlyGrows, NoneIsLostInOrder};
+ghost use Rattle.uds_exchange.specs.Laws.{OpenRequestIsLast, OpenRequestGoesOn, RemovedGoOn, OneMoreIsPutIn};
+ghost use Rattle.uds_exchange.specs.Laws.{EarlyThenHeld, HeldByOpenRequest, HeldMustWait, EarlyStays, EarlyGrows, NoneIsLostInOrder};
 ghost use Rattle.uds_exchange.specs.Laws.{DecidedThenUndecided, DecidedGrows, UndecidedMustWait};
-ghost use Rattle.uds_exchange.specs.Blocks.{MessageStays};
 
 use crate::item_sink::ItemSink;
 use crate::message_sink::MessageSink;
@@ -65,19 +65,24 @@ pub fn removed_go_on()
     ensures { RemovedGoOn }
 {}
 
-/// What is early, and then what is held, are the messages of the meaning in order.
-pub fn early_then_held()
-    ensures { EarlyThenHeld }
-{}
-
 /// A message more is put in among the messages of the meaning, unless it is removed: none of them is taken out again.
 pub fn one_more_is_put_in()
     ensures { OneMoreIsPutIn }
 {}
 
+/// What is early, and then what is held, are the messages of the meaning in order.
+pub fn early_then_held()
+    ensures { EarlyThenHeld }
+{}
+
 /// Where no request is open nothing is held.
 pub fn held_by_open_request()
     ensures { HeldByOpenRequest }
+{}
+
+/// Where messages are held, an answer to the open request would come before them: nothing more could be put.
+pub fn held_must_wait()
+    ensures { HeldMustWait }
 {}
 
 /// What is early stays in front of the messages of the meaning, whatever messages follow.
@@ -88,11 +93,6 @@ pub fn early_stays()
 /// What is early begins what is early after more messages.
 pub fn early_grows()
     ensures { EarlyGrows }
-{}
-
-/// Where messages are held, an answer to the open request would come before them: nothing more could be put.
-pub fn held_must_wait()
-    ensures { HeldMustWait }
 {}
 
 /// Each message of a list is put, early or at the end, or is removed.

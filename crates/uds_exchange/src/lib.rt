@@ -3,10 +3,6 @@
 //! Requests, answers and pending replies are those of ISO 14229-1 (`uds_message`). A request's part of the messages
 //! runs to the next request. Its answer is the first message of the unit in that part that is final for it; the
 //! replies before the answer that are pending for it are left out. All else is a stray, and stays in order.
-//! A [`Judge`] says of each message what becomes of it. By that [`JudgedPairing`] gives the list of items, [`JudgedOrderer`]
-//! puts the messages in their order as soon as it is known, and [`Decider`] puts items as they are decided: a run judges
-//! a message once, and hands it to one of them. [`Pairing`] and [`Orderer`] have a judge of their own, for a caller that
-//! has messages alone.
 //!
 //! ```text
 //! tester 22 F1 90                exchange 22 F1 90 -> 62 F1 90 41
@@ -14,6 +10,24 @@
 //! unit   7F 22 78         =>
 //! unit   62 F1 90 41
 //! ```
+//!
+//! A [`Judge`] says of each message what becomes of it. A run judges a message once, and hands it to a [`JudgedPairing`],
+//! a [`JudgedOrderer`] or a [`Decider`]. [`Pairing`] and [`Orderer`] have a judge of their own, for a caller that has
+//! messages alone.
+//!
+//! | Part | Files | Definitions |
+//! |---|---|---|
+//! | [`Pairing`], [`JudgedPairing`]: the [`Meaning`], a list of [`Item`]s | `pairing`, `judged_pairing`, `meaning`, `item` | `Meaning`, `ItemSeen`, `Difference` |
+//! | [`Orderer`], [`JudgedOrderer`]: the messages in order, each as soon as its place is known | `orderer`, `judged_orderer`, `held`, `message_sink`, `order_fault` | `Order`, `MessageSink`, `Orderer` |
+//! | [`Decider`]: the items, each as soon as it is decided | `decider`, `item_sink` | `Decided`, `ItemSink`, `Decider` |
+//! | [`Sides`]: whether tester and unit look exchanged | `sides` | `Exchanged` |
+//! | [`Judge`]: the [`Step`] of a message, and the number of its item | `judge`, `step` | `OneMessage`, `Judging` |
+//! | [`Messages`]: bytes that are kept, each message in the [`Span`] where it was laid | `messages` | `Blocks` |
+//! | [`laws`]: what holds of meanings, whatever computes them | `laws` | `Roles`, `Laws` |
+//! | what `{:?}` shows | `shown` | none |
+//!
+//! [`Messages`] knows of no exchange. It stands here because a [`Meaning`] and the messages that are held are kept in one; it
+//! is public for a caller that keeps messages with what else it knows of them, as the rows of a page are.
 #![tactic(auto)]
 
 mod decider;

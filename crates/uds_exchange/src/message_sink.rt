@@ -5,10 +5,6 @@ ghost use Rattle.direction.specs.declared.Dir.{Dir};
 
 use direction::Dir;
 
-/// No fault: of a sink that takes all that is put.
-#[derive(Clone, Copy)]
-pub enum NoFault {}
-
 /// What takes messages in order. An implementation says by two ghost members which values of the sink may follow an
 /// `Ok` of [`put`](MessageSink::put), and which an `Err`.
 pub trait MessageSink {
@@ -24,3 +20,7 @@ pub trait MessageSink {
         ensures ok { OnOk result (after_ok self.old dir message.now self.new) }
         ensures err { IfErr result (λ e. after_err self.old dir message.now e self.new) };
 }
+
+/// The fault of a sink that takes all that is put: there is none.
+#[derive(Clone, Copy)]
+pub enum NoFault {}

@@ -227,8 +227,9 @@ fn room_of(number: u32, len: usize) -> usize {
     }
 }
 
-/// A block of so many bytes, with a message in it.
-fn block_with(alloc: Global, room: usize, message: &[u8]) -> Result<Vec<u8>, AllocError>
+/// A block of so many bytes, with a message in it. Inlined, so that no call is added for a message that has new memory of its own.
+#[inline(always)]
+pub(crate) fn block_with(alloc: Global, room: usize, message: &[u8]) -> Result<Vec<u8>, AllocError>
     ensures { IfOk result (λ block. block.items ≡ message.now) }
 {
     let mut block = Vec::with_capacity(alloc, room)?;

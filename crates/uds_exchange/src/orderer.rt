@@ -64,7 +64,7 @@ impl Orderer {
             → PutsDue S.after_ok M (dir, message.now) sink.old sink.new) }
 
         ensures memory { result ≡ Err Memory → (self.new ≡ self.old) × (sink.new ≡ sink.old) }
-        ensures held_only { result ≡ Err Memory → (M : List Message) → self.old ≡ orderer_after M
+        ensures needs { result ≡ Err Memory → (M : List Message) → self.old ≡ orderer_after M
             → IsHeld M (dir, message.now) }
         ensures stops { IfErr result (λ fault. (M : List Message) → self.old ≡ orderer_after M
             → StopsDue S.after_ok S.after_err M (dir, message.now) sink.old sink.new fault) }

@@ -47,7 +47,7 @@ impl Pairing {
         ensures ok { OnOk result ((M : List Message) → self.old ≡ meaning M
             → self.new ≡ meaning (M ++ (dir, message.now) ∷ [])) }
         ensures err { OnErr result (self.new ≡ self.old) }
-        ensures changes { OnErr result ((M : List Message) → self.old ≡ meaning M
+        ensures needs { OnErr result ((M : List Message) → self.old ≡ meaning M
             → meaning (M ++ (dir, message.now) ∷ []) ≢ meaning M) }
     {
         // The judge goes on only where the message was taken.

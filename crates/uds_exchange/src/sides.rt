@@ -1,4 +1,5 @@
-//! What tells that tester and unit are exchanged.
+//! What tells that tester and unit are exchanged: swapped, one side taken for the other. With an exchange, a request and its
+//! answer, the word has nothing to do.
 
 ghost use Rattle.std.specs.Prelude.{◌≡◌, [], List, ℕ, Option};
 ghost use Rattle.direction.specs.Dir.{Message};
@@ -15,7 +16,7 @@ use uds_message::{is_response_sid, sid};
 #[derive(Clone, Copy, Debug, PartialEq, Eq)]
 pub struct Sides {
     /// The tester sent a request.
-    pub asked: bool,
+    pub tester_asked: bool,
     /// The tester sent a message with the service identifier of a response.
     pub tester_responds: bool,
     /// The unit sent one without.
@@ -28,7 +29,7 @@ impl Sides {
         ensures { result ≡ sides_of [] }
     {
         Sides {
-            asked: false,
+            tester_asked: false,
             tester_responds: false,
             unit_sends_other: false,
         }
@@ -40,7 +41,7 @@ impl Sides {
         ensures { (open_sid : Option ℕ) → step ≡ step_of open_sid (dir, message.now) → self.new ≡ noted (dir, message.now) self.old }
     {
         match step {
-            Step::Request(_) => self.asked = true,
+            Step::Request(_) => self.tester_asked = true,
             Step::Answer | Step::Removed | Step::Hold | Step::Pass => self.note_other(dir, message),
         }
     }
@@ -61,6 +62,6 @@ impl Sides {
     pub fn look_exchanged(&self) -> bool
         ensures { (M : List Message) → self.now ≡ sides_of M → result ≡ Spec.look_exchanged M }
     {
-        !self.asked && self.tester_responds && self.unit_sends_other
+        !self.tester_asked && self.tester_responds && self.unit_sends_other
     }
 }

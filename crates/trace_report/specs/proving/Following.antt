@@ -8,7 +8,7 @@ use Rattle.isotp_receive.specs.StandingReception.{StandingReception, stands}
 use Rattle.isotp_receive.specs.Trace.{Entry, same_direction}
 use Rattle.isotp_receive.specs.Verdict.{EventValue, VerdictValue, message, began, stored, flowed, dropped, messages}
 use Rattle.uds_exchange.specs.Judging.{one_more, step_after}
-use Rattle.uds_exchange.specs.proving.ItemNumbers.{open_number_if_any}
+use Rattle.uds_exchange.specs.Judging.{open_number_if_any}
 use Rattle.uds_exchange.specs.Order.{open_request}
 use Rattle.uds_message.specs.Message.{is_suppressing}
 use Rattle.trace_canon.specs.declared.reception_starts.FramePlace.{FramePlace}

@@ -17,7 +17,7 @@ decided_for step.Removed standing message = []
 decided_for step.Hold standing message = []
 decided_for step.Pass standing message = stray_of message ∷ []
 
--- what becomes of a message
+-- what becomes of a message by the open request of a decider
 abbrev pub step_in : DeciderValue → Message → Step
 step_in standing message = step_of (option_map sid standing.request) message
 

@@ -1,9 +1,5 @@
 -- Devices of proof: how many items there are, and which number the open exchange has, with one more message.
-use Rattle.std.specs.Prelude.{ℕ, ◌+◌, List, Option, Some, None, option_map}
-use Rattle.direction.specs.Dir.{Message}
-use Rattle.uds_message.specs.Message.{sid}
-use Rattle.uds_exchange.specs.Judging.{open_number}
-use Rattle.uds_exchange.specs.Order.{open_request}
+use Rattle.std.specs.Prelude.{ℕ, ◌+◌, Option, Some, None}
 use Rattle.uds_exchange.specs.declared.step.Step.{Step}
 use Rattle.uds_exchange.specs.declared.step.Step.TheVariants as step
 
@@ -15,11 +11,8 @@ item_count_after_step step.Removed count = count
 item_count_after_step step.Hold count = count + 1
 item_count_after_step step.Pass count = count + 1
 
--- the number of the open exchange, if one is open
-abbrev pub open_number_if_any : List Message → Option ℕ
-open_number_if_any M = option_map (λ service. open_number M) (option_map sid (open_request M))
-
--- that after this step with a message whose item has this number, where it was so before
+-- the number of the open exchange after this step with a message whose item has this number, where the open exchange had that
+-- number before, if one was open
 abbrev pub open_number_after_step : Step → ℕ → Option ℕ → Option ℕ
 open_number_after_step (step.Request service) number before = Some number
 open_number_after_step step.Answer number before = None

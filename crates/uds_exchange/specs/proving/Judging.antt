@@ -32,10 +32,10 @@ noted_other message sides = record sides {
   unit_sends_other = sides.unit_sends_other || is_unit_non_response message;
 }
 
--- and with any message more
+-- what tells whether tester and unit are exchanged, with any one more message
 abbrev pub noted : Message → Sides → Sides
 noted message sides = record {
-  asked = sides.asked || is_tester_request message;
+  tester_asked = sides.tester_asked || is_tester_request message;
   tester_responds = sides.tester_responds || is_tester_response message;
   unit_sends_other = sides.unit_sends_other || is_unit_non_response message;
 }

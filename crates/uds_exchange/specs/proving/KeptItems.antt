@@ -11,7 +11,7 @@ abbrev pub item_at : List (List ℕ) → KeptItem → ItemValue
 item_at blocks (kept.Exchange request answer) = exchange (bytes_at blocks request) (option_map (bytes_at blocks) answer)
 item_at blocks (kept.Stray dir span) = stray dir (bytes_at blocks span)
 
--- the items
+-- the items by where their messages lie
 abbrev pub items_at : List (List ℕ) → List KeptItem → List ItemValue
 items_at blocks items = map (item_at blocks) items
 
@@ -20,12 +20,12 @@ abbrev pub IsInsideIfAny : List (List ℕ) → Option Span → Type 0
 IsInsideIfAny blocks None = Unit {0}
 IsInsideIfAny blocks (Some span) = IsInside blocks span
 
--- so do the messages of an item
+-- the messages of an item lie in blocks
 abbrev pub IsKeptIn : List (List ℕ) → KeptItem → Type 0
 IsKeptIn blocks (kept.Exchange request answer) = IsInside blocks request × IsInsideIfAny blocks answer
 IsKeptIn blocks (kept.Stray dir span) = IsInside blocks span
 
--- and those of all items
+-- the messages of all items lie in blocks
 abbrev pub AreKeptIn : List (List ℕ) → List KeptItem → Type 0
 AreKeptIn blocks [] = Unit {0}
 AreKeptIn blocks (first ∷ later) = IsKeptIn blocks first × AreKeptIn blocks later

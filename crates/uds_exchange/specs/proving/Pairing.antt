@@ -5,7 +5,7 @@ use Rattle.uds_exchange.specs.declared.step.Step.{Step}
 use Rattle.uds_exchange.specs.declared.step.Step.TheVariants as step
 use Rattle.uds_exchange.specs.Meaning.{ItemValue, exchange, stray_of, is_tester_request, is_answer_to, is_pending_reply_to, meaning}
 use Rattle.uds_exchange.specs.Judging.{IsOpenSid}
-use Rattle.uds_exchange.specs.OpenExchange.{open_exchange_in}
+use Rattle.uds_exchange.specs.proving.OpenExchange.{open_exchange_in}
 
 -- what the code keeps beside the items: the place of the open exchange
 abbrev pub IsOpenPlace : List ItemValue → Option ℕ → Type 0

@@ -40,15 +40,15 @@ pub record Standing : Type 0 where
   pub open_sid : Option ℕ
   pub holds : List Message
 
--- so it is after the messages M
+-- which request is open after the messages M, and what is held behind it
 abbrev pub standing_after : List Message → Standing
 standing_after M = record { open_sid = option_map sid (open_request M); holds = held M }
 
--- what is due with one more message
+-- the messages that have their place with one more message
 abbrev pub due : Standing → Message → List Message
 due standing message = due_for (step_of standing.open_sid message) standing.holds message
 
--- so it is after this step with a message
+-- which request is open after this step with a message, and what is held behind it
 abbrev pub standing_after_step : Step → Standing → Message → Standing
 standing_after_step (step.Request service) standing message = record { open_sid = Some service; holds = [] }
 standing_after_step step.Answer standing message = record { open_sid = None; holds = [] }
@@ -56,6 +56,6 @@ standing_after_step step.Removed standing message = standing
 standing_after_step step.Hold standing message = record standing { holds = standing.holds ++ message ∷ [] }
 standing_after_step step.Pass standing message = standing
 
--- and with one more message
+-- which request is open with one more message, and what is held behind it
 abbrev pub standing_with : Standing → Message → Standing
 standing_with standing message = standing_after_step (step_of standing.open_sid message) standing message

@@ -22,7 +22,7 @@ returns-in-Ok-clause-says g c = λ M stands judged.
 pub returns-in-Err-clause-held : goal.returns-in-Err-clause-held
 returns-in-Err-clause-held g c = λ M stands judged.
     stops_for_memory (SaysOne g.S.TextSink.says g.met.S.TextSink.nothing g.met.S.TextSink.onward) M (sent c.args.message) _ c.take.new.sink c.in-Err._fault (c.in-Err.ensures.stops M stands judged)
-    (λ is. c.take.ensures.held_only (c.in-Err.is ∙ ap Err is) M stands judged)
+    (λ is. c.take.ensures.needs (c.in-Err.is ∙ ap Err is) M stands judged)
 
 pub returns-in-Err-clause-refused : goal.returns-in-Err-clause-refused
 returns-in-Err-clause-refused g c =

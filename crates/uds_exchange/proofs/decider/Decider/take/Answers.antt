@@ -16,6 +16,6 @@ returns-clause-puts g c =
     let by = c.args.message.step in
     on_ok_along c.advance.result _ _ (λ h M is judged. (decided_for by c.args.self.now x, decided-found M x by c.args.self.now is judged, h)) c.advance.ensures.puts
 
-pub returns-clause-kept_only : goal.returns-clause-kept_only
-returns-clause-kept_only g c =
-    on_err_along c.advance.result _ _ (λ h M is judged. refuses-kept M (sent c.args.message) c.args.message.step c.args.self.now is judged h) c.advance.ensures.kept
+pub returns-clause-needs : goal.returns-clause-needs
+returns-clause-needs g c =
+    on_err_along c.advance.result _ _ (λ h M is judged. refuses-kept M (sent c.args.message) c.args.message.step c.args.self.now is judged h) c.advance.ensures.needs

@@ -15,8 +15,8 @@ returns-clause-puts g c =
     on_ok_along c.advance.result _ _ (λ h M is judged.
     puts-due g.S.MessageSink.after_ok g.S.MessageSink.after_err M (sent c.args.message) c.args.message.step c.args.self.now _ _ is judged h.2) c.advance.ensures.ok
 
-pub returns-clause-held_only : goal.returns-clause-held_only
-returns-clause-held_only g c = λ refused M is judged.
+pub returns-clause-needs : goal.returns-clause-needs
+returns-clause-needs g c = λ refused M is judged.
     held-with M (sent c.args.message) c.args.message.step c.args.self.now is judged (rw refused at c.advance.ensures.err).3
 
 pub returns-clause-stops : goal.returns-clause-stops

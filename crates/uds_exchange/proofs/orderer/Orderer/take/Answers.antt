@@ -17,11 +17,11 @@ returns-clause-stands g c = λ M is.
     stands-with M x c.take.result c.take-2.new.self c.take.new.self.open_sid c.take.ensures.sent
     (c.in_ok-take.ensures.stands M (stands-without M _ stood) judged) (c.take.ensures.is_open M waits)
 
-pub returns-in_err-take-clause-held_only : goal.returns-in_err-take-clause-held_only
-returns-in_err-take-clause-held_only g c = λ refused M is.
+pub returns-in_err-take-clause-needs : goal.returns-in_err-take-clause-needs
+returns-in_err-take-clause-needs g c = λ refused M is.
     let x : Message = (c.args.dir, c.args.message.now) in
     let stood = c.self.view_is ∙ is in
     let waits : IsOpenSid M c.self.inside.judge.open_sid = ap (λ (o : OrdererValue). o.open_sid) stood in
     let judged = judged-after M x c.take.result c.take.ensures.sent (c.take.ensures.step M waits) in
     subst (IsHeld M) c.take.ensures.sent
-    (c.in_err-take.ensures.held_only (ap Err (handed_fault c.from_residual.result _ Memory c.from_residual.ensures.1 refused)) M (stands-without M _ stood) judged)
+    (c.in_err-take.ensures.needs (ap Err (handed_fault c.from_residual.result _ Memory c.from_residual.ensures.1 refused)) M (stands-without M _ stood) judged)

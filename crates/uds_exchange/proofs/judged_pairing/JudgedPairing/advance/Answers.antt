@@ -2,13 +2,13 @@
 use Rattle.std.proofs.Common.{sym, ◌∙◌, ap, subst, Some, None, List}
 use Rattle.uds_exchange.specs.Meaning.{ItemValue}
 use Rattle.uds_exchange.specs.Judging.{sent}
-use Rattle.uds_exchange.specs.OpenExchange.{open_exchange_in}
+use Rattle.uds_exchange.specs.proving.OpenExchange.{open_exchange_in}
 use Rattle.uds_exchange.specs.declared.step.Step.{Step}
 use Rattle.uds_exchange.specs.declared.step.Step.TheVariants as step
 use Rattle.uds_exchange.specs.proving.Pairing.{IsOpenPlace, items_after_step}
 use Rattle.uds_exchange.proofs.Kept.{kept-request, kept-stray, kept-answer, waits, waits-below, waits-exchange, answered, changes-answer}
 use Rattle.uds_exchange.proofs.Variants.{on_err}
-use Rattle.uds_exchange.proofs.judged_pairing.JudgedPairing.join.Goals as goal
+use Rattle.uds_exchange.proofs.judged_pairing.JudgedPairing.advance.Goals as goal
 
 pub answer-requires : goal.answer-requires
 answer-requires c = waits-below c.self.inside.meaning c.in-Some.place (c.self.invariant ∙ c.in-Some.is)
@@ -41,8 +41,8 @@ returns-in_ok-answer-in-Answer-clause-ok c =
     ∙ ap (λ (l : List ItemValue). items_after_step step.Answer (open_exchange_in l) l x) c.self.view_is
     ∙ ap (λ (s : Step). items_after_step s (open_exchange_in c.args.self.now) c.args.self.now x) (sym c.in-Answer.is)
 
-pub returns-in_err-answer-in-Answer-clause-changes : goal.returns-in_err-answer-in-Answer-clause-changes
-returns-in_err-answer-in-Answer-clause-changes c =
+pub returns-in_err-answer-in-Answer-clause-needs : goal.returns-in_err-answer-in-Answer-clause-needs
+returns-in_err-answer-in-Answer-clause-needs c =
     let its = c.self.inside.meaning in
     let kept = c.self.invariant ∙ c.in-Some.is in
     let x = sent c.args.message in
