@@ -64,7 +64,7 @@ def comparison_object(line):
     return {"same": False, "item": int(found[1])} if found else {"same": line == "same"}
 
 
-def pair_object(line):
+def credit_object(line):
     number, _, tester, _, unit = line.split(" ")
     return {"credits": int(number), "tester": tester, "unit": unit}
 
@@ -77,6 +77,6 @@ OBJECTS = {
     "list": item_object,
     "explain": event_object,
     "messages": message_object,
-    "find": pair_object,
+    "find": credit_object,
     "compare": comparison_object,
 }

@@ -3,7 +3,7 @@
 ghost use Rattle.isotp_segment.specs.Laws.{FrameCountByLength, ConsecutiveCountIsLeast, CanonicalFramesHaveEightBytes, ShortMessageIsOneFrame};
 ghost use Rattle.isotp_segment.specs.Laws.{CanonicalFramesAreARecording, CanonicalFramesAreClean, CanonicalFramesDeliver, CanonicalFramesDeliverNothingBefore};
 
-/// A message of at most 7 bytes has one canonical frame, and a longer one two more than its consecutive frames.
+/// By its count of frames a message of at most 7 bytes has one, and a longer one two more than its consecutive frames.
 pub fn frame_count_by_length()
     ensures { FrameCountByLength }
 {}
@@ -18,7 +18,7 @@ pub fn canonical_frames_have_eight_bytes()
     ensures { CanonicalFramesHaveEightBytes }
 {}
 
-/// A message of at most 7 bytes has one canonical frame: a single frame that holds it.
+/// A message of 1 to 7 bytes has one canonical frame: a single frame that holds it.
 pub fn short_message_is_one_frame()
     ensures { ShortMessageIsOneFrame }
 {}
@@ -29,7 +29,7 @@ pub fn canonical_frames_are_a_recording()
     ensures { CanonicalFramesAreARecording }
 {}
 
-/// Such frames are a clean trace: no frame is dropped, none ends a reception, and nothing is left over. So each stands on the
+/// The canonical frames of any messages, each a millisecond after the one before, are a clean trace: no frame is dropped, none ends a reception, and nothing is left over. So each stands on the
 /// side, in the place and at the time where a receiver waits for it: a continue frame from the side of the message would be
 /// dropped.
 pub fn canonical_frames_are_clean()

@@ -57,7 +57,8 @@ impl<'a> Segments<'a> {
 
     /// The next frame, if it is a consecutive one of this sender that the message fills: eight bytes of the message
     /// in one piece, of which the control byte takes the place of the first. Most frames of a long message are such,
-    /// and whoever takes them in a loop of their own meets no other kind there.
+    /// and whoever takes them in a loop of their own meets no other kind there. The sender is the one of `new`: a
+    /// contract over the frames alone knows no other way to name it.
     #[tactic(auto, using(crate::proofs::Frames::drop_canonical_frames), unfolding(crate::specs::CanonicalFrames::canonical_frame))]
     #[inline(always)]
     pub fn next_full(&mut self, sender: Dir) -> Option<[u8; 8]>

@@ -6,7 +6,7 @@ use Rattle.trace_text.specs.declared.item_style.Numbering.{Numbering}
 use Rattle.trace_text.specs.declared.remark.Remark.{Remark}
 use Rattle.trace_canon.specs.ComparisonText.{comparison_members}
 use Rattle.trace_text.specs.RemarkLines.{remark_members}
-use Rattle.trace_canon.specs.Finding.{pair_object}
+use Rattle.trace_canon.specs.Finding.{credit_object}
 use Rattle.trace_text.specs.ItemLines.{item_object}
 use Rattle.trace_canon.specs.MessageLines.{PlacedMessage, placed_members}
 use Rattle.uds_exchange.specs.Meaning.{ItemValue}
@@ -32,4 +32,4 @@ ComparisonsAreReadAsMeant =
 
 -- a pair of identifiers, with the number of its credits
 abbrev pub PairsAreReadAsMeant : Type 0
-PairsAreReadAsMeant = (counted : IdPair × ℕ) → IsReadAsMeant (pair_object (credit_line counted))
+PairsAreReadAsMeant = (counted : IdPair × ℕ) → IsReadAsMeant (credit_object (credit_line counted))

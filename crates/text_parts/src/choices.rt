@@ -38,6 +38,7 @@ impl<P: Part, Q: Part> Part for Either<P, Q> {
     }
 }
 
+/// A part that is there, or nothing.
 impl<P: Part> Part for Option<P> {
     ghost use Rattle.text_parts.specs.Parts.{text_if_some};
 
@@ -51,7 +52,7 @@ impl<P: Part> Part for Option<P> {
     }
 }
 
-/// Parts of one type, one after another.
+/// Parts of one type, one after another, where their number is not known before.
 #[derive(Clone, Copy)]
 pub struct Each<'a, P>(pub &'a [P]);
 

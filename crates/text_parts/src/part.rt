@@ -8,8 +8,7 @@ pub trait Part: Copy {
     /// Its text.
     ghost text: { Self → List ℕ };
 
-    /// Says the text. Callers have [`say`], which takes tuples as well. A part within which no write may end, as a number, goes
-    /// to `put_whole`, and any other one to `put`.
+    /// Says the text. A part within which no write may end, as a number, goes to `put_whole`, and any other one to `put`.
     fn say<S: TextSink>(self, out: &mut S)
         ensures { S.says out.old (text self) out.new };
 }

@@ -1,4 +1,5 @@
-//! Tuples of parts: one after another.
+//! Tuples of parts: one after another. They are written by hand, since the gate takes no `impl` that a macro of the
+//! repository writes.
 use crate::part::Part;
 use trace_io::TextSink;
 

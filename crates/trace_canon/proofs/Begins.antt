@@ -6,44 +6,44 @@ use Rattle.direction.specs.declared.Dir.TheVariants.{Tester, Unit}
 use Rattle.isotp_receive.specs.Trace.{same_direction}
 use Rattle.isotp_receive.specs.Verdict.{message, began, stored, flowed, dropped}
 use Rattle.isotp_receive.specs.declared.event.Reason.{Reason}
-use Rattle.trace_canon.specs.ReceptionStarts.{begun_of, moved_by}
+use Rattle.trace_canon.specs.ReceptionStarts.{reception_start, start_after_verdict}
 use Rattle.trace_canon.specs.declared.reception_starts.ReceptionStarts.{ReceptionStarts}
 use Rattle.trace_canon.specs.declared.reception_starts.FramePlace.{FramePlace}
 
 -- none stands
-pub none_begun : (d : Dir) → begun_of (record { tester = None; unit = None }) d ≡ None
+pub none_begun : (d : Dir) → reception_start (record { tester = None; unit = None }) d ≡ None
 none_begun Tester = refl
 none_begun Unit = refl
 
 -- that of one direction is another now
-pub of_tester : (begun : Option FramePlace) (old : ReceptionStarts) (d : Dir) → begun_of (record { tester = begun; unit = old.unit }) d ≡ (if same_direction d Tester then begun else begun_of old d)
+pub of_tester : (begun : Option FramePlace) (old : ReceptionStarts) (d : Dir) → reception_start (record { tester = begun; unit = old.unit }) d ≡ (if same_direction d Tester then begun else reception_start old d)
 of_tester begun old Tester = refl
 of_tester begun old Unit = refl
 
-pub of_unit : (begun : Option FramePlace) (old : ReceptionStarts) (d : Dir) → begun_of (record { tester = old.tester; unit = begun }) d ≡ (if same_direction d Unit then begun else begun_of old d)
+pub of_unit : (begun : Option FramePlace) (old : ReceptionStarts) (d : Dir) → reception_start (record { tester = old.tester; unit = begun }) d ≡ (if same_direction d Unit then begun else reception_start old d)
 of_unit begun old Tester = refl
 of_unit begun old Unit = refl
 
 module _ (here : FramePlace) (begun : Option FramePlace) where
   -- it is over with a message
-  pub over : (own : Bool) (bytes : List ℕ) → (if own then None else begun) ≡ moved_by own (message bytes) here begun
+  pub over : (own : Bool) (bytes : List ℕ) → (if own then None else begun) ≡ start_after_verdict own (message bytes) here begun
   over true bytes = refl
   over false bytes = refl
 
   -- it begins with a first frame
-  pub anew : (own : Bool) → (if own then Some here else begun) ≡ moved_by own began here begun
+  pub anew : (own : Bool) → (if own then Some here else begun) ≡ start_after_verdict own began here begun
   anew true = refl
   anew false = refl
 
   -- and else it goes on
-  pub on_stored : (own : Bool) → begun ≡ moved_by own stored here begun
+  pub on_stored : (own : Bool) → begun ≡ start_after_verdict own stored here begun
   on_stored true = refl
   on_stored false = refl
 
-  pub on_flow : (own : Bool) → begun ≡ moved_by own flowed here begun
+  pub on_flow : (own : Bool) → begun ≡ start_after_verdict own flowed here begun
   on_flow true = refl
   on_flow false = refl
 
-  pub on_drop : (own : Bool) (reason : Reason) → begun ≡ moved_by own (dropped reason) here begun
+  pub on_drop : (own : Bool) (reason : Reason) → begun ≡ start_after_verdict own (dropped reason) here begun
   on_drop true reason = refl
   on_drop false reason = refl

@@ -10,13 +10,13 @@ use Rattle.isotp_segment.specs.Timed.{all_frames}
 use Rattle.uds_exchange.specs.Order.{early}
 use Rattle.uds_exchange.specs.Judging.{sent}
 use Rattle.uds_exchange.specs.declared.judge.Judged.{Judged}
-use Rattle.trace_run.proofs.Promises.{CompletesJudged}
+use Rattle.trace_run.specs.Seen.{CompletesJudged}
 use Rattle.uds_exchange.specs.Orderer.{IsHeld, JudgedOrdererValue, judged_orderer_after}
 use Rattle.trace_canon.specs.MemoryNeeded.{CompletesMessage, CompletesHeld}
-use Rattle.trace_canon.specs.CanonicalScript.{place_behind, lines_due, StandsCanonical}
+use Rattle.trace_canon.specs.proving.CanonicalScript.{progress_behind, lines_due, StandsCanonical}
 use Rattle.trace_canon.specs.proving.Saying.{SaysDue}
 use Rattle.trace_log.specs.Settings.{Settings}
-use Rattle.trace_canon.specs.proving.Writing.{Progress, start_of, text_from, progress_after}
+use Rattle.trace_canon.specs.proving.Writing.{ProgressValue, start_of, text_from, progress_after}
 use Rattle.trace_canon.proofs.CanonicalWriting.{text_none, place_append}
 use Rattle.trace_log.proofs.Promises.{messages_more, all_frames-append}
 
@@ -37,7 +37,7 @@ completes_held T e judged completes held =
 
 -- a message: what is due with it was said
 pub says_next : {S : Type 0} (says : S → List ℕ → S → Type 0) (settings config : Settings) (T : List Entry) (e : Entry) (message : Message)
-    (orderer orderer_now : JudgedOrdererValue) (progress progress_now : Progress) (out out_now : S) → messages MESSAGE_LIMIT (T ++ e ∷ []) ≡ messages MESSAGE_LIMIT T ++ message ∷ []
+    (orderer orderer_now : JudgedOrdererValue) (progress progress_now : ProgressValue) (out out_now : S) → messages MESSAGE_LIMIT (T ++ e ∷ []) ≡ messages MESSAGE_LIMIT T ++ message ∷ []
     → StandsCanonical settings T orderer config progress → orderer_now ≡ judged_orderer_after (messages MESSAGE_LIMIT T ++ message ∷ [])
     → SaysDue says config (messages MESSAGE_LIMIT T) message progress out progress_now out_now
     → StandsCanonical settings (T ++ e ∷ []) orderer_now config progress_now
@@ -53,16 +53,16 @@ says_next says settings config T e message orderer orderer_now progress progress
         same = same;
         at = at ∙ ap (λ c. progress_after c progress (all_frames MESSAGE_LIMIT due)) same ∙ ap (λ p. progress_after settings p (all_frames MESSAGE_LIMIT due)) stood_at
             ∙ sym (place_append settings (start_of settings.max_bytes) (all_frames MESSAGE_LIMIT (early M)) (all_frames MESSAGE_LIMIT due))
-            ∙ ap (progress_after settings (start_of settings.max_bytes)) (sym (all_frames-append MESSAGE_LIMIT (early M) due)) ∙ ap (place_behind settings) (sym longer);
+            ∙ ap (progress_after settings (start_of settings.max_bytes)) (sym (all_frames-append MESSAGE_LIMIT (early M) due)) ∙ ap (progress_behind settings) (sym longer);
       },
       subst (λ text. says out text out_now)
           (ap (λ c. text_from c progress (all_frames MESSAGE_LIMIT due)) same ∙ ap (λ p. text_from settings p (all_frames MESSAGE_LIMIT due)) stood_at
-          ∙ ap (λ x. text_from settings (place_behind settings (early M)) (all_frames MESSAGE_LIMIT x)) (sym left)) said,
+          ∙ ap (λ x. text_from settings (progress_behind settings (early M)) (all_frames MESSAGE_LIMIT x)) (sym left)) said,
     )
 
 -- no message: nothing is
 pub says_nothing_more : {S : Type 0} (says : S → List ℕ → S → Type 0) (nothing : (s : S) → says s [] s) (settings config : Settings) (T : List Entry) (e : Entry)
-    (orderer : JudgedOrdererValue) (progress : Progress) (out : S) → messages MESSAGE_LIMIT (T ++ e ∷ []) ≡ messages MESSAGE_LIMIT T
+    (orderer : JudgedOrdererValue) (progress : ProgressValue) (out : S) → messages MESSAGE_LIMIT (T ++ e ∷ []) ≡ messages MESSAGE_LIMIT T
     → StandsCanonical settings T orderer config progress
     → StandsCanonical settings (T ++ e ∷ []) orderer config progress
     × says out (lines_due settings (messages MESSAGE_LIMIT T) (messages MESSAGE_LIMIT (T ++ e ∷ []))) out
@@ -71,7 +71,7 @@ says_nothing_more says nothing settings config T e orderer progress out next sto
     let same : messages MESSAGE_LIMIT (T ++ e ∷ []) ≡ M = next in
     let none : drop (length (early M)) (early (messages MESSAGE_LIMIT (T ++ e ∷ []))) ≡ [] =
     ap (λ x. drop (length (early M)) (early x)) same ∙ ap (drop (length (early M))) (sym (append-nil (early M))) ∙ drop-append_seam (early M) [] in (
-      record { ordered = stood.ordered ∙ ap judged_orderer_after (sym same); same = stood.same; at = stood.at ∙ ap (λ x. place_behind settings (early x)) (sym same) },
+      record { ordered = stood.ordered ∙ ap judged_orderer_after (sym same); same = stood.same; at = stood.at ∙ ap (λ x. progress_behind settings (early x)) (sym same) },
       subst (λ text. says out text out)
-          (sym (ap (λ x. text_from settings (place_behind settings (early M)) (all_frames MESSAGE_LIMIT x)) none ∙ text_none settings (place_behind settings (early M)))) (nothing out),
+          (sym (ap (λ x. text_from settings (progress_behind settings (early M)) (all_frames MESSAGE_LIMIT x)) none ∙ text_none settings (progress_behind settings (early M)))) (nothing out),
     )

@@ -16,10 +16,11 @@ use Rattle.uds_exchange.specs.Order.{early, held}
 use Rattle.uds_exchange.specs.Orderer.{JudgedOrdererValue}
 use Rattle.uds_exchange.specs.Meaning.{meaning, flattened}
 use Rattle.uds_exchange.proofs.Promises.{early_grows, early_then_held}
-use Rattle.trace_canon.specs.CanonicalScript.{StandsCanonical, is_too_long, answers_canonical, CanonicalTellsTheSame, canonical_script, place_behind, lines_due, text_of_early, CanonicalTellsEarly}
+use Rattle.trace_canon.specs.proving.CanonicalScript.{StandsCanonical, is_too_long, answers_canonical, CanonicalTellsTheSame, canonical_script, progress_behind, lines_due, text_of_early, CanonicalTellsEarly}
 use Rattle.trace_canon.specs.InMemory.{HasTextOf}
-use Rattle.trace_run.specs.Told.{tells_no_refusal, told_after, told, told_of_lines, whole_of_lines, AnswersTold, EndsWith, FailsToTell, WritesTold, WritesToldAndRefusal, WritesFrontOfWhole, TellsEagerly}
-use Rattle.trace_canon.specs.proving.Writing.{Progress, start_of, text_from, progress_after}
+use Rattle.trace_run.specs.Script.{tells_no_refusal, told_after, told, told_of_lines, whole_of_lines}
+use Rattle.trace_run.specs.Told.{AnswersTold, EndsWith, FailsToTell, WritesTold, WritesToldAndRefusal, WritesFrontOfWhole, TellsEagerly}
+use Rattle.trace_canon.specs.proving.Writing.{ProgressValue, start_of, text_from, progress_after}
 use Rattle.trace_canon.proofs.CanonicalWriting.{text_none, text_append, place_append}
 use Rattle.trace_canon.proofs.Answered.{answers_accepted, answers_output_limit}
 use Rattle.trace_canon.proofs.Hearings.{all_begin}
@@ -27,7 +28,7 @@ use Rattle.trace_canon.proofs.FittingLines.{over_when, within_when}
 use Rattle.trace_run.proofs.Promises.{front_of_whole}
 use Rattle.trace_log.specs.declared.fault.Fault.{Fault}
 use Rattle.trace_log.specs.declared.fault.Fault.TheVariants.{BadLine, Oversize, LogLimit, OutputLimit, Read, Write, Memory}
-use Rattle.trace_run.specs.declared.machine.Stop.TheVariants as end_stop
+use Rattle.trace_run.specs.declared.machine.NoAnswer.TheVariants as no_answer
 use Rattle.trace_log.specs.declared.summary.Summary.{Summary}
 use Rattle.trace_log.specs.Answers.{Answers, WritesFront, WritesEagerly}
 use Rattle.trace_log.specs.LinesRead.{WritesTextOfRead}
@@ -55,7 +56,7 @@ module _ (settings : Settings) where
       let longer : early (messages MESSAGE_LIMIT (T ++ e ∷ [])) ≡ early M ++ grows.0 = ap early (messages_more MESSAGE_LIMIT T e) ∙ grows.1 in
       let left : drop (length (early M)) (early (messages MESSAGE_LIMIT (T ++ e ∷ []))) ≡ grows.0 = ap (drop (length (early M))) longer ∙ drop-append_seam (early M) grows.0 in
       let begin = start_of settings.max_bytes in
-      ap (λ due. text_of_early settings T ++ text_from settings (place_behind settings (early M)) (all_frames MESSAGE_LIMIT due)) left
+      ap (λ due. text_of_early settings T ++ text_from settings (progress_behind settings (early M)) (all_frames MESSAGE_LIMIT due)) left
       ∙ sym (text_append settings begin (all_frames MESSAGE_LIMIT (early M)) (all_frames MESSAGE_LIMIT grows.0))
       ∙ ap (text_from settings begin) (sym (all_frames-append MESSAGE_LIMIT (early M) grows.0))
       ∙ ap (λ x. text_from settings begin (all_frames MESSAGE_LIMIT x)) (sym longer)
@@ -74,18 +75,18 @@ canonical_tells_early settings T =
 
 -- where the text stands at the end
 pub place_at_end : (settings : Settings) (M : List Message)
-    → progress_after settings (place_behind settings (early M)) (all_frames MESSAGE_LIMIT (held M)) ≡ place_behind settings (flattened (meaning M))
+    → progress_after settings (progress_behind settings (early M)) (all_frames MESSAGE_LIMIT (held M)) ≡ progress_behind settings (flattened (meaning M))
 place_at_end settings M =
     let begin = start_of settings.max_bytes in
     sym (place_append settings begin (all_frames MESSAGE_LIMIT (early M)) (all_frames MESSAGE_LIMIT (held M)))
-    ∙ ap (progress_after settings begin) (sym (all_frames-append MESSAGE_LIMIT (early M) (held M))) ∙ ap (place_behind settings) (early_then_held M)
+    ∙ ap (progress_after settings begin) (sym (all_frames-append MESSAGE_LIMIT (early M) (held M))) ∙ ap (progress_behind settings) (early_then_held M)
 
 -- a line did not fit
-pub over_at_end : (settings config : Settings) (T : List Entry) (orderer : JudgedOrdererValue) (progress after : Progress) → StandsCanonical settings T orderer config progress
-    → after ≡ progress_after config progress (all_frames MESSAGE_LIMIT (held (messages MESSAGE_LIMIT T))) → after.is_over ≡ is_too_long settings T
+pub over_at_end : (settings config : Settings) (T : List Entry) (orderer : JudgedOrdererValue) (progress after : ProgressValue) → StandsCanonical settings T orderer config progress
+    → after ≡ progress_after config progress (all_frames MESSAGE_LIMIT (held (messages MESSAGE_LIMIT T))) → after.is_full ≡ is_too_long settings T
 over_at_end settings config T orderer progress after stands at =
     let frames = all_frames MESSAGE_LIMIT (held (messages MESSAGE_LIMIT T)) in
-    ap (λ (p : Progress). p.is_over)
+    ap (λ (p : ProgressValue). p.is_full)
     (at ∙ ap (λ s. progress_after s progress frames) stands.same ∙ ap (λ p. progress_after settings p frames) stands.at ∙ place_at_end settings (messages MESSAGE_LIMIT T))
 
 -- what was said of messages is what fits of their canonical log
@@ -94,11 +95,11 @@ unfolding text_from canonical_log
 said_fits settings put = sym (fitting_frames settings (all_frames MESSAGE_LIMIT put))
 
 -- it is too long where a line did not fit
-long_when : (settings : Settings) (put : List Message) → (place_behind settings put).is_over ≡ true → settings.max_bytes < length (canonical_log MESSAGE_LIMIT settings put)
+long_when : (settings : Settings) (put : List Message) → (progress_behind settings put).is_full ≡ true → settings.max_bytes < length (canonical_log MESSAGE_LIMIT settings put)
 unfolding canonical_log log_of_frames
 long_when settings put over = over_when settings (start_of settings.max_bytes) (all_frames MESSAGE_LIMIT put) refl over
 
-whole_when : (settings : Settings) (put : List Message) → (place_behind settings put).is_over ≡ false
+whole_when : (settings : Settings) (put : List Message) → (progress_behind settings put).is_full ≡ false
     → (length (canonical_log MESSAGE_LIMIT settings put) ≤ settings.max_bytes)
     × (text_from settings (start_of settings.max_bytes) (all_frames MESSAGE_LIMIT put) ≡ canonical_log MESSAGE_LIMIT settings put)
 unfolding canonical_log log_of_frames
@@ -113,7 +114,7 @@ module _ (settings : Settings) where
   whole_said log meanings =
       let M = messages MESSAGE_LIMIT (trace settings meanings) in
       let begin = start_of settings.max_bytes in
-      ap (λ x. x ++ text_from settings (place_behind settings (early M)) (all_frames MESSAGE_LIMIT (held M))) (canonical_tells_early settings (trace settings meanings))
+      ap (λ x. x ++ text_from settings (progress_behind settings (early M)) (all_frames MESSAGE_LIMIT (held M))) (canonical_tells_early settings (trace settings meanings))
       ∙ sym (text_append settings begin (all_frames MESSAGE_LIMIT (early M)) (all_frames MESSAGE_LIMIT (held M)))
       ∙ ap (text_from settings begin) (sym (all_frames-append MESSAGE_LIMIT (early M) (held M)))
       ∙ ap (λ x. text_from settings begin (all_frames MESSAGE_LIMIT x)) (early_then_held M)
@@ -187,25 +188,25 @@ module _ (settings : Settings) where
       where
         by : (b : Bool) → is_too_long settings (trace settings meanings) ≡ b → Answers MESSAGE_LIMIT settings log given (Ok summary) old new
         by true is =
-            let same : Ok summary ≡ Err end_stop.OutputLimit =
-            answer ∙ ap (λ (b : Bool). if b then Err end_stop.OutputLimit else Ok (summary_of MESSAGE_LIMIT settings log meanings)) is in
+            let same : Ok summary ≡ Err no_answer.OutputLimit =
+            answer ∙ ap (λ (b : Bool). if b then Err no_answer.OutputLimit else Ok (summary_of MESSAGE_LIMIT settings log meanings)) is in
             absurd (cc same)
         by false is =
             let same : Ok summary ≡ Ok (summary_of MESSAGE_LIMIT settings log meanings) =
-            answer ∙ ap (λ (b : Bool). if b then Err end_stop.OutputLimit else Ok (summary_of MESSAGE_LIMIT settings log meanings)) is in
+            answer ∙ ap (λ (b : Bool). if b then Err no_answer.OutputLimit else Ok (summary_of MESSAGE_LIMIT settings log meanings)) is in
             let counted : summary ≡ summary_of MESSAGE_LIMIT settings log meanings = cc same in
             let fits = whole_when settings (flattened (meaning (messages MESSAGE_LIMIT (trace settings meanings)))) is in
             subst (λ s. Answers MESSAGE_LIMIT settings log given (Ok s) old new) (sym counted)
             (answers_accepted MESSAGE_LIMIT settings log given meanings old new read fits.0 (wrote ∙ ap (λ x. old ++ x) (whole_said log meanings ∙ fits.1)))
 
-    ends_over : EndsWith (canonical_script settings) (answers_canonical settings) MESSAGE_LIMIT settings log given (Err end_stop.OutputLimit) old new
+    ends_over : EndsWith (canonical_script settings) (answers_canonical settings) MESSAGE_LIMIT settings log given (Err no_answer.OutputLimit) old new
         → Answers MESSAGE_LIMIT settings log given (Err OutputLimit) old new
     ends_over (all, meanings, read, answer, wrote) = by (is_too_long settings (trace settings meanings)) refl
       where
         by : (b : Bool) → is_too_long settings (trace settings meanings) ≡ b → Answers MESSAGE_LIMIT settings log given (Err OutputLimit) old new
         by false is =
-            let same : Err end_stop.OutputLimit ≡ Ok (summary_of MESSAGE_LIMIT settings log meanings) =
-            answer ∙ ap (λ (b : Bool). if b then Err end_stop.OutputLimit else Ok (summary_of MESSAGE_LIMIT settings log meanings)) is in
+            let same : Err no_answer.OutputLimit ≡ Ok (summary_of MESSAGE_LIMIT settings log meanings) =
+            answer ∙ ap (λ (b : Bool). if b then Err no_answer.OutputLimit else Ok (summary_of MESSAGE_LIMIT settings log meanings)) is in
             absurd (cc same)
         by true is =
             answers_output_limit MESSAGE_LIMIT settings log given meanings old new read all (long_when settings (flattened (meaning (messages MESSAGE_LIMIT (trace settings meanings)))) is)

@@ -122,7 +122,7 @@ pub all_begin : (log : List ℕ) (meanings : List (Option Stamped)) → LogMeans
 all_begin log meanings means = record { lines = log_lines log; later = []; parts = sym (append-nil (log_lines log)); means = means }
 
 module _ (settings : Settings) (log : List ℕ) (meanings : List (Option Stamped)) (short : length log ≤ settings.max_bytes) (means : LogMeans log meanings) where
-  pub heard_end : (result : Result Found Fault) → IfOk result (λ found. IsFoundOf log meanings found.pairs.items found.summary) → IfErr result (λ why. why ≡ fault.Memory)
+  pub heard_end : (result : Result Found Fault) → IfOk result (λ found. IsFoundOf log meanings found.credit_lines.items found.summary) → IfErr result (λ why. why ≡ fault.Memory)
       → GivesFound settings log result
   heard_end (Ok found) is none = (meanings, (short, means), is)
   heard_end (Err why) none is = subst (IsUnheardFor settings log) (sym is) tt

@@ -25,8 +25,10 @@ use Rattle.trace_canon.specs.MemoryNeeded.{NeedsMemoryToCollect, NeedsMemoryToOr
 use Rattle.trace_canon.specs.MessageLines.{placing_script}
 use Rattle.trace_canon.specs.WrittenAtEnd.{LeavesOnce, WritesOnce}
 use Rattle.trace_log.specs.Settings.{Settings}
-use Rattle.trace_run.specs.Told.{Refusal, IsUnreadFor, AnswersTold, FailsToTell, answers_counts, tells_no_refusal, told_of_lines, whole_of_lines}
-use Rattle.trace_run.proofs.Promises.{lenient, unread_for}
+use Rattle.trace_run.specs.Script.{RefusalText, answers_counts, tells_no_refusal, told_of_lines, whole_of_lines}
+use Rattle.trace_run.specs.Told.{IsUnreadFor, AnswersTold, FailsToTell}
+use Rattle.trace_run.specs.Script.{lenient}
+use Rattle.trace_run.proofs.Promises.{unread_for}
 use Rattle.trace_text.specs.declared.notation.Notation.{Notation}
 use Rattle.trace_canon.proofs.Hearings.{all_begin}
 
@@ -131,7 +133,7 @@ told_some word limit settings log given old new (inl (wrote, inr ends)) = record
 told_some word limit settings log given old new (inr refuses) = absurd (omega (arith, refuses.some))
 
 -- a text that is told as the log comes, by a script that is not strict
-pub told_in_memory : (word : List Entry → Entry → List ℕ) (last : List Entry → Summary → List ℕ) (refusal : Refusal) (NeedsMemory : ℕ → Settings → List ℕ → Type 0) (limit : ℕ) (settings : Settings) (log : List ℕ) (given : ℕ)
+pub told_in_memory : (word : List Entry → Entry → List ℕ) (last : List Entry → Summary → List ℕ) (refusal : RefusalText) (NeedsMemory : ℕ → Settings → List ℕ → Type 0) (limit : ℕ) (settings : Settings) (log : List ℕ) (given : ℕ)
     (answer : Result Summary Fault) (old taken held : List ℕ) → old ≡ [] → taken ≡ held → FailedIf Read answer 0 0 → (answer ≡ Err Memory → NeedsMemory limit settings log)
     → (FailsToTell (lenient word last) refusal limit settings log given old taken → NeedsMemory limit settings log)
     → AnswersTold (lenient word last) refusal answers_counts limit settings log given answer old taken

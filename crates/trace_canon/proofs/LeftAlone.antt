@@ -1,5 +1,5 @@
 -- A target is left alone where a log has no text.
-use Rattle.std.proofs.Common.{◌≡◌, ◌≢◌, ℕ, List, refl}
+use Rattle.std.proofs.Common.{◌≢◌, ℕ, List, refl}
 use Rattle.trace_log.specs.declared.fault.Fault.{Fault}
 use Rattle.trace_log.specs.declared.fault.Fault.TheVariants.{BadLine, Oversize, LogLimit, OutputLimit, Read, Write, Memory}
 use Rattle.trace_log.specs.declared.summary.Summary.{Summary}

@@ -19,6 +19,6 @@ pub mod SessionScripts
 pub mod WatchScripts
 pub mod InMemories
 pub mod Hearings
-pub mod PairLines
+pub mod CreditLines
 -- what the crates above may cite
 pub mod Promises

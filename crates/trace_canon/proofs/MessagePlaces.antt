@@ -18,7 +18,7 @@ use Rattle.isotp_receive.specs.Trace.{Entry, role, own_role, other_role, same_di
 use Rattle.isotp_receive.specs.Verdict.{message, on_layout, on_fit, verdict}
 use Rattle.isotp_receive.proofs.Promises.{one_more, same-self, other-apart, apart-flipped}
 use Rattle.trace_canon.specs.proving.ReceptionStarts.{IsBegunAt}
-use Rattle.trace_canon.specs.ReceptionStarts.{begun_after, began_at}
+use Rattle.trace_canon.specs.ReceptionStarts.{start_after_event, message_start}
 use Rattle.trace_canon.specs.MessageLines.{place_of, starts, last_start, first_frame}
 use Rattle.trace_canon.specs.declared.reception_starts.FramePlace.{FramePlace}
 
@@ -37,7 +37,7 @@ at place standing = option_map (λ (s : StandingReception). place) standing
 
 -- a consecutive frame of the direction, by how it fits
 on_fitting : (d : Dir) (standing : StandingReception) (micros sequence_number : ℕ) (bytes : List ℕ) (here place : FramePlace) (fit : Fit)
-    → begun_after d d (on_fit d standing fit sequence_number bytes) here (Some place) ≡ at place (continued_by fit standing micros bytes)
+    → start_after_event d d (on_fit d standing fit sequence_number bytes) here (Some place) ≡ at place (continued_by fit standing micros bytes)
 on_fitting d standing micros sequence_number bytes here place late = rw (same-self d) refl
 on_fitting d standing micros sequence_number bytes here place wrong_number = rw (same-self d) refl
 on_fitting d standing micros sequence_number bytes here place wrong_length = rw (same-self d) refl
@@ -48,7 +48,7 @@ on_fitting d standing micros sequence_number bytes here place last = rw (same-se
 module _ (line micros : ℕ) (here : FramePlace) where
   -- a frame of the direction itself
   own_next : (d : Dir) (own others : Option StandingReception) (place : FramePlace) (read : Result Layout PduFault)
-      → begun_after d d (on_layout MESSAGE_LIMIT d own others micros read) here (at place own)
+      → start_after_event d d (on_layout MESSAGE_LIMIT d own others micros read) here (at place own)
       ≡ at (if starts (own_role line micros read) then here else place) (after MESSAGE_LIMIT own micros (own_role line micros read))
   own_next d own others place (Err fault) = rw (same-self d) refl
   own_next d None others place (Ok (layout.single whole)) = rw (same-self d) refl
@@ -70,7 +70,7 @@ module _ (line micros : ℕ) (here : FramePlace) where
 
   -- what a consecutive frame of the other direction does
   other_fitting : (d : Dir) (standing : StandingReception) (sequence_number : ℕ) (bytes : List ℕ) (begun : Option FramePlace) (fit : Fit)
-      → begun_after (other_direction d) d (on_fit d standing fit sequence_number bytes) here begun ≡ begun
+      → start_after_event (other_direction d) d (on_fit d standing fit sequence_number bytes) here begun ≡ begun
   other_fitting d standing sequence_number bytes begun late = rw (other-apart d) refl
   other_fitting d standing sequence_number bytes begun wrong_number = rw (other-apart d) refl
   other_fitting d standing sequence_number bytes begun wrong_length = rw (other-apart d) refl
@@ -79,7 +79,7 @@ module _ (line micros : ℕ) (here : FramePlace) where
 
   -- a frame of the other direction d
   other_next : (d : Dir) (own others : Option StandingReception) (place : FramePlace) (read : Result Layout PduFault)
-      → begun_after (other_direction d) d (on_layout MESSAGE_LIMIT d own others micros read) here (at place others)
+      → start_after_event (other_direction d) d (on_layout MESSAGE_LIMIT d own others micros read) here (at place others)
       ≡ at (if starts (other_role read) then here else place) (after MESSAGE_LIMIT others micros (other_role read))
   other_next d own others place (Err fault) = rw (other-apart d) refl
   other_next d None others place (Ok (layout.single whole)) = rw (other-apart d) refl
@@ -100,7 +100,7 @@ module _ (line micros : ℕ) (here : FramePlace) where
   -- where the message began that a frame completes: here, or where the reception did that stood
   first_found : (d : Dir) (own others : Option StandingReception) (place : FramePlace) (read : Result Layout PduFault) (whole : List ℕ)
       → (on_layout MESSAGE_LIMIT d own others micros read).verdict ≡ message whole
-      → began_at d (on_layout MESSAGE_LIMIT d own others micros read) here (at place own) ≡ (if starts (own_role line micros read) then here else place)
+      → message_start d (on_layout MESSAGE_LIMIT d own others micros read) here (at place own) ≡ (if starts (own_role line micros read) then here else place)
   first_found d own others place (Err fault) whole is = absurd (cc is)
   first_found d None others place (Ok (layout.single bytes)) whole is = refl
   first_found d (Some standing) others place (Ok (layout.single bytes)) whole is = rw (same-self d) refl
@@ -110,7 +110,7 @@ module _ (line micros : ℕ) (here : FramePlace) where
   first_found d (Some standing) others place (Ok (layout.consecutive sequence_number can_dl bytes)) whole is =
       by (fit_of standing micros sequence_number can_dl) is
     where
-      by : (fit : Fit) → (on_fit d standing fit sequence_number bytes).verdict ≡ message whole → began_at d (on_fit d standing fit sequence_number bytes) here (Some place) ≡ place
+      by : (fit : Fit) → (on_fit d standing fit sequence_number bytes).verdict ≡ message whole → message_start d (on_fit d standing fit sequence_number bytes) here (Some place) ≡ place
       by late it = absurd (cc it)
       by wrong_number it = absurd (cc it)
       by wrong_length it = absurd (cc it)
@@ -140,7 +140,7 @@ role_other d line micros frame = rw (other-apart d) refl
 pub own_begun : (d : Dir) (T : List Entry) (line micros : ℕ) (frame : FrameValue) (begun : Option FramePlace)
     → IsBegunAt d T begun
     → IsBegunAt d (T ++ record { line = line; micros = micros; dir = d; frame = frame } ∷ [])
-    (begun_after d d (verdict MESSAGE_LIMIT T (record { line = line; micros = micros; dir = d; frame = frame })) (record { line = line; micros = micros }) begun)
+    (start_after_event d d (verdict MESSAGE_LIMIT T (record { line = line; micros = micros; dir = d; frame = frame })) (record { line = line; micros = micros }) begun)
 unfolding verdict
 own_begun d T line micros frame begun is earlier =
     let e : Entry = record { line = line; micros = micros; dir = d; frame = frame } in
@@ -150,7 +150,7 @@ own_begun d T line micros frame begun is earlier =
 pub other_begun : (d : Dir) (T : List Entry) (line micros : ℕ) (frame : FrameValue) (begun : Option FramePlace)
     → IsBegunAt (other_direction d) T begun
     → IsBegunAt (other_direction d) (T ++ record { line = line; micros = micros; dir = d; frame = frame } ∷ [])
-    (begun_after (other_direction d) d (verdict MESSAGE_LIMIT T (record { line = line; micros = micros; dir = d; frame = frame })) (record { line = line; micros = micros }) begun)
+    (start_after_event (other_direction d) d (verdict MESSAGE_LIMIT T (record { line = line; micros = micros; dir = d; frame = frame })) (record { line = line; micros = micros }) begun)
 unfolding verdict
 other_begun d T line micros frame begun is earlier =
     let o : Dir = other_direction d in
@@ -162,7 +162,7 @@ other_begun d T line micros frame begun is earlier =
 pub first_of : (d : Dir) (T : List Entry) (line micros : ℕ) (frame : FrameValue) (begun : Option FramePlace) (whole : List ℕ)
     → IsBegunAt d T begun
     → (verdict MESSAGE_LIMIT T (record { line = line; micros = micros; dir = d; frame = frame })).verdict ≡ message whole
-    → began_at d (verdict MESSAGE_LIMIT T (record { line = line; micros = micros; dir = d; frame = frame })) (record { line = line; micros = micros }) begun
+    → message_start d (verdict MESSAGE_LIMIT T (record { line = line; micros = micros; dir = d; frame = frame })) (record { line = line; micros = micros }) begun
     ≡ place_of (first_frame T (record { line = line; micros = micros; dir = d; frame = frame }))
 unfolding verdict
 first_of d T line micros frame begun whole is completes =

@@ -13,16 +13,17 @@ use Rattle.uds_exchange.specs.ItemSink.{PutsItems}
 use Rattle.uds_exchange.specs.Meaning.{ItemValue, meaning}
 use Rattle.uds_exchange.specs.Judging.{one_more, sent}
 use Rattle.uds_exchange.specs.declared.judge.Judged.{Judged}
-use Rattle.trace_run.proofs.Promises.{CompletesJudged}
+use Rattle.trace_run.specs.Seen.{CompletesJudged}
 use Rattle.uds_exchange.proofs.Promises.{decided_grows, decided_then_undecided, items_are_few, none_is_lost}
 use Rattle.trace_text.specs.ItemLines.{item_line, list_text, list_text_from}
 use Rattle.trace_log.specs.Messages.{meaning_of_lines}
 use Rattle.trace_canon.specs.MemoryNeeded.{CompletesKept}
 use Rattle.trace_log.specs.Settings.{Settings}
 use Rattle.trace_log.specs.Summing.{summary_of}
-use Rattle.trace_run.specs.Told.{AnswersTold, answers_counts, tells_no_refusal, told_after}
+use Rattle.trace_run.specs.Script.{answers_counts, tells_no_refusal, told_after}
+use Rattle.trace_run.specs.Told.{AnswersTold}
 use Rattle.trace_log.specs.Trace.{trace}
-use Rattle.trace_canon.specs.WatchScript.{decided_of, decided_by, text_behind, watching_script, WatchTellsDecided, WatchTellsTheList, WritesTheList}
+use Rattle.trace_canon.specs.WatchScript.{decided_of, newly_decided, text_behind, watching_script, WatchTellsDecided, WatchTellsTheList, WritesTheList}
 use Rattle.trace_canon.specs.proving.Watching.{SaysLines, SaysDecided, WatchesItems}
 use Rattle.trace_log.specs.declared.fault.Fault.{Fault}
 use Rattle.trace_text.specs.declared.item_style.ItemStyle.{ItemStyle}
@@ -92,11 +93,11 @@ module _ {S : Type 0} (says : S → List ℕ → S → Type 0) (style kept : Ite
   pub watches_next : (e : Entry) (message : Message) (decider decider_now : DeciderValue) (number number_now : ℕ) (out out_now : S) → length T < 2 ^ 62
       → messages MESSAGE_LIMIT (T ++ e ∷ []) ≡ messages MESSAGE_LIMIT T ++ message ∷ [] → WatchesItems style T decider kept number
       → decider_now ≡ decider_after (messages MESSAGE_LIMIT T ++ message ∷ []) → SaysDecided says kept (messages MESSAGE_LIMIT T) message number out number_now out_now
-      → WatchesItems style (T ++ e ∷ []) decider_now kept number_now × says out (text_behind style T (decided_by T e)) out_now
+      → WatchesItems style (T ++ e ∷ []) decider_now kept number_now × says out (text_behind style T (newly_decided T e)) out_now
   watches_next e message decider decider_now number number_now out out_now few next stood decides (items, are, lines) =
       let before = decided_of T in
       let longer : decided_of (T ++ e ∷ []) ≡ before ++ items = ap decided next ∙ are in
-      let left : decided_by T e ≡ items = ap (drop (length before)) longer ∙ drop-append_seam before items in
+      let left : newly_decided T e ≡ items = ap (drop (length before)) longer ∙ drop-append_seam before items in
       let grown = ap length longer ∙ length-append before items in
       let frames = length-append T (e ∷ []) in
       let all_few = few_items (T ++ e ∷ []) in
@@ -110,11 +111,11 @@ module _ {S : Type 0} (says : S → List ℕ → S → Type 0) (style kept : Ite
   -- no message: nothing is
   pub watches_on : (nothing : (s : S) → says s [] s) (e : Entry) (decider : DeciderValue) (number : ℕ) (out : S) → length T < 2 ^ 62
       → messages MESSAGE_LIMIT (T ++ e ∷ []) ≡ messages MESSAGE_LIMIT T → WatchesItems style T decider kept number
-      → WatchesItems style (T ++ e ∷ []) decider kept number × says out (text_behind style T (decided_by T e)) out
+      → WatchesItems style (T ++ e ∷ []) decider kept number × says out (text_behind style T (newly_decided T e)) out
   watches_on nothing e decider number out few next stood =
       let before = decided_of T in
       let same : messages MESSAGE_LIMIT (T ++ e ∷ []) ≡ messages MESSAGE_LIMIT T = next in
-      let none : decided_by T e ≡ [] = ap (λ M. drop (length before) (decided M)) same ∙ ap (drop (length before)) (sym (append-nil before)) ∙ drop-append_seam before [] in
+      let none : newly_decided T e ≡ [] = ap (λ M. drop (length before) (decided M)) same ∙ ap (drop (length before)) (sym (append-nil before)) ∙ drop-append_seam before [] in
       let frames = length-append T (e ∷ []) in (
         record {
           decides = stood.decides ∙ ap decider_after (sym same);
@@ -143,18 +144,18 @@ module _ (style : ItemStyle) where
   joined : (T : List Entry) (items : List ItemValue) → list_text style (decided_of T) ++ text_behind style T items ≡ list_text style (decided_of T ++ items)
   joined T items = sym (lines-append style 1 (decided_of T) items)
 
-  next_told : (T : List Entry) (e : Entry) → list_text style (decided_of T) ++ text_behind style T (decided_by T e) ≡ list_text style (decided_of (T ++ e ∷ []))
+  next_told : (T : List Entry) (e : Entry) → list_text style (decided_of T) ++ text_behind style T (newly_decided T e) ≡ list_text style (decided_of (T ++ e ∷ []))
   next_told T e =
       let M = messages MESSAGE_LIMIT T in
       let grows = decided_grows M (told_message e.dir (verdict MESSAGE_LIMIT T e).verdict) in
       let longer : decided_of (T ++ e ∷ []) ≡ decided M ++ grows.0 = ap decided (messages_more MESSAGE_LIMIT T e) ∙ grows.1 in
-      let left : decided_by T e ≡ grows.0 = ap (drop (length (decided M))) longer ∙ drop-append_seam (decided M) grows.0 in
+      let left : newly_decided T e ≡ grows.0 = ap (drop (length (decided M))) longer ∙ drop-append_seam (decided M) grows.0 in
       ap (λ items. list_text style (decided_of T) ++ text_behind style T items) left ∙ joined T grows.0 ∙ ap (list_text style) (sym longer)
 
   from_there : (past rest : List Entry) → list_text style (decided_of past) ++ told_after ((watching_script style).word) past rest ≡ list_text style (decided_of (past ++ rest))
   from_there past [] = append-nil (list_text style (decided_of past)) ∙ ap (λ T. list_text style (decided_of T)) (sym (append-nil past))
   from_there past (e ∷ rest) =
-      let word = text_behind style past (decided_by past e) in
+      let word = text_behind style past (newly_decided past e) in
       let later = told_after ((watching_script style).word) (past ++ e ∷ []) rest in
       sym (append_assoc (list_text style (decided_of past)) word later) ∙ ap (λ x. x ++ later) (next_told past e) ∙ from_there (past ++ e ∷ []) rest
       ∙ ap (λ T. list_text style (decided_of T)) (append_assoc past (e ∷ []) rest)

@@ -14,46 +14,47 @@ use Rattle.trace_text.specs.declared.item_style.Numbering.TheVariants.{Shown}
 use Rattle.trace_text.specs.declared.notation.Notation.{Notation}
 use Rattle.trace_text.specs.declared.notation.Notation.TheVariants.{Text, Json}
 
--- the line that `list` has for an item of this number, or that there is none
+-- the line that `list` has for an item of this number, or a line that there is none
 abbrev pub shown_line : ℕ → Option ItemValue → List ℕ
 shown_line number (Some item) = worded_line Shown number item
 shown_line number None = codes "nothing\n"
 
--- its object, or null
+-- the object that `list` has for an item of this number, or null
 abbrev pub shown_value : ℕ → Option ItemValue → Value
 shown_value number (Some item) = json.object (item_object Shown number item)
 shown_value number None = json.null
 
--- either of them
+-- what is shown of an item of this number in a notation, or that there is none
 abbrev pub shown_text : Notation → ℕ → Option ItemValue → List ℕ
 shown_text Text number item = shown_line number item
 shown_text Json number item = value_text (shown_value number item)
 
--- the items of both at this place, which is counted from 0
+-- the lines of the items of both logs at this place, which is counted from 0
 abbrev pub shown_lines : ℕ → List ItemValue → List ItemValue → List ℕ
 shown_lines place left right =
     codes "left: " ++ shown_line (place + 1) (slice_get left place) ++ codes "right: " ++ shown_line (place + 1) (slice_get right place)
 
+-- the items of both logs at this place, as members of an object
 abbrev pub shown_members : ℕ → List ItemValue → List ItemValue → Members
 shown_members place left right =
     member (codes "left") (shown_value (place + 1) (slice_get left place)) (member (codes "right") (shown_value (place + 1) (slice_get right place)) nothing)
 
--- in words: items are counted from 1
+-- the answer of a comparison in words, in which items are counted from 1, and the items that are shown
 abbrev pub comparison_lines : Bool → Comparison → List ItemValue → List ItemValue → List ℕ
 comparison_lines shows Same left right = codes "same\n"
 comparison_lines shows (Different place) left right =
     codes "different at item " ++ decimal (place + 1) ++ codes "\n" ++ (if shows then shown_lines place left right else [])
 
--- two logs that differ, and what else is told of them
+-- the members of two logs that differ at this place, and what else is told of them
 abbrev pub different_members : ℕ → Members → Members
 different_members place later = member (codes "same") (json.truth false) (member (codes "item") (json.number (place + 1)) later)
 
--- as an object: what is answered, and where items are shown, those that differ
+-- the answer of a comparison as members of an object, and the items that are shown
 abbrev pub comparison_members : Bool → Comparison → List ItemValue → List ItemValue → Members
 comparison_members shows Same left right = member (codes "same") (json.truth true) nothing
 comparison_members shows (Different place) left right = different_members place (if shows then shown_members place left right else nothing)
 
--- as it is written in this notation
+-- the answer of a comparison as it is written in a notation
 abbrev pub written_comparison : Notation → Bool → Comparison → List ItemValue → List ItemValue → List ℕ
 written_comparison Text shows comparison left right = comparison_lines shows comparison left right
 written_comparison Json shows comparison left right = object_line (comparison_members shows comparison left right)

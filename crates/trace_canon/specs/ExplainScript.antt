@@ -9,7 +9,7 @@ use Rattle.trace_text.specs.declared.notation.Notation.{Notation}
 use Rattle.trace_text.specs.declared.remark.Remark.TheVariants as remark
 use Rattle.trace_log.specs.declared.summary.Summary.{Summary}
 use Rattle.trace_text.specs.RemarkLines.{remark_text}
-use Rattle.trace_run.specs.Told.{Script}
+use Rattle.trace_run.specs.Script.{Script}
 
 -- of a reception that the frame of this line ended, if it ended one
 abbrev pub ended_text : Notation → ℕ → Option Ended → List ℕ

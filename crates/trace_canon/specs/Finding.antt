@@ -15,7 +15,7 @@ use Rattle.trace_log.specs.ReadAs.{IsReadAs}
 use Rattle.trace_text.specs.Json.{Members, nothing, member, object_line}
 use Rattle.trace_text.specs.Json as json
 use Rattle.trace_log.specs.Needing.{BeginsWithLines}
-use Rattle.trace_canon.specs.ReadOnly.{Reading}
+use Rattle.trace_canon.specs.ReadOnly.{WayOfReading}
 use Rattle.trace_canon.specs.WrittenAtEnd.{RanOnce, TextOfLog, WritesOnce}
 use Rattle.trace_log.specs.Refusal.{HasNoBadPlaceWithin}
 use Rattle.trace_io.specs.declared.device.Source.{Ghosts as SourceGhosts}
@@ -40,11 +40,11 @@ summary_of_lines log meanings = record (counted_in MESSAGE_LIMIT []) {
   ends_in_line_feed = ends_in_line_feed log;
 }
 
--- these are the pairs of the frames of a log whose lines mean this, and its counts
+-- these are the credits of the frames of a log whose lines mean this, and its counts
 abbrev pub IsFoundOf : List ℕ → List (Option Stamped) → List CreditLine → Summary → Type 0
 IsFoundOf log meanings pairs summary = AreCreditLines (frames_in meanings) pairs × (summary ≡ summary_of_lines log meanings)
 
--- the log can be read, and these are its pairs and its counts
+-- the log can be read, and these are its credits and its counts
 abbrev pub IsFoundIn : Settings → List ℕ → List CreditLine → Summary → Type 0
 IsFoundIn settings log pairs summary = (meanings : List (Option Stamped)) × IsReadAs settings log (Ok meanings) × IsFoundOf log meanings pairs summary
 
@@ -52,51 +52,51 @@ IsFoundIn settings log pairs summary = (meanings : List (Option Stamped)) × IsR
 abbrev pub IsUnheardFor : Settings → List ℕ → Fault → Type 0
 IsUnheardFor settings log fault = IsUnreadFor false MESSAGE_LIMIT settings log fault
 
--- the pairs of a log and its counts, or why it can't be read
+-- the credits of a log and its counts, or why it can't be read
 abbrev pub GivesFound : Settings → List ℕ → Result Found Fault → Type 0
-GivesFound settings log (Ok found) = IsFoundIn settings log found.pairs.items found.summary
+GivesFound settings log (Ok found) = IsFoundIn settings log found.credit_lines.items found.summary
 GivesFound settings log (Err fault) = IsUnheardFor settings log fault
 
 -- memory may be needed: the first lines of the log have an answer that is credited
 abbrev pub NeedsMemoryToFind : List ℕ → Type 0
 NeedsMemoryToFind log = (meanings : List (Option Stamped)) × BeginsWithLines log meanings × HasCredit (frames_in meanings)
 
--- the line of a pair in words: its credits, and the options by which other commands take its identifiers
-abbrev pub worded_pair : CreditLine → List ℕ
-worded_pair pair = decimal pair.credits ++ codes " --tester " ++ pair.tester.items ++ codes " --unit " ++ pair.unit.items ++ codes "\n"
+-- the line of who answered whom, in words: how often, and the options by which other commands take the identifiers
+abbrev pub worded_credit : CreditLine → List ℕ
+worded_credit pair = decimal pair.credits ++ codes " --tester " ++ pair.tester.items ++ codes " --unit " ++ pair.unit.items ++ codes "\n"
 
--- as JSON
-abbrev pub pair_object : CreditLine → Members
-pair_object pair =
+-- the line of who answered whom, as an object of JSON
+abbrev pub credit_object : CreditLine → Members
+credit_object pair =
     member (codes "credits") (json.number pair.credits) (member (codes "tester") (json.string pair.tester.items)
     (member (codes "unit") (json.string pair.unit.items) nothing))
 
--- its line, as it is written in this notation
-abbrev pub pair_line : Notation → CreditLine → List ℕ
-pair_line Text pair = worded_pair pair
-pair_line Json pair = object_line (pair_object pair)
+-- the line of who answered whom, as it is written in a notation
+abbrev pub credit_line_text : Notation → CreditLine → List ℕ
+credit_line_text Text pair = worded_credit pair
+credit_line_text Json pair = object_line (credit_object pair)
 
--- the lines of pairs
-abbrev pub pairs_text : Notation → List CreditLine → List ℕ
-pairs_text notation pairs = flat_map (pair_line notation) pairs
+-- the lines of all who answered, in order
+abbrev pub credit_lines_text : Notation → List CreditLine → List ℕ
+credit_lines_text notation pairs = flat_map (credit_line_text notation) pairs
 
--- What is answered on a log, and what is then written: the lines of its pairs, and its counts; else why it can't be read.
+-- What is answered on a log, and what is then written: the lines of its credits, and its counts; else why it can't be read.
 abbrev pub Finds : Notation → Settings → List ℕ → Result Summary Fault → List ℕ → List ℕ → Type 0
-Finds notation settings log = WritesOnce (pairs_text notation) (IsFoundIn settings log) (IsUnheardFor settings log)
+Finds notation settings log = WritesOnce (credit_lines_text notation) (IsFoundIn settings log) (IsUnheardFor settings log)
 
--- how a log is read for them: memory is needed where an answer is credited
-abbrev pub reading_to_find : Settings → Reading
+-- how a log is read for these lines: memory is needed where an answer is credited
+abbrev pub reading_to_find : Settings → WayOfReading
 reading_to_find settings = record { unrefused = HasNoBadPlaceWithin; needs = NeedsMemoryToFind; max_bytes = settings.max_bytes }
 
--- these lines, as a call writes them
-abbrev pub text_of_pairs : Notation → Settings → TextOfLog (List CreditLine)
-text_of_pairs notation settings = record {
-  text = pairs_text notation;
+-- the lines of a log's credits, as a call writes them at the end
+abbrev pub text_of_credits : Notation → Settings → TextOfLog (List CreditLine)
+text_of_credits notation settings = record {
+  text = credit_lines_text notation;
   gives = IsFoundIn settings;
   lacks = IsUnheardFor settings;
   reading = reading_to_find settings;
 }
 
--- the run that writes them
+-- the run of a call that writes the lines of a log's credits
 abbrev pub RanToFind : {R W : Type 0} → SourceGhosts R → TargetGhosts W → Notation → Settings → R → W → Result Summary Fault → R → W → Type 0
-RanToFind source target notation settings = RanOnce source target (text_of_pairs notation settings)
+RanToFind source target notation settings = RanOnce source target (text_of_credits notation settings)

@@ -17,7 +17,7 @@ use Rattle.trace_canon.specs.Sessions.{GivesMeaning}
 use Rattle.trace_canon.specs.Compared.{Compares, fault_in}
 use Rattle.trace_log.specs.ReadAs.{IsReadAs}
 use Rattle.trace_canon.specs.ExplainScript.{explain_script}
-use Rattle.trace_canon.specs.Finding.{IsFoundIn, NeedsMemoryToFind, pairs_text}
+use Rattle.trace_canon.specs.Finding.{IsFoundIn, NeedsMemoryToFind, credit_lines_text}
 use Rattle.trace_canon.specs.MemoryNeeded.{NeedsMemoryToCollect, NeedsMemoryToOrder}
 use Rattle.trace_text.specs.ItemLines.{list_text}
 use Rattle.trace_log.specs.CanonicalLog.{canonical_log_of_lines}
@@ -26,10 +26,11 @@ use Rattle.trace_log.specs.Outcome.{IsOutcome}
 use Rattle.trace_canon.specs.MessageLines.{placing_script}
 use Rattle.trace_log.specs.Settings.{Settings}
 use Rattle.trace_log.specs.Summing.{summary_of}
-use Rattle.trace_run.specs.Told.{Script, IsUnreadFor, told_of_lines, whole_of_lines}
+use Rattle.trace_run.specs.Script.{Script, told_of_lines, whole_of_lines}
+use Rattle.trace_run.specs.Told.{IsUnreadFor}
 use Rattle.uds_find.specs.declared.pair.CreditLine.{CreditLine}
 
--- it is not that of a device, and refused memory only where some is needed
+-- The fault is not that of a device, and refused memory only where some is needed.
 pub record IsOfMemory (NeedsMemory : Type 0) (fault : Fault) : Type 0 where
   pub no_read : fault ≢ Read
   pub no_write : fault ≢ Write
@@ -67,9 +68,9 @@ IsPlacingWith notation limit = IsToldWith (placing_script notation limit) limit
 abbrev pub IsExplanationWith : Notation → ℕ → Settings → List ℕ → List ℕ → Summary → Type 0
 IsExplanationWith notation limit = IsToldWith (explain_script notation limit) limit
 
--- the log can be read and has these counts, and this has a line for each of its pairs
+-- the log can be read and has these counts, and this has a line for each who answered another
 abbrev pub IsFindingWith : Notation → Settings → List ℕ → List ℕ → Summary → Type 0
-IsFindingWith notation settings log text summary = (pairs : List CreditLine) × IsFoundIn settings log pairs summary × (text ≡ pairs_text notation pairs)
+IsFindingWith notation settings log text summary = (pairs : List CreditLine) × IsFoundIn settings log pairs summary × (text ≡ credit_lines_text notation pairs)
 
 -- The first lines of the log have some text of this kind, of one byte at least.
 pub record HasTextOf (text : List (Option Stamped) → List ℕ) (log : List ℕ) : Type 0 where
@@ -77,7 +78,7 @@ pub record HasTextOf (text : List (Option Stamped) → List ℕ) (log : List ℕ
   pub begins : BeginsWithLines log meanings
   pub some : 0 < length (text meanings)
 
--- there is such a text, of one byte at least
+-- there is a text of this kind, of one byte at least
 abbrev pub HasBytes : (List ℕ → Summary → Type 0) → Type 0
 HasBytes IsTextWith = (text : List ℕ) × (summary : Summary) × IsTextWith text summary × (0 < length text)
 
@@ -85,20 +86,20 @@ HasBytes IsTextWith = (text : List ℕ) × (summary : Summary) × IsTextWith tex
 abbrev pub NeedsMemoryForCanonicalLog : ℕ → Settings → List ℕ → Type 0
 NeedsMemoryForCanonicalLog limit settings log = NeedsMemoryToOrder limit settings log ⊎ HasTextOf (canonical_log_of_lines limit settings) log
 
--- a list: to read the log, or since it has an item
+-- Memory is needed to gather a list: to read the log, or since it has an item.
 abbrev pub NeedsMemoryForList : ItemStyle → ℕ → Settings → List ℕ → Type 0
 NeedsMemoryForList style limit settings log = NeedsMemoryToCollect limit settings log ⊎ HasBytes (IsListWith style limit settings log)
 
--- the lines of messages: to read the log, or since its first lines deliver one
+-- Memory is needed to gather the lines of messages: to read the log, or since its first lines deliver one.
 abbrev pub NeedsMemoryForPlacing : Notation → ℕ → Settings → List ℕ → Type 0
 NeedsMemoryForPlacing notation limit settings log =
     NeedsMemoryToReceive limit settings log ⊎ HasTextOf (told_of_lines (placing_script notation limit) settings) log
 
--- what explains a log: each has its counts
+-- Memory is needed to gather what explains a log, for each has its counts.
 abbrev pub NeedsMemoryForExplanation : ℕ → Settings → List ℕ → Type 0
 NeedsMemoryForExplanation limit settings log = ⊤
 
--- the lines of pairs: to read the log, or since it has one
+-- Memory is needed to gather who answered whom: to read the log, or since it has such a line.
 abbrev pub NeedsMemoryForFinding : Notation → ℕ → Settings → List ℕ → Type 0
 NeedsMemoryForFinding notation limit settings log = NeedsMemoryToFind log ⊎ HasBytes (IsFindingWith notation settings log)
 

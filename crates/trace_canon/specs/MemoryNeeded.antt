@@ -23,6 +23,6 @@ CompletesMessage limit T e = (bytes : List ℕ) × ((verdict limit T e).verdict 
 abbrev pub NeedsMemoryToOrder : ℕ → Settings → List ℕ → Type 0
 NeedsMemoryToOrder limit = HasFrame (λ T e. IsKeptForMessage limit T e ⊎ CompletesHeld limit T e)
 
--- or one that completes any message
+-- the log has a frame whose bytes are kept, or one that completes any message
 abbrev pub NeedsMemoryToCollect : ℕ → Settings → List ℕ → Type 0
 NeedsMemoryToCollect limit = HasFrame (λ T e. IsKeptForMessage limit T e ⊎ CompletesMessage limit T e)

@@ -14,7 +14,7 @@ use Rattle.trace_text.specs.Json as json
 use Rattle.trace_canon.specs.declared.reception_starts.FramePlace.{FramePlace}
 use Rattle.trace_text.specs.declared.notation.Notation.{Notation}
 use Rattle.trace_text.specs.declared.notation.Notation.TheVariants.{Text, Json}
-use Rattle.trace_run.specs.Told.{Script}
+use Rattle.trace_run.specs.Script.{Script}
 use Rattle.trace_text.specs.Words.{bytes_text, direction_text, role_text, stamp_text}
 
 -- where a frame stands: its line and its time
@@ -41,13 +41,13 @@ pub record PlacedMessage : Type 0 where
 abbrev pub judged_at : Judged → FramePlace → FramePlace → PlacedMessage
 judged_at judged start end = record { number = judged.item_number; step = judged.step; sent = sent judged; start = start; end = end }
 
--- its line in words
+-- the line of a placed message in words
 abbrev pub placed_line : PlacedMessage → List ℕ
 placed_line placed =
     decimal placed.number ++ codes " " ++ role_text placed.step ++ codes " " ++ direction_text placed.sent.0
     ++ extent_text placed.start placed.end ++ codes " " ++ bytes_text placed.sent.1 ++ codes "\n"
 
--- the same as JSON
+-- the members of the object of a placed message
 abbrev pub placed_members : PlacedMessage → Members
 placed_members placed =
     member (codes "item") (json.number placed.number) (member (codes "role") (json.string (role_text placed.step))
@@ -56,12 +56,12 @@ placed_members placed =
     (member (codes "start") (json.string (stamp_text placed.start.micros)) (member (codes "end") (json.string (stamp_text placed.end.micros))
     (member (codes "message") (json.string (bytes_text placed.sent.1)) nothing)))))))
 
--- its line in a notation
+-- the line of a placed message in a notation
 abbrev pub placed_text : Notation → PlacedMessage → List ℕ
 placed_text Text placed = placed_line placed
 placed_text Json placed = object_line (placed_members placed)
 
--- a message behind the messages M, from its first frame to its last one
+-- a message that comes behind the messages M, as it is judged there, from its first frame to its last one
 abbrev pub placed_behind : List Message → Message → Entry → Entry → PlacedMessage
 placed_behind M sent start end =
     record { number = number_after M sent; step = step_after M sent; sent = sent; start = place_of start; end = place_of end }
@@ -92,7 +92,7 @@ delivered_line notation limit T e stored = []
 delivered_line notation limit T e flowed = []
 delivered_line notation limit T e (dropped reason) = []
 
--- of each frame the line of the message that it completes, and nothing at the end
+-- what `messages` tells: of each frame the line of the message that it completes, and nothing at the end
 abbrev pub placing_script : Notation → ℕ → Script
 placing_script notation limit =
     record { strict = false; word = λ T e. delivered_line notation limit T e (verdict limit T e).verdict; last = λ T summary. [] }

@@ -7,7 +7,7 @@ use Rattle.trace_log.specs.Answers.{ReadsWhile}
 use Rattle.trace_log.specs.Devices.{AgreesWith, bytes_given, ReadFrom}
 
 -- How a call reads a log.
-pub record Reading : Type 1 where
+pub record WayOfReading : Type 1 where
   -- nothing refuses the log among so many of its bytes
   pub unrefused : List ℕ → ℕ → Type 0
   -- it may need memory for the log
@@ -16,7 +16,7 @@ pub record Reading : Type 1 where
   pub max_bytes : ℕ
 
 -- All that a caller knows of a run that reads so. `Gives` says what it answers of a log.
-pub record RanToRead {R A : Type 0} (source : SourceGhosts R) (Gives : List ℕ → Result A Fault → Type 0) (reading : Reading)
+pub record RanToRead {R A : Type 0} (source : SourceGhosts R) (Gives : List ℕ → Result A Fault → Type 0) (reading : WayOfReading)
     (before : R) (result : Result A Fault) (after : R) : Type 0 where
   -- what is answered, for each log with which the bytes that were read agree
   pub answer : (log : List ℕ) → AgreesWith source before after log → Gives log result

@@ -9,28 +9,28 @@ use Rattle.trace_canon.specs.declared.reception_starts.ReceptionStarts.{Receptio
 use Rattle.trace_canon.specs.declared.reception_starts.FramePlace.{FramePlace}
 
 -- where the reception of d began, if one stands
-abbrev pub begun_of : ReceptionStarts → Dir → Option FramePlace
-begun_of begun Tester = begun.tester
-begun_of begun Unit = begun.unit
+abbrev pub reception_start : ReceptionStarts → Dir → Option FramePlace
+reception_start begun Tester = begun.tester
+reception_start begun Unit = begun.unit
 
 -- where a reception of d began, if one stands, after an end
-abbrev pub left_by : Dir → Option Ended → Option FramePlace → Option FramePlace
-left_by d None begun = begun
-left_by d (Some ended) begun = if same_direction d ended.dir then None else begun
+abbrev pub still_begun : Dir → Option Ended → Option FramePlace → Option FramePlace
+still_begun d None begun = begun
+still_begun d (Some ended) begun = if same_direction d ended.dir then None else begun
 
--- and after what became of a frame in this place, of the same direction or the other one
-abbrev pub moved_by : Bool → VerdictValue → FramePlace → Option FramePlace → Option FramePlace
-moved_by true (message bytes) here begun = None
-moved_by true began here begun = Some here
-moved_by true stored here begun = begun
-moved_by true flowed here begun = begun
-moved_by true (dropped reason) here begun = begun
-moved_by false did here begun = begun
+-- where a reception began, if one stands, after what became of a frame in this place, of the same direction or the other one
+abbrev pub start_after_verdict : Bool → VerdictValue → FramePlace → Option FramePlace → Option FramePlace
+start_after_verdict true (message bytes) here begun = None
+start_after_verdict true began here begun = Some here
+start_after_verdict true stored here begun = begun
+start_after_verdict true flowed here begun = begun
+start_after_verdict true (dropped reason) here begun = begun
+start_after_verdict false did here begun = begun
 
--- after both
-abbrev pub begun_after : Dir → Dir → EventValue → FramePlace → Option FramePlace → Option FramePlace
-begun_after d sender event here begun = moved_by (same_direction d sender) event.verdict here (left_by d event.ended begun)
+-- where a reception of d began, if one stands, after all that a frame of this sender did in this place: the end first
+abbrev pub start_after_event : Dir → Dir → EventValue → FramePlace → Option FramePlace → Option FramePlace
+start_after_event d sender event here begun = start_after_verdict (same_direction d sender) event.verdict here (still_begun d event.ended begun)
 
 -- where the message began that a frame completed: here, where no reception stood that it did not end
-abbrev pub began_at : Dir → EventValue → FramePlace → Option FramePlace → FramePlace
-began_at sender event here begun = unwrap_or (left_by sender event.ended begun) here
+abbrev pub message_start : Dir → EventValue → FramePlace → Option FramePlace → FramePlace
+message_start sender event here begun = unwrap_or (still_begun sender event.ended begun) here

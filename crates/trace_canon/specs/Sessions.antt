@@ -2,7 +2,7 @@
 use Rattle.std.specs.Prelude.{◌≡◌, ℕ, List, Result, Ok, Err}
 use Rattle.trace_io.specs.declared.device.Source.{Ghosts as SourceGhosts}
 use Rattle.trace_canon.specs.MemoryNeeded.{NeedsMemoryToCollect}
-use Rattle.trace_canon.specs.ReadOnly.{RanToRead, Reading}
+use Rattle.trace_canon.specs.ReadOnly.{RanToRead, WayOfReading}
 use Rattle.trace_canon.specs.declared.collector.Session.{Session}
 use Rattle.trace_log.specs.declared.fault.Fault.{Fault}
 use Rattle.uds_exchange.specs.Meaning.{ItemValue}
@@ -25,20 +25,20 @@ abbrev pub GivesSession : ℕ → Settings → List ℕ → Result Session Fault
 GivesSession limit settings log (Ok session) = IsAcceptedWith limit settings log session.meaning session.summary
 GivesSession limit settings log (Err fault) = TellsOutcome limit settings log fault
 
--- the same of the meaning alone
+-- what a call answers that gives the meaning of an accepted log alone, or why the log is refused
 abbrev pub GivesMeaning : ℕ → Settings → List ℕ → Result (List ItemValue) Fault → Type 0
 GivesMeaning limit settings log (Ok items) = ((accepted : Accepted) × IsOutcome limit settings log (Ok accepted)) × HasMeaning limit settings log items
 GivesMeaning limit settings log (Err fault) = TellsOutcome limit settings log fault
 
--- how it reads a log: it needs memory for a message of several frames, or for one that is complete
-abbrev pub reading_to_collect : ℕ → Settings → Reading
+-- how a log is read whose items are collected: memory is needed for a message of several frames, or for one that is complete
+abbrev pub reading_to_collect : ℕ → Settings → WayOfReading
 reading_to_collect limit settings = record {
   unrefused = IsNotRefusedWithin limit settings;
   needs = NeedsMemoryToCollect limit settings;
   max_bytes = settings.max_bytes;
 }
 
--- the run that answers so
+-- the run of a call that collects the items of a log and answers so
 abbrev pub RanToCollect : {R A : Type 0} → SourceGhosts R → (ℕ → Settings → List ℕ → Result A Fault → Type 0) → ℕ → Settings
     → R → Result A Fault → R → Type 0
 RanToCollect source Gives limit settings = RanToRead source (Gives limit settings) (reading_to_collect limit settings)

@@ -3,7 +3,7 @@ use Rattle.std.specs.Prelude.{◌≡◌, ◌≢◌, ◌<◌, List, ℕ, ◌++◌
 use Rattle.trace_io.specs.Written.{HasFront}
 use Rattle.trace_io.specs.declared.device.Source.{Ghosts as SourceGhosts}
 use Rattle.trace_io.specs.declared.device.Target.{Ghosts}
-use Rattle.trace_canon.specs.ReadOnly.{Reading}
+use Rattle.trace_canon.specs.ReadOnly.{WayOfReading}
 use Rattle.trace_log.specs.declared.fault.Fault.{Fault}
 use Rattle.trace_log.specs.declared.fault.Fault.TheVariants.{BadLine, Oversize, LogLimit, OutputLimit, Read, Write, Memory}
 use Rattle.trace_log.specs.declared.summary.Summary.{Summary}
@@ -36,7 +36,7 @@ pub record TextOfLog (V : Type 0) : Type 1 where
   -- for this fault the log has none
   pub lacks : List ℕ → Fault → Type 0
   -- how the call reads a log
-  pub reading : Reading
+  pub reading : WayOfReading
 
 -- A run that reads a log, and then writes a text of it by itself: all that a caller knows of it.
 pub record RanOnce {V R W : Type 0} (source : SourceGhosts R) (target : Ghosts W) (of : TextOfLog V)

@@ -30,7 +30,57 @@ use uds_exchange::{Judged, JudgedOrderer, MessageSink, NoFault, OrderFault};
 /// How many bytes a canonical line has beside what its identifier gives.
 const NAMELESS: usize = BASE_LINE - BASE_NAME;
 
-/// Says the canonical lines of each message that is put, as far as they are within the limit.
+/// Takes one more message, and says the lines of all whose place is now known.
+pub(crate) fn say_due<S: TextSink>(
+    out: &mut S,
+    config: &Config,
+    progress: &mut Progress,
+    orderer: &mut JudgedOrderer,
+    message: Judged<'_>,
+) -> Result<(), AllocError>
+    ensures stands { OnOk result ((M : List Message) → orderer.old ≡ judged_orderer_after M → IsJudgedAfter M message.entry
+        → orderer.new ≡ judged_orderer_after (M ++ sent message.entry ∷ [])) }
+    ensures says { OnOk result ((M : List Message) → orderer.old ≡ judged_orderer_after M → IsJudgedAfter M message.entry
+        → SaysDue S.says config.now M (sent message.entry) progress.old out.old progress.new out.new) }
+    ensures needs { OnErr result ((M : List Message) → orderer.old ≡ judged_orderer_after M → IsJudgedAfter M message.entry
+        → IsHeld M (sent message.entry)) }
+    ensures err { OnErr result ((progress.new ≡ progress.old) × S.says out.old [] out.new) }
+{
+    let mut sink = CanonicalSink {
+        out,
+        progress,
+        config: *config,
+    };
+    match orderer.take(message, &mut sink) {
+        Ok(()) => Ok(()),
+        // A text sink takes all that is said, and a run ends with the first fault: what is left is refused memory.
+        Err(_fault) => Err(AllocError),
+    }
+}
+
+/// Says the lines of what is held.
+pub(crate) fn say_held<S: TextSink>(
+    out: &mut S,
+    config: &Config,
+    progress: &mut Progress,
+    orderer: JudgedOrderer,
+)
+    ensures progress { (M : List Message) → orderer ≡ judged_orderer_after M
+        → progress.new ≡ progress_after config.now progress.old (all_frames MESSAGE_LIMIT (held_after M)) }
+    ensures says { (M : List Message) → orderer ≡ judged_orderer_after M
+        → S.says out.old (text_from config.now progress.old (all_frames MESSAGE_LIMIT (held_after M))) out.new }
+{
+    let mut sink = CanonicalSink {
+        out,
+        progress,
+        config: *config,
+    };
+    // A text sink takes all that is said: so this never fails.
+    let _ = orderer.finish(&mut sink);
+}
+
+/// Says the canonical lines of each message that is put, as far as they are within the limit. What it calls takes its parts
+/// one by one: so a frame's line is said without a look through the sink.
 #[derive(Drop)]
 pub(crate) struct CanonicalSink<'a, S> {
     pub out: &'a mut S,
@@ -122,7 +172,7 @@ fn say_frame<S: TextSink>(
         return false;
     }
     say_line(out, progress.clock(), id, frame);
-    progress.pass(length);
+    progress.after_line(length);
     true
 }
 
@@ -171,7 +221,7 @@ fn base_name_in_memory(number: u16) -> [u8; BASE_NAME]
     base_name(number)
 }
 
-/// The same of an extended identifier.
+/// What an extended identifier gives of each of its lines, by a call, too.
 #[inline(never)]
 fn extended_name_in_memory(number: u32) -> [u8; EXTENDED_NAME]
     ensures { result ≡ canonical_name (Ext number) }
@@ -179,7 +229,8 @@ fn extended_name_in_memory(number: u32) -> [u8; EXTENDED_NAME]
     extended_name(number)
 }
 
-/// The same by the name of the sender. The three parts of a line are said as they lie: put together first, it would be
+/// Says the lines of the full consecutive frames of a sender that come next, by the name of the sender, as far as there is
+/// room, and answers the frames that are left. The three parts of a line are said as they lie: put together first, it would be
 /// loaded by a covering load. The frames are moved in and out, so that none of their parts has to lie in memory meanwhile.
 #[inline(always)]
 fn say_stretch<'a, S: TextSink, const NAME: usize>(
@@ -202,56 +253,7 @@ fn say_stretch<'a, S: TextSink, const NAME: usize>(
             return rest;
         }
         out.put_three(progress.clock().stamp(), &name, &line_end(&frame));
-        progress.pass(NAMELESS + NAME);
+        progress.after_line(NAMELESS + NAME);
     }
     rest
-}
-
-/// Takes one more message, and says the lines of all whose place is now known.
-pub(crate) fn say_due<S: TextSink>(
-    orderer: &mut JudgedOrderer,
-    config: &Config,
-    progress: &mut Progress,
-    out: &mut S,
-    message: Judged<'_>,
-) -> Result<(), AllocError>
-    ensures stands { OnOk result ((M : List Message) → orderer.old ≡ judged_orderer_after M → IsJudgedAfter M message.entry
-        → orderer.new ≡ judged_orderer_after (M ++ sent message.entry ∷ [])) }
-    ensures says { OnOk result ((M : List Message) → orderer.old ≡ judged_orderer_after M → IsJudgedAfter M message.entry
-        → SaysDue S.says config.now M (sent message.entry) progress.old out.old progress.new out.new) }
-    ensures held { OnErr result ((M : List Message) → orderer.old ≡ judged_orderer_after M → IsJudgedAfter M message.entry
-        → IsHeld M (sent message.entry)) }
-    ensures refused { OnErr result ((progress.new ≡ progress.old) × S.says out.old [] out.new) }
-{
-    let mut sink = CanonicalSink {
-        out,
-        progress,
-        config: *config,
-    };
-    match orderer.take(message, &mut sink) {
-        Ok(()) => Ok(()),
-        // A text sink takes all that is said, and a run ends with the first fault: what is left is refused memory.
-        Err(_fault) => Err(AllocError),
-    }
-}
-
-/// Says the lines of what is held.
-pub(crate) fn say_held<S: TextSink>(
-    orderer: JudgedOrderer,
-    config: &Config,
-    progress: &mut Progress,
-    out: &mut S,
-)
-    ensures progress { (M : List Message) → orderer ≡ judged_orderer_after M
-        → progress.new ≡ progress_after config.now progress.old (all_frames MESSAGE_LIMIT (held_after M)) }
-    ensures says { (M : List Message) → orderer ≡ judged_orderer_after M
-        → S.says out.old (text_from config.now progress.old (all_frames MESSAGE_LIMIT (held_after M))) out.new }
-{
-    let mut sink = CanonicalSink {
-        out,
-        progress,
-        config: *config,
-    };
-    // A text sink takes all that is said: so this never fails.
-    let _ = orderer.finish(&mut sink);
 }

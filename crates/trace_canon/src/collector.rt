@@ -5,17 +5,17 @@
 //! refuses the log earlier may still come, and is told first.
 ghost use Rattle.std.specs.Prelude.{◌≡◌};
 ghost use Rattle.isotp_receive.specs.declared.TheConstants.{MESSAGE_LIMIT};
-ghost use Rattle.trace_canon.specs.SessionScript.{has_place};
+ghost use Rattle.trace_canon.specs.proving.SessionScript.{has_place};
 ghost use Rattle.trace_canon.specs.Sessions.{GivesMeaning, GivesSession, RanToCollect};
 ghost use Rattle.trace_log.specs.Devices.{HasLowCounts};
 ghost use Rattle.trace_log.specs.Settings.{AreSettings};
 
-use crate::length::message_length;
+use crate::length::lines_length;
 use isotp_receive::Pair;
 use std::alloc::{AllocError, Global};
 use trace_io::{Source, TextSink};
 use trace_log::{Config, Fault, Summary};
-use trace_run::{Glimpse, Machine, Nowhere, Seen, Stop, run};
+use trace_run::{Glimpse, Machine, NoAnswer, Nowhere, Seen, run};
 use uds_exchange::{Judged, JudgedPairing, Meaning, Step};
 
 /// What an accepted log means, and what was counted in it.
@@ -39,7 +39,7 @@ pub fn meaning_of<R: Source>(
     Ok(session.meaning)
 }
 
-/// The same, with what was counted in the log.
+/// What a log means, with what was counted in it.
 pub(crate) fn session_of<R: Source>(
     alloc: Global,
     config: &Config,
@@ -75,7 +75,7 @@ impl Collector {
     ghost use Rattle.uds_exchange.specs.Meaning.{meaning, flattened};
     ghost use Rattle.uds_exchange.specs.Judging.{IsJudgedAfter, sent};
     ghost use Rattle.trace_log.specs.Settings.{Settings};
-    ghost use Rattle.trace_canon.specs.SessionScript.{Collects};
+    ghost use Rattle.trace_canon.specs.proving.SessionScript.{Collects};
     ghost use Rattle.trace_canon.specs.proving.Measuring.{HaveLengths};
 
     /// Takes one more message: what it adds to the length, and the message itself where the canonical log is within the
@@ -103,7 +103,7 @@ impl Collector {
             → HaveLengths self.now.config (flattened (meaning (M ++ sent message.entry ∷ []))) (size + result) }
     {
         if has_place(message.step) {
-            message_length(&self.config, message.dir, message.bytes)
+            lines_length(&self.config, message.dir, message.bytes)
         } else {
             0
         }
@@ -124,7 +124,7 @@ impl Machine for Collector {
     ghost use Rattle.isotp_receive.specs.declared.TheConstants.{MESSAGE_LIMIT};
     ghost use Rattle.isotp_receive.specs.Verdict.{messages};
     ghost use Rattle.trace_canon.specs.MemoryNeeded.{CompletesMessage};
-    ghost use Rattle.trace_canon.specs.SessionScript.{Collects, answers_session, silent_script};
+    ghost use Rattle.trace_canon.specs.proving.SessionScript.{Collects, answers_session, silent_script};
 
     type Answer = Session;
 
@@ -155,7 +155,7 @@ impl Machine for Collector {
         _pair: &Pair,
         summary: &Summary,
         _out: &mut S,
-    ) -> Result<Session, Stop> {
+    ) -> Result<Session, NoAnswer> {
         let Collector {
             pairing,
             length,
@@ -163,7 +163,7 @@ impl Machine for Collector {
             ..
         } = self;
         if length > config.max_bytes() {
-            return Err(Stop::OutputLimit);
+            return Err(NoAnswer::OutputLimit);
         }
         Ok(Session {
             meaning: pairing.finish(),
@@ -175,7 +175,7 @@ impl Machine for Collector {
         self,
         _summary: &Summary,
         _why: Fault,
-        _source: Glimpse<'_>,
+        _glimpse: Glimpse<'_>,
         _out: &mut S,
     ) {}
 }

@@ -57,7 +57,7 @@ impl<'a> Part for InStyle<'a> {
     }
 }
 
-/// Says it in words.
+/// Says in words how two logs compare.
 fn say_lines<S: TextSink>(compared: &Compared, shows_items: bool, out: &mut S)
     ensures { S.says out.old
         (comparison_lines shows_items compared.now.comparison compared.now.left.meaning compared.now.right.meaning) out.new }

@@ -5,7 +5,8 @@ ghost use Rattle.isotp_receive.specs.declared.TheConstants.{MESSAGE_LIMIT};
 ghost use Rattle.trace_canon.specs.ExplainScript.{dropped_text, end_text, ended_text, event_text, unfinished_line};
 ghost use Rattle.trace_canon.specs.ExplainScript.{explain_script};
 ghost use Rattle.trace_log.specs.Laws.{Certifies};
-ghost use Rattle.trace_run.specs.Told.{RanLenient, answers_counts, command, needs_none, tells_no_refusal};
+ghost use Rattle.trace_run.specs.Script.{answers_counts, command, needs_none, tells_no_refusal};
+ghost use Rattle.trace_run.specs.Told.{RanLenient};
 ghost use Rattle.trace_io.specs.Counted.{IsLowCount};
 ghost use Rattle.trace_log.specs.Devices.{AgreesWith, HasLowCounts};
 
@@ -14,7 +15,7 @@ use isotp_receive::{Ended, Event, Pair, Verdict};
 use std::alloc::{AllocError, Global};
 use trace_io::{Source, Target, TextSink};
 use trace_log::{Config, Fault, Summary};
-use trace_run::{Glimpse, Machine, Seen, Stop, run_lenient};
+use trace_run::{Glimpse, Machine, NoAnswer, Seen, run_lenient};
 use trace_text::{Notation, Remark, say_remark};
 
 /// Reads a log and writes a line for each reception that ended without its message and for each frame that was dropped,
@@ -52,7 +53,7 @@ struct Explainer {
 impl Machine for Explainer {
     ghost use Rattle.std.specs.Prelude.{◌≡◌};
     ghost use Rattle.isotp_receive.specs.declared.TheConstants.{MESSAGE_LIMIT};
-    ghost use Rattle.trace_run.specs.Told.{answers_counts, needs_none};
+    ghost use Rattle.trace_run.specs.Script.{answers_counts, needs_none};
     ghost use Rattle.trace_canon.specs.ExplainScript.{explain_script};
 
     type Answer = Summary;
@@ -81,7 +82,7 @@ impl Machine for Explainer {
         pair: &Pair,
         summary: &Summary,
         out: &mut S,
-    ) -> Result<Summary, Stop> {
+    ) -> Result<Summary, NoAnswer> {
         say_end(self.notation, pair, summary, out);
         Ok(*summary)
     }
@@ -90,7 +91,7 @@ impl Machine for Explainer {
         self,
         _summary: &Summary,
         _why: Fault,
-        _source: Glimpse<'_>,
+        _glimpse: Glimpse<'_>,
         _out: &mut S,
     ) {}
 }

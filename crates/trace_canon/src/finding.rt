@@ -1,11 +1,10 @@
 //! `find`: the pairs of identifiers that ask and answer, written once the log has ended.
-ghost use Rattle.std.specs.Prelude.{Err};
 ghost use Rattle.trace_canon.specs.Finding.{RanToFind};
 ghost use Rattle.trace_io.specs.Counted.{IsLowCount};
 ghost use Rattle.trace_log.specs.Devices.{HasLowCounts};
 
+use crate::credit_lines::say_credit_lines;
 use crate::hearing::found_in;
-use crate::pair_lines::say_pairs;
 use std::alloc::Global;
 use text_parts::Part;
 use trace_io::{Source, Target, TextSink};
@@ -31,27 +30,27 @@ pub fn find<R: Source, W: Target>(
     ensures ran { RanToFind R.Source W.Target notation config.now reader.old writer.old result reader.new writer.new }
 {
     let found = found_in(alloc, config, reader)?;
-    let pairs = Pairs {
-        pairs: &found.pairs,
+    let lines = CreditLines {
+        lines: &found.credit_lines,
         notation,
     };
-    print(pairs, writer)?;
+    print(lines, writer)?;
     Ok(found.summary)
 }
 
-/// The lines of all pairs, in order, in a notation.
+/// The lines of who answered whom, in order, in a notation.
 #[derive(Clone, Copy)]
-struct Pairs<'a> {
-    pairs: &'a Vec<CreditLine>,
+struct CreditLines<'a> {
+    lines: &'a Vec<CreditLine>,
     notation: Notation,
 }
 
-impl<'a> Part for Pairs<'a> {
-    ghost use Rattle.trace_canon.specs.Finding.{pairs_text};
+impl<'a> Part for CreditLines<'a> {
+    ghost use Rattle.trace_canon.specs.Finding.{credit_lines_text};
 
-    ghost text = { λ lines. pairs_text lines.notation lines.pairs.now.items };
+    ghost text = { λ part. credit_lines_text part.notation part.lines.now.items };
 
     fn say<S: TextSink>(self, out: &mut S) {
-        say_pairs(self.pairs, self.notation, out);
+        say_credit_lines(self.lines, self.notation, out);
     }
 }

@@ -15,14 +15,14 @@ use trace_io::Source;
 use trace_log::{Config, Fault, LineTaker, Summary, feed_lines};
 use uds_find::{CreditLine, Finder};
 
-/// The pairs of a log, in the order of their lines, and what was counted in it.
+/// Who answered whom in a log, in the order of the lines that say so, and what was counted in it.
 #[derive(Debug, Drop)]
 pub(crate) struct Found {
-    pub pairs: Vec<CreditLine>,
+    pub credit_lines: Vec<CreditLine>,
     pub summary: Summary,
 }
 
-/// Reads a log, and gives its pairs.
+/// Reads a log, and gives who answered whom in it.
 pub(crate) fn found_in<R: Source>(
     alloc: Global,
     config: &Config,
@@ -54,19 +54,19 @@ impl Hearing {
         }
     }
 
-    /// The pairs of all that was heard. The log ended in a line feed, or not.
+    /// The lines of all that was heard. The log ended in a line feed, or not.
     fn finish(self, alloc: Global, ends_in_line_feed: bool) -> Result<Found, Fault>
         ensures found { IfOk result (λ found. (log : List ℕ) (meanings : List (Option StampedValue))
             → HasHeard meanings self.finder self.lines
-            → ends_in_line_feed ≡ Spec.ends_in_line_feed log → IsFoundOf log meanings found.pairs.items found.summary) }
+            → ends_in_line_feed ≡ Spec.ends_in_line_feed log → IsFoundOf log meanings found.credit_lines.items found.summary) }
         ensures fault { IfErr result (λ fault. fault ≡ Fault.Memory) }
         ensures needs { IfErr result (λ fault. (meanings : List (Option StampedValue))
             → HasHeard meanings self.finder self.lines → HasCredit (frames_in meanings)) }
     {
         let Hearing { finder, lines } = self;
-        let pairs = finder.finish(alloc)?;
+        let credit_lines = finder.finish(alloc)?;
         Ok(Found {
-            pairs,
+            credit_lines,
             summary: summary(lines, ends_in_line_feed),
         })
     }
@@ -93,6 +93,7 @@ impl LineTaker for Hearing {
 
     type Device = ();
 
+    // `s` and `t` are this and its device, before and after lines with these meanings.
     ghost took = { λ s meanings t. HasHeard [] s.0.finder s.0.lines → HasHeard meanings t.0.finder t.0.lines };
 
     ghost rested = { λ s meanings t. HasHeard [] s.0.finder s.0.lines → HasHeard meanings t.0.finder t.0.lines };

@@ -103,7 +103,7 @@ pub fn explanation(
 }
 
 /// The lines of a log's pairs, as [`find`](crate::find) writes them.
-pub fn pair_lines(
+pub fn credit_lines(
     alloc: Global,
     config: &Config,
     notation: Notation,

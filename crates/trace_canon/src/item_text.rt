@@ -13,15 +13,15 @@ use trace_log::{Config, Fault, Summary};
 use trace_run::print;
 use uds_exchange::Meaning;
 
-/// A text of items.
+/// A text of items. A command that writes one is an `ItemText`, and a call of [`write_items`].
 pub trait ItemText: Copy {
     ghost use Rattle.std.specs.Prelude.{List, ℕ};
     ghost use Rattle.uds_exchange.specs.Meaning.{ItemValue};
 
-    /// What it is of some items.
+    /// The text of these items.
     ghost text: { Self → List ItemValue → List ℕ };
 
-    /// Says it.
+    /// Says the text of these items.
     fn say<S: TextSink>(&self, items: &Meaning, out: &mut S)
         ensures { S.says out.old (text self.now items.now) out.new };
 }

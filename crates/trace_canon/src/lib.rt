@@ -1,4 +1,5 @@
-//! The canonical log of a recorded session.
+//! The commands over a log: its canonical log, its items, its messages, what was dropped, and whether two logs are the
+//! same session.
 //!
 //! Two recordings of one diagnostic session differ in time stamps, interface names, padding, frame sizes and foreign
 //! traffic. [`normalise`] reads a log and writes the one spelling that all logs with the same meaning share. So two
@@ -27,16 +28,16 @@
 //!
 //! | Command | Files | Definitions |
 //! |---|---|---|
-//! | [`normalise`] | `normaliser`, `canonical_sink`, `progress`, `length` | `CanonicalScript` |
+//! | [`normalise`] | `normaliser`, `canonical_sink`, `progress`, `length` | `Answers`, `Outcome`, `CanonicalLog` of `trace_log` |
 //! | [`explain`] | `explainer` | `ExplainScript` |
 //! | [`messages`] | `placer`, `reception_starts`, `message_objects`, `message_parts` | `MessageLines`, `PlaceLaws`, `ReceptionStarts` |
 //! | [`watch`] | `watcher` | `WatchScript` |
-//! | [`meaning_of`] | `collector`, `length` | `Sessions`, `SessionScript` |
+//! | [`meaning_of`] | `collector`, `length` | `Sessions` |
 //! | [`compare`] | `comparing` | `Compared` |
 //! | [`write_comparison`] | `comparison_text`, `comparison_objects`, `compared_items` | `ComparisonText` |
 //! | [`list`], [`write_items`] | `lister`, `item_text` | `ItemText` |
-//! | [`find`] | `finding`, `hearing`, `pair_lines` | `Finding` |
-//! | all of them over memory | [`in_memory`] | `InMemory` |
+//! | [`find`] | `finding`, `hearing`, `credit_lines` | `Finding` |
+//! | over memory [`normalise`], [`list`], [`messages`], [`explain`], [`find`], [`meaning_of`], [`compare`] | [`in_memory`] | `InMemory` |
 //!
 //! What a run comes to that writes a text at the end is in `WrittenAtEnd`, and of one that writes nothing in `ReadOnly`;
 //! for which frames a command needs memory, in `MemoryNeeded`.
@@ -52,6 +53,7 @@ mod compared_items;
 mod comparing;
 mod comparison_objects;
 mod comparison_text;
+mod credit_lines;
 mod explainer;
 mod finding;
 mod hearing;
@@ -63,7 +65,6 @@ mod lister;
 mod message_objects;
 mod message_parts;
 mod normaliser;
-mod pair_lines;
 mod placer;
 mod progress;
 pub mod reception_starts;

@@ -5,7 +5,7 @@ ghost use Rattle.isotp_receive.specs.declared.TheConstants.{MESSAGE_LIMIT};
 ghost use Rattle.uds_exchange.specs.Meaning.{meaning, flattened};
 ghost use Rattle.trace_log.specs.Answers.{Answers, ReadsWhile, WritesEagerly};
 ghost use Rattle.trace_log.specs.CanonicalLog.{canonical_log, canonical_log_of_lines};
-ghost use Rattle.trace_canon.specs.CanonicalScript.{StandsCanonical};
+ghost use Rattle.trace_canon.specs.proving.CanonicalScript.{StandsCanonical};
 ghost use Rattle.trace_log.specs.Devices.{AgreesWith, bytes_given, ReadFrom, WroteTo, HasLowCounts};
 ghost use Rattle.trace_canon.specs.InMemory.{HasTextOf};
 ghost use Rattle.trace_canon.specs.MemoryNeeded.{NeedsMemoryToOrder};
@@ -20,7 +20,7 @@ use isotp_receive::Pair;
 use std::alloc::{AllocError, Global};
 use trace_io::{Source, Target, TextSink};
 use trace_log::{Config, Fault, Summary};
-use trace_run::{Glimpse, Machine, Seen, Stop, run};
+use trace_run::{Glimpse, Machine, NoAnswer, Seen, run};
 use uds_exchange::JudgedOrderer;
 
 /// Reads a log and writes the canonical lines of its messages, each as soon as its place is known.
@@ -94,7 +94,7 @@ pub(crate) struct Normaliser {
 impl Machine for Normaliser {
     ghost use Rattle.isotp_receive.specs.declared.TheConstants.{MESSAGE_LIMIT};
     ghost use Rattle.trace_canon.specs.MemoryNeeded.{CompletesHeld};
-    ghost use Rattle.trace_canon.specs.CanonicalScript.{StandsCanonical, answers_canonical, canonical_script};
+    ghost use Rattle.trace_canon.specs.proving.CanonicalScript.{StandsCanonical, answers_canonical, canonical_script};
 
     type Answer = Summary;
 
@@ -117,10 +117,10 @@ impl Machine for Normaliser {
             return Ok(());
         };
         say_due(
-            &mut self.orderer,
+            out,
             &self.config,
             &mut self.progress,
-            out,
+            &mut self.orderer,
             message,
         )
     }
@@ -130,15 +130,15 @@ impl Machine for Normaliser {
         _pair: &Pair,
         summary: &Summary,
         out: &mut S,
-    ) -> Result<Summary, Stop> {
+    ) -> Result<Summary, NoAnswer> {
         let Normaliser {
             orderer,
             mut progress,
             config,
         } = self;
-        say_held(orderer, &config, &mut progress, out);
-        if progress.is_over() {
-            return Err(Stop::OutputLimit);
+        say_held(out, &config, &mut progress, orderer);
+        if progress.is_full() {
+            return Err(NoAnswer::OutputLimit);
         }
         Ok(*summary)
     }
@@ -147,7 +147,7 @@ impl Machine for Normaliser {
         self,
         _summary: &Summary,
         _why: Fault,
-        _source: Glimpse<'_>,
+        _glimpse: Glimpse<'_>,
         _out: &mut S,
     ) {}
 }

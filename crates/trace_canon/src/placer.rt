@@ -1,7 +1,8 @@
 //! `messages`: a machine that says each message with its place in the log, as it is delivered.
 ghost use Rattle.isotp_receive.specs.declared.TheConstants.{MESSAGE_LIMIT};
 ghost use Rattle.trace_canon.specs.MessageLines.{judged_at, placed_line, placed_text, placing_script};
-ghost use Rattle.trace_run.specs.Told.{RanLenient, answers_counts, command, needs_none, tells_no_refusal};
+ghost use Rattle.trace_run.specs.Script.{answers_counts, command, needs_none, tells_no_refusal};
+ghost use Rattle.trace_run.specs.Told.{RanLenient};
 ghost use Rattle.trace_io.specs.Counted.{IsLowCount};
 ghost use Rattle.trace_log.specs.Devices.{HasLowCounts};
 
@@ -13,7 +14,7 @@ use std::alloc::{AllocError, Global};
 use text_parts::say;
 use trace_io::{Source, Target, TextSink};
 use trace_log::{Config, Fault, Summary};
-use trace_run::{Glimpse, Machine, Seen, Stop, run_lenient};
+use trace_run::{Glimpse, Machine, NoAnswer, Seen, run_lenient};
 use trace_text::{Bytes, Notation, Number, Sender};
 use uds_exchange::Judged;
 
@@ -55,7 +56,7 @@ impl Machine for Placer {
     ghost use Rattle.isotp_receive.specs.declared.TheConstants.{MESSAGE_LIMIT};
     ghost use Rattle.trace_canon.specs.proving.ReceptionStarts.{PlacesMessages};
     ghost use Rattle.trace_canon.specs.MessageLines.{placing_script};
-    ghost use Rattle.trace_run.specs.Told.{answers_counts, needs_none};
+    ghost use Rattle.trace_run.specs.Script.{answers_counts, needs_none};
 
     type Answer = Summary;
 
@@ -90,7 +91,7 @@ impl Machine for Placer {
         _pair: &Pair,
         summary: &Summary,
         _out: &mut S,
-    ) -> Result<Summary, Stop> {
+    ) -> Result<Summary, NoAnswer> {
         Ok(*summary)
     }
 
@@ -98,7 +99,7 @@ impl Machine for Placer {
         self,
         _summary: &Summary,
         _why: Fault,
-        _source: Glimpse<'_>,
+        _glimpse: Glimpse<'_>,
         _out: &mut S,
     ) {}
 }
@@ -119,7 +120,7 @@ fn say_message<S: TextSink>(
     }
 }
 
-/// Says it in words.
+/// Says the line of a message in words.
 fn say_message_line<S: TextSink>(
     message: &Judged<'_>,
     first: FramePlace,

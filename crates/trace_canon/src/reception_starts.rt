@@ -1,9 +1,10 @@
-//! Where the receptions that stand began.
+//! Where the receptions that stand began: what a frame did moves it. The page of `trace_report` stands on it, too.
 ghost use Rattle.std.specs.Prelude.{◌≡◌, None, if◌then◌else◌};
 ghost use Rattle.direction.specs.declared.Dir.{Dir as DirValue};
 ghost use Rattle.isotp_receive.specs.EventSeen.{seen_event, seen_verdict};
 ghost use Rattle.isotp_receive.specs.Trace.{same_direction};
-ghost use Rattle.trace_canon.specs.ReceptionStarts.{began_at, begun_after, begun_of, left_by, moved_by};
+ghost use Rattle.trace_canon.specs.ReceptionStarts.{message_start, reception_start, start_after_event, start_after_verdict};
+ghost use Rattle.trace_canon.specs.ReceptionStarts as Spec;
 
 use direction::Dir;
 use isotp_receive::{Ended, Event, Verdict};
@@ -25,7 +26,7 @@ pub struct ReceptionStarts {
 impl ReceptionStarts {
     /// Before the first frame.
     pub fn start() -> ReceptionStarts
-        ensures { (d : DirValue) → begun_of result d ≡ None }
+        ensures { (d : DirValue) → reception_start result d ≡ None }
     {
         ReceptionStarts {
             tester: None,
@@ -35,7 +36,7 @@ impl ReceptionStarts {
 
     /// Where the reception of a direction began, if one stands.
     pub fn of(&self, dir: Dir) -> Option<FramePlace>
-        ensures { result ≡ begun_of self.now dir }
+        ensures { result ≡ reception_start self.now dir }
     {
         match dir {
             Dir::Tester => self.tester,
@@ -44,12 +45,12 @@ impl ReceptionStarts {
     }
 
     /// Takes what a frame in this place did, and answers where the message began that it completed. Where it completed
-    /// none, the answer says nothing.
+    /// none, the answer says nothing, and nobody reads it: an `Option` would be made and taken apart at each frame.
     #[inline(always)]
     pub fn take(&mut self, here: FramePlace, dir: Dir, event: Event<'_>) -> FramePlace
         ensures stands { (d : DirValue)
-            → begun_of self.new d ≡ begun_after d dir (seen_event event.entry) here (begun_of self.old d) }
-        ensures first { result ≡ began_at dir (seen_event event.entry) here (begun_of self.old dir) }
+            → reception_start self.new d ≡ start_after_event d dir (seen_event event.entry) here (reception_start self.old d) }
+        ensures first { result ≡ message_start dir (seen_event event.entry) here (reception_start self.old dir) }
     {
         self.end(event.ended);
         let begun = self.of(dir);
@@ -60,7 +61,7 @@ impl ReceptionStarts {
     /// Takes the end of a reception, if one ended.
     #[inline(always)]
     fn end(&mut self, ended: Option<Ended>)
-        ensures { (d : DirValue) → begun_of self.new d ≡ left_by d ended (begun_of self.old d) }
+        ensures { (d : DirValue) → reception_start self.new d ≡ Spec.still_begun d ended (reception_start self.old d) }
     {
         if let Some(ended) = ended {
             self.set(ended.dir, None);
@@ -71,7 +72,7 @@ impl ReceptionStarts {
     #[inline(always)]
     fn move_by(&mut self, here: FramePlace, dir: Dir, verdict: Verdict<'_>)
         ensures { (d : DirValue)
-            → begun_of self.new d ≡ moved_by (same_direction d dir) (seen_verdict verdict.entry) here (begun_of self.old d) }
+            → reception_start self.new d ≡ start_after_verdict (same_direction d dir) (seen_verdict verdict.entry) here (reception_start self.old d) }
     {
         match verdict {
             Verdict::Message(_) => self.set(dir, None),
@@ -83,7 +84,7 @@ impl ReceptionStarts {
     /// Takes where the reception of a direction began, if one stands.
     #[inline(always)]
     fn set(&mut self, dir: Dir, begun: Option<FramePlace>)
-        ensures { (d : DirValue) → begun_of self.new d ≡ (if same_direction d dir then begun else begun_of self.old d) }
+        ensures { (d : DirValue) → reception_start self.new d ≡ (if same_direction d dir then begun else reception_start self.old d) }
     {
         match dir {
             Dir::Tester => self.tester = begun,
@@ -92,9 +93,10 @@ impl ReceptionStarts {
     }
 }
 
-/// Where the reception of a direction began, if it still stands after this end.
+/// Where the reception of a direction began, if it still stands after this end. A page asks, whose rows tell of the end
+/// before they tell of the frame.
 pub fn still_begun(dir: Dir, ended: Option<Ended>, begun: Option<FramePlace>) -> Option<FramePlace>
-    ensures { result ≡ left_by dir ended begun }
+    ensures { result ≡ Spec.still_begun dir ended begun }
 {
     match ended {
         Some(ended) if ended.dir == dir => None,

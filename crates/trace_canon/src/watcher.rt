@@ -1,12 +1,13 @@
 //! `watch`: a machine that says the line of each item as soon as it is decided.
-ghost use Rattle.std.specs.Prelude.{◌≡◌, ℕ, List, [], ◌∷◌, ◌++◌, OnOk, OnErr, Err};
+ghost use Rattle.std.specs.Prelude.{◌≡◌, ℕ, List, [], ◌∷◌, ◌++◌, OnOk, OnErr};
 ghost use Rattle.direction.specs.Dir.{Message};
 ghost use Rattle.isotp_receive.specs.declared.TheConstants.{MESSAGE_LIMIT};
 ghost use Rattle.uds_exchange.specs.Judging.{IsJudgedAfter, sent};
 ghost use Rattle.uds_exchange.specs.Decided.{undecided};
 ghost use Rattle.uds_exchange.specs.Decider.{decider_after, IsKept};
 ghost use Rattle.trace_canon.specs.MemoryNeeded.{CompletesKept};
-ghost use Rattle.trace_run.specs.Told.{RanLenient, answers_counts, command, tells_no_refusal};
+ghost use Rattle.trace_run.specs.Script.{answers_counts, command, tells_no_refusal};
+ghost use Rattle.trace_run.specs.Told.{RanLenient};
 ghost use Rattle.trace_canon.specs.WatchScript.{watching_script, WritesTheList};
 ghost use Rattle.trace_canon.specs.proving.Watching.{SaysDecided, SaysLines};
 ghost use Rattle.trace_io.specs.Counted.{IsLowCount};
@@ -16,7 +17,7 @@ use isotp_receive::Pair;
 use std::alloc::{AllocError, Global};
 use trace_io::{Source, Target, TextSink};
 use trace_log::{Config, Fault, Summary};
-use trace_run::{Glimpse, Machine, Seen, Stop, run_lenient};
+use trace_run::{Glimpse, Machine, NoAnswer, Seen, run_lenient};
 use trace_text::{ItemStyle, say_item_line};
 use uds_exchange::{Decider, Item, ItemSink, Judged};
 
@@ -63,7 +64,7 @@ pub(crate) struct Watcher {
 impl Machine for Watcher {
     ghost use Rattle.isotp_receive.specs.declared.TheConstants.{MESSAGE_LIMIT};
     ghost use Rattle.trace_canon.specs.MemoryNeeded.{CompletesKept};
-    ghost use Rattle.trace_run.specs.Told.{answers_counts};
+    ghost use Rattle.trace_run.specs.Script.{answers_counts};
     ghost use Rattle.trace_canon.specs.WatchScript.{watching_script};
     ghost use Rattle.trace_canon.specs.proving.Watching.{WatchesItems};
 
@@ -88,10 +89,10 @@ impl Machine for Watcher {
             return Ok(());
         };
         say_decided(
-            &mut self.decider,
+            out,
             self.style,
             &mut self.number,
-            out,
+            &mut self.decider,
             message,
         )
     }
@@ -101,13 +102,13 @@ impl Machine for Watcher {
         _pair: &Pair,
         summary: &Summary,
         out: &mut S,
-    ) -> Result<Summary, Stop> {
+    ) -> Result<Summary, NoAnswer> {
         let Watcher {
             decider,
             style,
             mut number,
         } = self;
-        say_undecided(decider, style, &mut number, out);
+        say_undecided(out, style, &mut number, decider);
         Ok(*summary)
     }
 
@@ -115,7 +116,7 @@ impl Machine for Watcher {
         self,
         _summary: &Summary,
         _why: Fault,
-        _source: Glimpse<'_>,
+        _glimpse: Glimpse<'_>,
         _out: &mut S,
     ) {}
 }
@@ -144,26 +145,26 @@ impl<'a, S: TextSink> ItemSink for LineSink<'a, S> {
 
 /// Takes one more message, and says the lines of all items that are now decided.
 fn say_decided<S: TextSink>(
-    decider: &mut Decider,
+    out: &mut S,
     style: ItemStyle,
     number: &mut u64,
-    out: &mut S,
+    decider: &mut Decider,
     message: Judged<'_>,
 ) -> Result<(), AllocError>
     ensures stands { OnOk result ((M : List Message) → decider.old ≡ decider_after M → IsJudgedAfter M message.entry
         → decider.new ≡ decider_after (M ++ sent message.entry ∷ [])) }
     ensures says { OnOk result ((M : List Message) → decider.old ≡ decider_after M → IsJudgedAfter M message.entry
         → SaysDecided S.says style M (sent message.entry) number.old out.old number.new out.new) }
-    ensures kept { OnErr result ((M : List Message) → decider.old ≡ decider_after M → IsJudgedAfter M message.entry
+    ensures needs { OnErr result ((M : List Message) → decider.old ≡ decider_after M → IsJudgedAfter M message.entry
         → IsKept M (sent message.entry)) }
-    ensures quiet { OnErr result (S.says out.old [] out.new) }
+    ensures err { OnErr result (S.says out.old [] out.new) }
 {
     let mut sink = LineSink { out, number, style };
     decider.take(message, &mut sink)
 }
 
 /// Says the lines of the items that are not decided.
-fn say_undecided<S: TextSink>(decider: Decider, style: ItemStyle, number: &mut u64, out: &mut S)
+fn say_undecided<S: TextSink>(out: &mut S, style: ItemStyle, number: &mut u64, decider: Decider)
     ensures { (M : List Message) → decider ≡ decider_after M
         → SaysLines S.says style (undecided M) number.old out.old number.new out.new }
 {

@@ -1,6 +1,6 @@
 -- What is known of two logs that are kept is known of them side by side.
-use Rattle.std.proofs.Common.{◌≡◌, ◌≢◌, ℕ, List, Result, Ok, Err, ap, refl, sym, subst, ◌∙◌}
-use Rattle.std.specs.Prelude.{IfErr, OnOk, ⊥}
+use Rattle.std.proofs.Common.{◌≡◌, ◌≢◌, ℕ, List, Result, Ok, Err, ap, sym, subst, ◌∙◌}
+use Rattle.std.specs.Prelude.{IfErr, ⊥}
 use Rattle.trace_canon.specs.Compared.{fault_in}
 use Rattle.trace_io.specs.declared.device.Source.{Ghosts as SourceGhosts}
 use Rattle.trace_log.specs.Devices.{ReadFrom}
@@ -9,7 +9,7 @@ use Rattle.trace_log.specs.declared.fault.CompareFault.{CompareFault}
 use Rattle.trace_log.specs.declared.fault.CompareFault.TheVariants.{Left, Right}
 use Rattle.trace_log.specs.declared.fault.Fault.{Fault}
 use Rattle.trace_log.specs.declared.fault.Fault.TheVariants.{Memory, Read, Write}
-use Rattle.trace_report.specs.Held.{HoldsTwo, TwoValue}
+use Rattle.trace_report.specs.Kept.{KeepsTwo, TwoValue}
 use Rattle.trace_pair.specs.proving.Beside.{IsSetBeside}
 
 never_both : (held : TwoValue) (why : CompareFault) → ◌≡◌ {A = Result TwoValue CompareFault} (Ok held) (Err why) → ⊥
@@ -32,12 +32,12 @@ memory_is_no_write is = cc
 
 -- what is answered of them
 pub beside_holds : (limit : ℕ) (settings : Settings) (one other : List ℕ) (kept result : Result TwoValue CompareFault) → IsSetBeside kept result
-    → HoldsTwo limit settings one other kept → HoldsTwo limit settings one other result
-beside_holds limit settings one other (Ok held) (Ok beside) is holds = subst (λ (t : TwoValue). HoldsTwo limit settings one other (Ok t)) (sym is) holds
+    → KeepsTwo limit settings one other kept → KeepsTwo limit settings one other result
+beside_holds limit settings one other (Ok held) (Ok beside) is holds = subst (λ (t : TwoValue). KeepsTwo limit settings one other (Ok t)) (sym is) holds
 beside_holds limit settings one other (Ok held) (Err fault) is holds =
-    subst (λ (f : CompareFault). HoldsTwo limit settings one other (Err f)) (sym is) ((held.left, holds.0), tt)
+    subst (λ (f : CompareFault). KeepsTwo limit settings one other (Err f)) (sym is) ((held.left, holds.0), tt)
 beside_holds limit settings one other (Err why) (Ok beside) is holds = absurd is
-beside_holds limit settings one other (Err why) (Err fault) is holds = subst (λ (f : CompareFault). HoldsTwo limit settings one other (Err f)) (sym is) holds
+beside_holds limit settings one other (Err why) (Err fault) is holds = subst (λ (f : CompareFault). KeepsTwo limit settings one other (Err f)) (sym is) holds
 
 -- a fault of the first log is one of the logs that were kept
 pub left_before : (kept result : Result TwoValue CompareFault) (fault : Fault) → IsSetBeside kept result → result ≡ Err (Left fault) → kept ≡ Err (Left fault)

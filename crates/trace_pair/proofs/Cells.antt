@@ -1,7 +1,6 @@
 -- The columns of a line, one after another.
 use Rattle.std.proofs.Common.{◌≡◌, ℕ, zero, suc, ◌+◌, ◌-◌, ◌<◌, Bool, false, List, [], ◌∷◌, ◌++◌, codes, length, take, drop, Option, Some, None, arith, ap, sym, ◌∙◌, append_assoc, refl}
 use Rattle.std.specs.Prelude.{slice_get}
-use Rattle.std.specs.List.{flat_map}
 use Rattle.std.proofs.lemmas.List.{length-append}
 use Rattle.std.proofs.lemmas.Option.{none-some, same_Some}
 use Rattle.text_parts.proofs.Promises.{IsLeft, same-rest, say-last, say-more}
@@ -10,7 +9,7 @@ use Rattle.byte_columns.specs.Columns.{count_in, differs, left_bytes, right_byte
 use Rattle.byte_columns.specs.Laws.{listed}
 use Rattle.trace_pair.specs.declared.log.Log.{Log}
 use Rattle.trace_pair.specs.declared.log.Log.TheVariants.{A, B}
-use Rattle.trace_pair.specs.ColumnLines.{byte_or_gap, bytes_in, cells, cells_behind, mark_end, mark_start}
+use Rattle.trace_pair.specs.ColumnLines.{byte_or_gap, bytes_in, cells_behind, mark_end, mark_start}
 use Rattle.trace_pair.specs.Logs.{byte_of}
 
 -- how many bytes a log has in columns

@@ -1,5 +1,5 @@
 -- The stretches of lines, one after another.
-use Rattle.std.proofs.Common.{◌≡◌, ℕ, zero, suc, ◌+◌, ◌-◌, ◌≤◌, ◌<◌, Bool, true, false, List, [], ◌∷◌, ◌++◌, arith, ap, ap₂, sym, ◌∙◌, refl}
+use Rattle.std.proofs.Common.{◌≡◌, ℕ, suc, ◌+◌, ◌-◌, ◌≤◌, ◌<◌, Bool, true, false, List, [], ◌∷◌, ◌++◌, arith, ap, sym, ◌∙◌, refl}
 use Rattle.std.specs.List.{flat_map, range_with_len}
 use Rattle.text_parts.proofs.Promises.{IsLeft, same-rest, said-whole, say-more}
 use Rattle.byte_columns.specs.declared.column.Column.{Column}

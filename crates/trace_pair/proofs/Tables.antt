@@ -1,5 +1,5 @@
 -- The rows of the table of items, one after another.
-use Rattle.std.proofs.Common.{◌≡◌, ℕ, zero, suc, ◌+◌, ◌-◌, ◌≤◌, ◌<◌, List, [], ◌∷◌, ◌++◌, arith, ap, ap₂, sym, ◌∙◌, refl}
+use Rattle.std.proofs.Common.{◌≡◌, ℕ, suc, ◌+◌, ◌-◌, ◌≤◌, ◌<◌, List, [], ◌∷◌, ◌++◌, arith, ap, ap₂, sym}
 use Rattle.text_parts.proofs.Promises.{IsLeft, same-rest, said-whole, say-last, say-more}
 use Rattle.uds_difference.specs.declared.row.Row.{Row}
 use Rattle.trace_report.specs.Session.{SessionValue}

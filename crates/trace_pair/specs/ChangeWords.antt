@@ -1,5 +1,5 @@
 -- The changes of two sessions, in a list: where each stands, what it is, and whether a log is not clean there.
-use Rattle.std.specs.Prelude.{ℕ, ◌+◌, ◌-◌, ◌==◌, ◌<◌, ◌^◌, Bool, true, false, List, [], ◌++◌, codes, slice_get, Option, Some, None, if◌then◌else◌}
+use Rattle.std.specs.Prelude.{ℕ, ◌+◌, ◌-◌, ◌==◌, ◌<◌, ◌^◌, Bool, true, false, List, [], ◌++◌, codes, slice_get, Option, Some, if◌then◌else◌}
 use Rattle.std.specs.Fmt.{decimal}
 use Rattle.text_parts.specs.Parts.{text_if_some}
 use Rattle.uds_exchange.specs.Meaning.{ItemValue}

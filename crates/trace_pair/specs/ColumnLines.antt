@@ -1,5 +1,5 @@
 -- Two messages byte under byte, as a page has them: lines of sixteen columns, in which each byte that differs has a mark.
-use Rattle.std.specs.Prelude.{ℕ, ◌+◌, ◌*◌, ◌==◌, Bool, true, false, not, ◌&&◌, ◌||◌, List, [], ◌∷◌, ◌++◌, codes, length, map, take, Option, Some, None, if◌then◌else◌}
+use Rattle.std.specs.Prelude.{ℕ, ◌+◌, ◌*◌, ◌==◌, Bool, false, not, ◌&&◌, List, [], ◌∷◌, ◌++◌, codes, length, take, Option, Some, None, if◌then◌else◌}
 use Rattle.std.specs.Fmt.{decimal}
 use Rattle.std.specs.List.{flat_map, range_with_len}
 use Rattle.can_log.specs.Digits.{hexadecimal}
@@ -7,7 +7,7 @@ use Rattle.byte_columns.specs.declared.column.Column.{Column}
 use Rattle.byte_columns.specs.Columns.{differing, differs}
 use Rattle.byte_columns.specs.Laws.{listed}
 use Rattle.byte_columns.specs.Lines.{Stretch, shown, folded, columns_from, hidden, line, line_differs, stretches}
-use Rattle.trace_report.specs.Words.{grey_letters}
+use Rattle.trace_report.specs.Letters.{grey_letters}
 use Rattle.trace_pair.specs.declared.column_lines.Sides.{Sides}
 use Rattle.trace_pair.specs.declared.column_lines.Sides.TheVariants.{Both, Only}
 use Rattle.trace_pair.specs.declared.column_words.Whose.{Whose}

@@ -1,8 +1,6 @@
 -- The list of the differences, where there are several: the first fifty, of which the first ten stand in the open.
-use Rattle.std.specs.Prelude.{ℕ, ◌+◌, ◌-◌, ◌==◌, Bool, true, List, [], ◌∷◌, ◌++◌, codes, length, min, nat_le, nat_lt, take, if◌then◌else◌}
+use Rattle.std.specs.Prelude.{ℕ, ◌+◌, ◌-◌, ◌==◌, true, List, [], ◌∷◌, ◌++◌, codes, length, min, nat_le, nat_lt, take, if◌then◌else◌}
 use Rattle.std.specs.Fmt.{decimal}
-use Rattle.uds_difference.specs.declared.row.Row.{Row}
-use Rattle.shown_rows.specs.Changes.{changes}
 use Rattle.shown_rows.specs.declared.changes.Change.{Change}
 use Rattle.trace_report.specs.Session.{SessionValue}
 use Rattle.trace_pair.specs.ChangeWords.{change_line}

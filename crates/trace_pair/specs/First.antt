@@ -1,5 +1,5 @@
 -- The first difference as recorded: of each log the rows around it, with a mark at each byte that differs.
-use Rattle.std.specs.Prelude.{ℕ, suc, ◌+◌, ◌-◌, ◌==◌, Bool, true, false, ◌&&◌, ◌||◌, not, List, [], ◌∷◌, ◌++◌, codes, drop, length, min, nat_le, take, Option, Some, None, slice_get, if◌then◌else◌}
+use Rattle.std.specs.Prelude.{ℕ, suc, ◌+◌, ◌-◌, ◌==◌, Bool, true, false, ◌||◌, List, [], ◌∷◌, ◌++◌, codes, drop, length, min, nat_le, take, Option, Some, None, slice_get, if◌then◌else◌}
 use Rattle.std.specs.Fmt.{decimal}
 use Rattle.byte_columns.specs.declared.column.Column.{Column}
 use Rattle.byte_columns.specs.Columns.{beside}
@@ -9,13 +9,17 @@ use Rattle.uds_difference.specs.Likeness.{same_bytes}
 use Rattle.uds_difference.specs.declared.row.Row.{Row}
 use Rattle.uds_difference.specs.declared.row.Row.TheVariants.{Same, Changed, OnlyLeft, OnlyRight}
 use Rattle.trace_report.specs.Blocks.{begins_exchange, chart_head}
-use Rattle.trace_report.specs.Items.{PlacedItem, RowMessage, is_answer_role, items_in, rows_before}
-use Rattle.trace_report.specs.Rows.{RowValue, message, no_answer, dropped, ended, unfinished, begins_item, cell_end, cell_front, dropped_row, ended_row, message_front, no_answer_row, note_text, role_words, unfinished_row}
+use Rattle.trace_report.specs.Items.{PlacedItemValue, RowMessageValue, items_in, rows_before}
+use Rattle.trace_report.specs.Roles.{is_answer_role, begins_item}
+use Rattle.trace_report.specs.Rows.{RowValue, message, no_answer, dropped, ended, unfinished, cell_end, cell_front}
+use Rattle.trace_report.specs.LostRows.{dropped_row, ended_row, no_answer_row, unfinished_row}
+use Rattle.trace_report.specs.MessageRows.{message_front, note_text, role_words}
 use Rattle.trace_report.specs.Session.{SessionValue}
-use Rattle.trace_report.specs.Words.{data_text, has_word}
+use Rattle.trace_report.specs.Data.{data_text}
+use Rattle.trace_report.specs.Letters.{has_word}
 use Rattle.trace_report.specs.declared.row.Arrow.TheVariants.{Headed}
 use Rattle.trace_report.specs.declared.row.MessagePlace.{MessagePlace}
-use Rattle.trace_report.specs.declared.row.MessageRole.{MessageRole}
+use Rattle.trace_report.specs.declared.roles.MessageRole.{MessageRole}
 use Rattle.trace_pair.specs.declared.column_lines.Sides.TheVariants.{Only}
 use Rattle.trace_pair.specs.declared.log.Log.{Log}
 use Rattle.trace_pair.specs.declared.log.Log.TheVariants.{A, B}
@@ -115,12 +119,12 @@ abbrev pub if_other : List ℕ → List ℕ → Option (List ℕ)
 if_other own other = if same_bytes own other then None else Some other
 
 -- the answer beside which another is marked: both have the same outcome
-abbrev pub answer_if : Bool → Option RowMessage → Option RowMessage → Option (List ℕ)
+abbrev pub answer_if : Bool → Option RowMessageValue → Option RowMessageValue → Option (List ℕ)
 answer_if true (Some own) (Some other) = if_other own.bytes other.bytes
 answer_if _ _ _ = None
 
 -- the marks of an item, which has this number, beside the one that it changed to
-abbrev pub marks : ℕ → Option PlacedItem → Option PlacedItem → Option Marked
+abbrev pub marks : ℕ → Option PlacedItemValue → Option PlacedItemValue → Option Marked
 marks number (Some own) (Some other) = Some (record {
   item = number;
   begin = if_other own.begin.bytes other.begin.bytes;

@@ -1,5 +1,5 @@
 -- Items in the words of a technician: what was asked, and what came of it; and how two items differ.
-use Rattle.std.specs.Prelude.{ℕ, ◌-◌, ◌==◌, Bool, true, false, not, ◌&&◌, List, [], ◌∷◌, ◌++◌, codes, length, nat_le, take, Option, Some, None, if◌then◌else◌}
+use Rattle.std.specs.Prelude.{ℕ, ◌-◌, ◌==◌, Bool, true, false, List, [], ◌++◌, codes, length, nat_le, take, Option, Some, None, if◌then◌else◌}
 use Rattle.std.specs.Fmt.{decimal}
 use Rattle.direction.specs.declared.Dir.{Dir}
 use Rattle.direction.specs.declared.Dir.TheVariants as dir
@@ -7,7 +7,7 @@ use Rattle.uds_message.specs.Message.{is_keep_alive, is_negative_response, is_su
 use Rattle.uds_exchange.specs.Meaning.{ItemValue, exchange, stray}
 use Rattle.uds_difference.specs.Likeness.{same_bytes}
 use Rattle.trace_text.specs.Words.{code_text, direction_text, service_text}
-use Rattle.trace_report.specs.Words.{bytes_apart, more_words}
+use Rattle.trace_report.specs.Data.{bytes_apart, more_words}
 use Rattle.trace_pair.specs.declared.outcome.Outcome.{Outcome}
 use Rattle.trace_pair.specs.declared.outcome.Outcome.TheVariants.{Positive, Refused, Silent, Unanswered}
 use Rattle.trace_pair.specs.ByteWords.{byte_words}

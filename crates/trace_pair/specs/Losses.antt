@@ -4,7 +4,8 @@ use Rattle.std.specs.Prelude.{ℕ, ◌+◌, ◌-◌, ◌==◌, Bool, true, false
 use Rattle.std.specs.Fmt.{decimal}
 use Rattle.std.specs.List.{flat_map}
 use Rattle.trace_report.specs.Items.{begins, rows_before}
-use Rattle.trace_report.specs.Rows.{RowValue, message, no_answer, dropped, ended, unfinished, dropped_words, ended_words, unfinished_words}
+use Rattle.trace_report.specs.Rows.{RowValue, message, no_answer, dropped, ended, unfinished}
+use Rattle.trace_report.specs.LostRows.{dropped_words, ended_words, unfinished_words}
 use Rattle.trace_pair.specs.declared.log.Log.{Log}
 use Rattle.trace_pair.specs.Logs.{letter, letter_mark}
 

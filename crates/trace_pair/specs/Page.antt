@@ -7,12 +7,12 @@ use Rattle.trace_log.specs.declared.fault.Fault.TheVariants.{BadLine, LogLimit, 
 use Rattle.trace_report.specs.Causes.{cause_line, cause_of}
 use Rattle.trace_report.specs.Counts.{counts_text}
 use Rattle.trace_report.specs.Front.{identifiers_text, name_text, page_start, shapes_text}
-use Rattle.trace_report.specs.Held.{TwoValue}
+use Rattle.trace_report.specs.Kept.{TwoValue}
 use Rattle.trace_report.specs.Session.{SessionValue}
 use Rattle.trace_report.specs.Sorts.{counts_in}
 use Rattle.trace_report.specs.Verdict.{refusal_words, span_of}
 use Rattle.trace_report.specs.declared.cause.RefusalCause.{RefusalCause}
-use Rattle.trace_run.specs.Told.{GlimpseValue}
+use Rattle.trace_run.specs.Script.{GlimpseValue}
 use Rattle.uds_difference.specs.Bound.{bound_for}
 use Rattle.uds_difference.specs.Rows.{is_shortest, rows_of}
 use Rattle.uds_difference.specs.declared.row.Row.{Row}

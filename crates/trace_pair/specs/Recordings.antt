@@ -1,15 +1,14 @@
 -- What was found of both logs: a row for each, with what `--strict` says of it, how many items it has, and when it was.
-use Rattle.std.specs.Prelude.{ℕ, ◌/◌, ◌==◌, Bool, not, ◌&&◌, List, [], ◌++◌, codes, length, nat_le, nat_lt, if◌then◌else◌}
+use Rattle.std.specs.Prelude.{ℕ, ◌/◌, ◌==◌, Bool, ◌&&◌, List, ◌++◌, codes, length, nat_le, nat_lt, if◌then◌else◌}
 use Rattle.std.specs.Fmt.{decimal}
 use Rattle.can_log.specs.Digits as digits
 use Rattle.calendar.specs.declared.time.CivilTime.{CivilTime}
 use Rattle.calendar.specs.Times.{time_after}
 use Rattle.trace_log.specs.Summing.{is_clean}
 use Rattle.trace_log.specs.declared.summary.Summary.{Summary}
-use Rattle.trace_report.specs.Front.{name_text}
 use Rattle.trace_report.specs.Session.{SessionValue}
 use Rattle.trace_report.specs.Verdict.{is_called_clean, strict_words}
-use Rattle.trace_report.specs.Words.{seconds_between}
+use Rattle.trace_report.specs.Durations.{seconds_between}
 use Rattle.trace_text.specs.Words.{stamp_text}
 use Rattle.trace_pair.specs.declared.log.Log.{Log}
 use Rattle.trace_pair.specs.declared.log.Log.TheVariants.{A, B}

@@ -3,9 +3,7 @@ use Rattle.std.specs.Prelude.{ℕ, ◌+◌, ◌-◌, ◌==◌, Bool, true, false
 use Rattle.std.specs.Fmt.{decimal}
 use Rattle.std.specs.List.{list_any}
 use Rattle.trace_log.specs.Summing.{is_clean}
-use Rattle.trace_log.specs.declared.summary.Summary.{Summary}
 use Rattle.uds_exchange.specs.Meaning.{ItemValue, exchange, stray}
-use Rattle.uds_difference.specs.Bound.{bound_for}
 use Rattle.uds_difference.specs.declared.row.Row.{Row}
 use Rattle.uds_difference.specs.declared.row.Row.TheVariants.{Same, Changed, OnlyLeft, OnlyRight}
 use Rattle.shown_rows.specs.Changes.{changes}

@@ -20,7 +20,7 @@ pub struct Aligned {
 
 impl Model for Aligned {
     ghost use Rattle.std.specs.Prelude.{◌≡◌};
-    ghost use Rattle.trace_report.specs.Held.{TwoValue};
+    ghost use Rattle.trace_report.specs.Kept.{TwoValue};
     ghost use Rattle.uds_difference.specs.Rows.{is_shortest, rows_of};
     ghost use Rattle.trace_pair.specs.Sessions.{values_in};
 

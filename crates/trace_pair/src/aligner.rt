@@ -6,7 +6,7 @@ ghost use Rattle.trace_log.specs.Answers.{ReadsWhile};
 ghost use Rattle.trace_log.specs.Devices.{AgreesWith, bytes_given, ReadFrom, HasLowCounts};
 ghost use Rattle.trace_log.specs.Refusal.{HasNoBadPlaceWithin};
 ghost use Rattle.trace_log.specs.declared.fault.Fault.{Fault as FaultValue};
-ghost use Rattle.trace_report.specs.Held.{HasOwnFrame, HoldsTwo};
+ghost use Rattle.trace_report.specs.Kept.{HasOwnFrame, KeepsTwo};
 ghost use Rattle.trace_pair.specs.proving.Beside.{IsSetBeside};
 
 use crate::aligned::Aligned;
@@ -29,7 +29,7 @@ pub fn align_two<A: Source, B: Source>(
     // What is answered, for all logs with which the bytes that were read agree.
     ensures answer { (one other : List ℕ)
         → AgreesWith A.Source left.old left.new one → AgreesWith B.Source right.old right.new other
-        → HoldsTwo MESSAGE_LIMIT config.now one other result }
+        → KeepsTwo MESSAGE_LIMIT config.now one other result }
 
     // After a fault of the first log nothing of the second was read.
     ensures unread { (fault : FaultValue) → result ≡ Err (CompareFault.Left fault) → right.new ≡ right.old }

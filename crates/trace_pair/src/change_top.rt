@@ -7,7 +7,7 @@ use crate::item_row::Begun;
 use crate::sessions::item_of;
 use text_parts::{Part, When, say};
 use trace_io::TextSink;
-use trace_report::LentItem;
+use trace_report::PlacedItem;
 use trace_text::Number;
 use uds_difference::Row;
 
@@ -16,8 +16,8 @@ use uds_difference::Row;
 pub(crate) struct TopIf<'a>(
     pub Option<Begun>,
     pub Row,
-    pub Option<LentItem<'a>>,
-    pub Option<LentItem<'a>>,
+    pub Option<PlacedItem<'a>>,
+    pub Option<PlacedItem<'a>>,
 );
 
 impl<'a> Part for TopIf<'a> {
@@ -46,7 +46,7 @@ impl<'a> Part for TopIf<'a> {
 
 /// What a change is.
 #[derive(Clone, Copy)]
-struct ChangeWords<'a>(Row, usize, Option<LentItem<'a>>, Option<LentItem<'a>>);
+struct ChangeWords<'a>(Row, usize, Option<PlacedItem<'a>>, Option<PlacedItem<'a>>);
 
 impl<'a> Part for ChangeWords<'a> {
     ghost use Rattle.std.specs.Prelude.{option_map};

@@ -16,7 +16,7 @@ use crate::sessions::Sessions;
 use shown_rows::{Change, change_at, count_changes, left_in, right_in};
 use text_parts::{Either, say};
 use trace_io::TextSink;
-use trace_report::{LentItem, Session};
+use trace_report::{PlacedItem, Session};
 use uds_difference::Row;
 
 /// Says the first change, if there is one, by the rows of both logs around it.
@@ -125,7 +125,7 @@ fn say_side<S: TextSink>(
 }
 
 /// The item of a session that changed, if the change is of two items.
-fn changed_item(change: Change, session: &Session, place: usize) -> Option<LentItem<'_>> {
+fn changed_item(change: Change, session: &Session, place: usize) -> Option<PlacedItem<'_>> {
     match change.kind {
         Row::Changed => session.rows().item(place),
         Row::Same | Row::OnlyLeft | Row::OnlyRight => None,
@@ -135,8 +135,8 @@ fn changed_item(change: Change, session: &Session, place: usize) -> Option<LentI
 /// The marks of an item at a place beside the one that it changed to.
 fn marks<'a>(
     place: usize,
-    own: Option<LentItem<'a>>,
-    other: Option<LentItem<'a>>,
+    own: Option<PlacedItem<'a>>,
+    other: Option<PlacedItem<'a>>,
 ) -> Option<Marked<'a>>
     requires { place < 2 ^ 63 }
     ensures { option_map marked_of result ≡ Spec.marks (place + 1) (option_map item_of own.entry) (option_map item_of other.entry) }
@@ -151,7 +151,7 @@ fn marks<'a>(
 }
 
 /// The answer beside which another is marked: both have the same outcome, and differ.
-fn answer_if<'a>(own: LentItem<'a>, other: LentItem<'a>) -> Option<&'a [u8]> {
+fn answer_if<'a>(own: PlacedItem<'a>, other: PlacedItem<'a>) -> Option<&'a [u8]> {
     let answer = own.answer?;
     let reply = other.answer?;
     if same_outcome(outcome_of(own), outcome_of(other)) {

@@ -12,7 +12,7 @@ use crate::sessions::Sessions;
 use crate::told_items::{NoteOf, ToldItem};
 use text_parts::{Part, say};
 use trace_io::TextSink;
-use trace_report::{LentItem, Session};
+use trace_report::{PlacedItem, Session};
 use trace_text::{Number, Place};
 use uds_difference::Row;
 
@@ -86,7 +86,7 @@ fn has_right(kind: Row) -> bool
 }
 
 /// The item that a row has of the left log, if it has one.
-fn left_item(session: &Session, place: RowPlace) -> Option<LentItem<'_>>
+fn left_item(session: &Session, place: RowPlace) -> Option<PlacedItem<'_>>
     ensures { option_map item_of result ≡ Spec.left_item session.now place.kind place.left }
 {
     if has_left(place.kind) {
@@ -97,7 +97,7 @@ fn left_item(session: &Session, place: RowPlace) -> Option<LentItem<'_>>
 }
 
 /// The item that it has of the right log.
-fn right_item(session: &Session, place: RowPlace) -> Option<LentItem<'_>>
+fn right_item(session: &Session, place: RowPlace) -> Option<PlacedItem<'_>>
     ensures { option_map item_of result ≡ Spec.right_item session.now place.kind place.right }
 {
     if has_right(place.kind) {
@@ -188,7 +188,7 @@ impl Part for NumberIf {
 
 /// The items of a row: what both have the same stands once.
 #[derive(Clone, Copy)]
-struct Told<'a>(Row, Option<LentItem<'a>>, Option<LentItem<'a>>);
+struct Told<'a>(Row, Option<PlacedItem<'a>>, Option<PlacedItem<'a>>);
 
 impl<'a> Part for Told<'a> {
     ghost use Rattle.std.specs.Prelude.{option_map};
@@ -213,7 +213,7 @@ impl<'a> Part for Told<'a> {
 
 /// An item, if there is one.
 #[derive(Clone, Copy)]
-struct ToldIf<'a>(Option<LentItem<'a>>);
+struct ToldIf<'a>(Option<PlacedItem<'a>>);
 
 impl<'a> Part for ToldIf<'a> {
     ghost use Rattle.std.specs.Prelude.{option_map};
@@ -231,7 +231,7 @@ impl<'a> Part for ToldIf<'a> {
 
 /// When an item was, if there is one.
 #[derive(Clone, Copy)]
-struct NoteIf<'a>(Log, u64, Option<LentItem<'a>>);
+struct NoteIf<'a>(Log, u64, Option<PlacedItem<'a>>);
 
 impl<'a> Part for NoteIf<'a> {
     ghost use Rattle.std.specs.Prelude.{option_map};

@@ -11,11 +11,11 @@ use crate::told_items::ToldAnswer;
 use byte_columns::Beside;
 use text_parts::{Part, say};
 use trace_io::TextSink;
-use trace_report::{Data, LentItem, LentMessage, RoleWords, has_word, is_request_role};
+use trace_report::{Data, PlacedItem, RoleWords, RowMessage, has_word, is_request_role};
 
 /// Two items that changed: what is the same once, what differs byte under byte, and other outcomes in lines of their own.
 #[derive(Clone, Copy)]
-pub(crate) struct ToldPair<'a>(pub LentItem<'a>, pub LentItem<'a>);
+pub(crate) struct ToldPair<'a>(pub PlacedItem<'a>, pub PlacedItem<'a>);
 
 impl<'a> Part for ToldPair<'a> {
     ghost use Rattle.trace_report.specs.proving.Lending.{item_of};
@@ -38,7 +38,7 @@ impl<'a> Part for ToldPair<'a> {
 }
 
 /// What came of the request that begins an item.
-pub(crate) fn outcome_of(item: LentItem<'_>) -> Outcome
+pub(crate) fn outcome_of(item: PlacedItem<'_>) -> Outcome
     ensures { result ≡ outcome_by (item_of item.entry).begin.bytes (item_of item.entry).answer }
 {
     match item.answer {
@@ -49,7 +49,7 @@ pub(crate) fn outcome_of(item: LentItem<'_>) -> Outcome
 
 /// A message of two items, once where it is the same in both.
 #[derive(Clone, Copy)]
-struct OfBoth<'a>(LentMessage<'a>, LentMessage<'a>);
+struct OfBoth<'a>(RowMessage<'a>, RowMessage<'a>);
 
 impl<'a> Part for OfBoth<'a> {
     ghost use Rattle.trace_report.specs.proving.Lending.{message_of};
@@ -79,7 +79,7 @@ fn say_both_bytes<S: TextSink>(one: &[u8], other: &[u8], out: &mut S)
 
 /// The answers of two exchanges.
 #[derive(Clone, Copy)]
-struct Answers<'a>(LentItem<'a>, LentItem<'a>);
+struct Answers<'a>(PlacedItem<'a>, PlacedItem<'a>);
 
 /// Those with the same outcome: byte under byte.
 #[derive(Clone, Copy)]
@@ -126,7 +126,7 @@ impl<'a> Part for OtherOutcomes<'a> {
 
 /// The outcome of an exchange in one log, with a mark.
 #[derive(Clone, Copy)]
-struct OutcomeLine<'a>(Log, LentItem<'a>);
+struct OutcomeLine<'a>(Log, PlacedItem<'a>);
 
 impl<'a> Part for OutcomeLine<'a> {
     ghost use Rattle.trace_report.specs.proving.Lending.{item_of};

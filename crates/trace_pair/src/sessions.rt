@@ -5,7 +5,7 @@ ghost use Rattle.trace_report.specs.Items as placed;
 ghost use Rattle.trace_report.specs.proving.Lending.{item_of as placed_item, message_of};
 ghost use Rattle.trace_pair.specs.Sessions.{values_in};
 
-use trace_report::{LentItem, LentMessage, Session, is_request_role};
+use trace_report::{PlacedItem, RowMessage, Session, is_request_role};
 use uds_difference::ItemSource;
 use uds_exchange::Item;
 
@@ -45,7 +45,7 @@ pub(crate) fn item_at(session: &Session, place: usize) -> Option<Item<'_>>
 }
 
 /// An item that is lent, without its places.
-pub(crate) fn item_of<'a>(item: LentItem<'a>) -> Item<'a>
+pub(crate) fn item_of<'a>(item: PlacedItem<'a>) -> Item<'a>
     ensures { item_value result ≡ placed.item_value (placed_item item.entry) }
 {
     if is_request_role(item.begin.sent.role) {
@@ -62,7 +62,7 @@ pub(crate) fn item_of<'a>(item: LentItem<'a>) -> Item<'a>
 }
 
 /// The bytes of an answer, if there is one.
-fn answer_bytes(answer: Option<LentMessage<'_>>) -> Option<&[u8]>
+fn answer_bytes(answer: Option<RowMessage<'_>>) -> Option<&[u8]>
     ensures { option_map (λ bytes. bytes.now) result ≡ option_map (λ reply. (message_of reply).bytes) answer.entry }
 {
     match answer {

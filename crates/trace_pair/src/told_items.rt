@@ -3,14 +3,14 @@ use crate::log::{LetterMark, Log};
 use text_parts::{Part, When, say};
 use trace_io::TextSink;
 use trace_report::{
-    Data, FurtherNote, LentItem, LentMessage, MessagePlace, NamedLines, RoleWords, Seconds,
+    Data, FurtherNote, MessagePlace, NamedLines, PlacedItem, RoleWords, RowMessage, Seconds,
     asked_at, is_request_role,
 };
 use uds_message::is_suppressing;
 
 /// A message: what it is, and its bytes.
 #[derive(Clone, Copy)]
-pub(crate) struct ToldMessage<'a>(pub LentMessage<'a>);
+pub(crate) struct ToldMessage<'a>(pub RowMessage<'a>);
 
 impl<'a> Part for ToldMessage<'a> {
     ghost use Rattle.trace_report.specs.proving.Lending.{message_of};
@@ -27,7 +27,7 @@ impl<'a> Part for ToldMessage<'a> {
 
 /// The answer to a request, or what stands in its place.
 #[derive(Clone, Copy)]
-pub(crate) struct ToldAnswer<'a>(pub &'a [u8], pub Option<LentMessage<'a>>);
+pub(crate) struct ToldAnswer<'a>(pub &'a [u8], pub Option<RowMessage<'a>>);
 
 impl<'a> Part for ToldAnswer<'a> {
     ghost use Rattle.std.specs.Prelude.{option_map};
@@ -64,7 +64,7 @@ impl Part for NoAnswer {
 
 /// An item: a request with its answer behind an arrow, or a message.
 #[derive(Clone, Copy)]
-pub(crate) struct ToldItem<'a>(pub LentItem<'a>);
+pub(crate) struct ToldItem<'a>(pub PlacedItem<'a>);
 
 impl<'a> Part for ToldItem<'a> {
     ghost use Rattle.trace_report.specs.proving.Lending.{item_of};
@@ -73,7 +73,7 @@ impl<'a> Part for ToldItem<'a> {
     ghost text = { λ t. told_item (item_of t.0) };
 
     fn say<S: TextSink>(self, out: &mut S) {
-        let LentItem { begin, answer } = self.0;
+        let PlacedItem { begin, answer } = self.0;
         let reply = (" &#8594; ", ToldAnswer(begin.bytes, answer));
         say(
             out,
@@ -87,7 +87,7 @@ impl<'a> Part for ToldItem<'a> {
 
 /// When an item was, in a log whose first frame has this time.
 #[derive(Clone, Copy)]
-pub(crate) struct NoteOf<'a>(pub Log, pub u64, pub LentItem<'a>);
+pub(crate) struct NoteOf<'a>(pub Log, pub u64, pub PlacedItem<'a>);
 
 impl<'a> Part for NoteOf<'a> {
     ghost use Rattle.trace_report.specs.proving.Lending.{item_of};
@@ -106,7 +106,7 @@ impl<'a> Part for NoteOf<'a> {
 
 /// When an item was that begins with one message and ends with another.
 #[derive(Clone, Copy)]
-struct ItemNote<'a>(Log, u64, LentMessage<'a>, LentMessage<'a>);
+struct ItemNote<'a>(Log, u64, RowMessage<'a>, RowMessage<'a>);
 
 impl<'a> Part for ItemNote<'a> {
     ghost use Rattle.trace_report.specs.proving.Lending.{message_of};

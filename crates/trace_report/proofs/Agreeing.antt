@@ -15,8 +15,8 @@ use Rattle.trace_canon.specs.declared.comparing.Comparison.{Comparison}
 use Rattle.trace_canon.specs.declared.comparing.Comparison.TheVariants.{Same, Different}
 use Rattle.uds_exchange.specs.Difference.{IsFirstDifference}
 use Rattle.uds_exchange.specs.Meaning.{ItemValue}
-use Rattle.trace_report.specs.Held as Holds
-use Rattle.trace_report.specs.Held.{comparison_in}
+use Rattle.trace_report.specs.Kept as Keeps
+use Rattle.trace_report.specs.Kept.{comparison_in}
 use Rattle.trace_report.specs.Items.{item_value, items_in}
 use Rattle.trace_report.specs.Laws.{AgreesWithCompare}
 use Rattle.trace_report.specs.Session.{SessionValue}
@@ -59,7 +59,7 @@ same-comparison (Different item) (Different place) is = ap (λ (p : Option ℕ).
     of (Some n) = Different n
 
 -- the items of a log that is held are those that `compare` has
-same-items : (settings : Settings) (log : List ℕ) (held : SessionValue) (session : Session) → Holds.HoldsOne MESSAGE_LIMIT settings log (Ok held)
+same-items : (settings : Settings) (log : List ℕ) (held : SessionValue) (session : Session) → Keeps.KeepsOne MESSAGE_LIMIT settings log (Ok held)
     → GivesSession MESSAGE_LIMIT settings log (Ok session) → map item_value (items_in held.rows) ≡ session.meaning
 same-items settings log held session (meanings, read, is) accepted =
     ap (λ (s : SessionValue). map item_value (items_in s.rows)) is ∙ items_are_the_meaning (trace settings meanings)

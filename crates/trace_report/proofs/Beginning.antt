@@ -5,9 +5,8 @@ use Rattle.std.proofs.lemmas.List.{map-append}
 use Rattle.trace_report.specs.Items.{begins, rows_before}
 use Rattle.trace_report.specs.Rows.{RowValue, message, no_answer, dropped, ended, unfinished}
 use Rattle.trace_report.specs.declared.item_places.ItemPlace.{ItemPlace}
-use Rattle.trace_report.specs.declared.row.MessageRole.{MessageRole}
-use Rattle.trace_report.specs.declared.row.MessageRole.TheVariants as role
-use Rattle.trace_report.specs.proving.Keeping.{begin_of, begin_places, begun_at, place_answered, place_or, places_answered, places_by, places_next}
+use Rattle.trace_report.specs.declared.roles.MessageRole.TheVariants as role
+use Rattle.trace_report.specs.proving.Keeping.{begin_of, begin_places, begun_at, place_answered, place_or, places_answered, places_next}
 
 -- one row more
 one-more : (is : Bool) (before : ℕ) (later first all : List ℕ) → later ≡ first ++ all

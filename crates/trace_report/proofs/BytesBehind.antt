@@ -6,7 +6,8 @@ use Rattle.std.proofs.Math.Seq.{take-append_seam}
 use Rattle.std.proofs.lemmas.Grind.{flat_map-append}
 use Rattle.std.proofs.lemmas.List.{take-append-drop}
 use Rattle.can_log.specs.Digits.{digits, hexadecimal}
-use Rattle.trace_report.specs.Words.{byte_behind, bytes_behind, letter_text, letters}
+use Rattle.trace_report.specs.Data.{byte_behind, bytes_behind}
+use Rattle.trace_report.specs.Letters.{letter_text, letters}
 
 -- the digits of eight bytes with blanks between, taken from among them and sixteen blanks behind them
 pub spaced_digits : (a b c d e f g h : ℕ) (written : List ℕ) → written ≡ flat_map (hexadecimal 2) (a ∷ b ∷ c ∷ d ∷ e ∷ f ∷ g ∷ h ∷ [])

@@ -6,15 +6,15 @@ use Rattle.std.proofs.lemmas.Option.{none-some, same_Some, slice_get_within, sli
 use Rattle.trace_canon.specs.declared.comparing.Comparison.{Comparison}
 use Rattle.trace_canon.specs.declared.comparing.Comparison.TheVariants.{Same, Different}
 use Rattle.trace_report.specs.Contrast.{FirstContrast, contrast_of, first_by, first_contrast, later_by_one}
-use Rattle.trace_report.specs.Held.{comparison_by}
-use Rattle.trace_report.specs.Items.{ItemPair, PlacedItem, pairs_of}
+use Rattle.trace_report.specs.Kept.{comparison_by}
+use Rattle.trace_report.specs.Items.{ItemPairValue, PlacedItemValue, pairs_of}
 use Rattle.trace_report.specs.declared.contrast.Contrast.{Contrast}
 use Rattle.trace_report.specs.proving.Lending.{contrast_at, contrast_with, pair_by}
 use Rattle.trace_report.specs.proving.Rowing.{IsKnown}
 
 -- Number by number.
 
-pub pair-at : (left right : List PlacedItem) (at : ℕ) → slice_get (pairs_of left right) at ≡ pair_by (slice_get left at) (slice_get right at)
+pub pair-at : (left right : List PlacedItemValue) (at : ℕ) → slice_get (pairs_of left right) at ≡ pair_by (slice_get left at) (slice_get right at)
 pair-at [] [] at = refl
 pair-at (a ∷ left) [] zero = refl
 pair-at (a ∷ left) [] (suc at) = pair-at left [] at
@@ -23,7 +23,7 @@ pair-at [] (b ∷ right) (suc at) = pair-at [] right at
 pair-at (a ∷ left) (b ∷ right) zero = refl
 pair-at (a ∷ left) (b ∷ right) (suc at) = pair-at left right at
 
-pub pair-count : (left right : List PlacedItem) → length (pairs_of left right) ≡ max (length left) (length right)
+pub pair-count : (left right : List PlacedItemValue) → length (pairs_of left right) ≡ max (length left) (length right)
 pair-count [] [] = omega arith
 pair-count (a ∷ left) [] = omega (arith, pair-count left [])
 pair-count [] (b ∷ right) = omega (arith, pair-count [] right)
@@ -57,18 +57,18 @@ later-one before None = refl
 later-one before (Some first) = ap (λ n. Some (record first { before = n })) (omega arith)
 
 -- none is among the items before this place
-abbrev pub IsSameUpTo : List ItemPair → ℕ → Type 0
+abbrev pub IsSameUpTo : List ItemPairValue → ℕ → Type 0
 IsSameUpTo pairs at = first_contrast pairs ≡ later_by at (first_contrast (drop at pairs))
 
-module _ (pairs : List ItemPair) (at : ℕ) (same : IsSameUpTo pairs at) where
+module _ (pairs : List ItemPairValue) (at : ℕ) (same : IsSameUpTo pairs at) where
   -- nor at it
-  pub one-same : (pair : ItemPair) → slice_get pairs at ≡ Some pair → contrast_of pair ≡ None → IsSameUpTo pairs (at + 1)
+  pub one-same : (pair : ItemPairValue) → slice_get pairs at ≡ Some pair → contrast_of pair ≡ None → IsSameUpTo pairs (at + 1)
   one-same pair is none =
       let rest = first_contrast (drop (at + 1) pairs) in
       same ∙ ap (λ l. later_by at (first_contrast l)) (left-at pairs at pair is) ∙ ap (λ how. later_by at (first_by how pair rest)) none ∙ later-one at rest
 
   -- it is there
-  pub one-different : (pair : ItemPair) (how : Contrast) → slice_get pairs at ≡ Some pair → contrast_of pair ≡ Some how
+  pub one-different : (pair : ItemPairValue) (how : Contrast) → slice_get pairs at ≡ Some pair → contrast_of pair ≡ Some how
       → comparison_by (first_contrast pairs) ≡ Different at
   one-different pair how is some =
       let rest = first_contrast (drop (at + 1) pairs) in
@@ -83,7 +83,7 @@ module _ (pairs : List ItemPair) (at : ℕ) (same : IsSameUpTo pairs at) where
 
 -- Of the place alone the difference is known.
 
-moved : (o : Option ItemPair) (n m : ℕ) (first : FirstContrast) → contrast_at n o ≡ Some first → contrast_at m o ≡ Some (record first { before = m })
+moved : (o : Option ItemPairValue) (n m : ℕ) (first : FirstContrast) → contrast_at n o ≡ Some first → contrast_at m o ≡ Some (record first { before = m })
 moved None n m first is = absurd (none-some first is)
 moved (Some pair) n m first is = by (contrast_of pair) is
   where
@@ -91,26 +91,26 @@ moved (Some pair) n m first is = by (contrast_of pair) is
     by None is = absurd (none-some first is)
     by (Some how) is = ap (λ (x : FirstContrast). Some (record x { before = m })) (same_Some (record { before = n; pair = pair; how = how }) first is)
 
-abbrev IsAt : List ItemPair → Option FirstContrast → Type 0
+abbrev IsAt : List ItemPairValue → Option FirstContrast → Type 0
 IsAt pairs found = IfSome found (λ (first : FirstContrast). contrast_at first.before (slice_get pairs first.before) ≡ Some first)
 
-at-later : (pair : ItemPair) (rest : List ItemPair) (later : Option FirstContrast) → IsAt rest later → IsAt (pair ∷ rest) (later_by_one later)
+at-later : (pair : ItemPairValue) (rest : List ItemPairValue) (later : Option FirstContrast) → IsAt rest later → IsAt (pair ∷ rest) (later_by_one later)
 at-later pair rest None is = tt
 at-later pair rest (Some first) is =
     let place : suc first.before ≡ first.before + 1 = omega arith in
     subst (λ n. contrast_at (first.before + 1) (slice_get (pair ∷ rest) n) ≡ Some (record first { before = first.before + 1 })) place
     (moved (slice_get rest first.before) first.before (first.before + 1) first is)
 
-at-first : (how : Option Contrast) (pair : ItemPair) (rest : List ItemPair) (later : Option FirstContrast) → contrast_of pair ≡ how → IsAt rest later
+at-first : (how : Option Contrast) (pair : ItemPairValue) (rest : List ItemPairValue) (later : Option FirstContrast) → contrast_of pair ≡ how → IsAt rest later
     → IsAt (pair ∷ rest) (first_by how pair later)
 at-first None pair rest later is stands = at-later pair rest later stands
 at-first (Some how) pair rest later is stands = ap (contrast_with 0 pair) is
 
-first-is-at : (pairs : List ItemPair) → IsAt pairs (first_contrast pairs)
+first-is-at : (pairs : List ItemPairValue) → IsAt pairs (first_contrast pairs)
 first-is-at [] = tt
 first-is-at (pair ∷ rest) = at-first (contrast_of pair) pair rest (first_contrast rest) refl (first-is-at rest)
 
-pub found-at : (pairs : List ItemPair) (at : ℕ) → comparison_by (first_contrast pairs) ≡ Different at → contrast_at at (slice_get pairs at) ≡ first_contrast pairs
+pub found-at : (pairs : List ItemPairValue) (at : ℕ) → comparison_by (first_contrast pairs) ≡ Different at → contrast_at at (slice_get pairs at) ≡ first_contrast pairs
 found-at pairs at is = by (first_contrast pairs) (first-is-at pairs) is
   where
     place : Comparison → ℕ
@@ -121,7 +121,7 @@ found-at pairs at is = by (first_contrast pairs) (first-is-at pairs) is
     by None there is = absurd (cc is)
     by (Some first) there is = subst (λ n. contrast_at n (slice_get pairs n) ≡ Some first) (ap place is) there
 
-pub none-found : (pairs : List ItemPair) → comparison_by (first_contrast pairs) ≡ Same → first_contrast pairs ≡ None
+pub none-found : (pairs : List ItemPairValue) → comparison_by (first_contrast pairs) ≡ Same → first_contrast pairs ≡ None
 none-found pairs is = by (first_contrast pairs) is
   where
     by : (found : Option FirstContrast) → comparison_by found ≡ Same → found ≡ None
@@ -129,7 +129,7 @@ none-found pairs is = by (first_contrast pairs) is
     by (Some first) is = absurd (cc is)
 
 -- So many items have no more numbers.
-pub none-behind : (pairs : List ItemPair) (at : ℕ) → length pairs ≤ at → contrast_at at (slice_get pairs at) ≡ None
+pub none-behind : (pairs : List ItemPairValue) (at : ℕ) → length pairs ≤ at → contrast_at at (slice_get pairs at) ≡ None
 none-behind pairs at over = ap (contrast_at at) (slice_get_past pairs at over)
 
 -- Before the first difference items are the same.
@@ -142,26 +142,26 @@ before-later : (at : ℕ) (later : Option FirstContrast) → IsBefore (suc at) (
 before-later at None is = tt
 before-later at (Some first) is = omega (arith, is)
 
-same-by : (how : Option Contrast) (first : ItemPair) (rest : List ItemPair) (at : ℕ) (pair : ItemPair) → contrast_of first ≡ how
+same-by : (how : Option Contrast) (first : ItemPairValue) (rest : List ItemPairValue) (at : ℕ) (pair : ItemPairValue) → contrast_of first ≡ how
     → ((n : ℕ) → slice_get rest n ≡ Some pair → IsBefore n (first_contrast rest) → contrast_of pair ≡ None)
     → slice_get (first ∷ rest) at ≡ Some pair → IsBefore at (first_by how first (first_contrast rest)) → contrast_of pair ≡ None
 same-by (Some how) first rest at pair is later there before = absurd (omega (arith, before))
 same-by None first rest zero pair is later there before = ap contrast_of (sym (same_Some first pair there)) ∙ is
 same-by None first rest (suc at) pair is later there before = later at there (before-later at (first_contrast rest) before)
 
-same-before : (pairs : List ItemPair) (at : ℕ) (pair : ItemPair) → slice_get pairs at ≡ Some pair → IsBefore at (first_contrast pairs) → contrast_of pair ≡ None
+same-before : (pairs : List ItemPairValue) (at : ℕ) (pair : ItemPairValue) → slice_get pairs at ≡ Some pair → IsBefore at (first_contrast pairs) → contrast_of pair ≡ None
 same-before [] at pair there before = absurd (none-some pair there)
 same-before (first ∷ rest) at pair there before = same-by (contrast_of first) first rest at pair refl (λ n. same-before rest n pair) there before
 
-known-by : (pairs : List ItemPair) (at : ℕ) (there : Option ItemPair) → slice_get pairs at ≡ there → IsBefore at (first_contrast pairs) → IsKnown true there
+known-by : (pairs : List ItemPairValue) (at : ℕ) (there : Option ItemPairValue) → slice_get pairs at ≡ there → IsBefore at (first_contrast pairs) → IsKnown true there
 known-by pairs at None is before = tt
 known-by pairs at (Some pair) is before = same-before pairs at pair is before
 
-pub known-where-same : (pairs : List ItemPair) (at : ℕ) → comparison_by (first_contrast pairs) ≡ Same → IsKnown true (slice_get pairs at)
+pub known-where-same : (pairs : List ItemPairValue) (at : ℕ) → comparison_by (first_contrast pairs) ≡ Same → IsKnown true (slice_get pairs at)
 known-where-same pairs at is =
     known-by pairs at (slice_get pairs at) refl (subst (IsBefore at) (sym (none-found pairs is)) tt)
 
-pub known-before : (pairs : List ItemPair) (at item : ℕ) (known : Bool) → comparison_by (first_contrast pairs) ≡ Different item → (known ≡ true → at < item)
+pub known-before : (pairs : List ItemPairValue) (at item : ℕ) (known : Bool) → comparison_by (first_contrast pairs) ≡ Different item → (known ≡ true → at < item)
     → IsKnown known (slice_get pairs at)
 known-before pairs at item false is below = tt
 known-before pairs at item true is below = known-by pairs at (slice_get pairs at) refl (by (first_contrast pairs) is)

@@ -15,13 +15,13 @@ use Rattle.uds_exchange.proofs.Promises.{items_within_messages}
 use Rattle.uds_exchange.specs.Meaning.{meaning}
 use Rattle.trace_report.specs.Events.{rows_of}
 use Rattle.trace_report.specs.Laws.{AreDistinct, IdentifiersStandOnce, LinksHaveTargets}
-use Rattle.trace_report.specs.Linked.{HasEachTarget, IsAmong, fixed_identifiers, identifiers_in, linked_to, targets_in}
+use Rattle.trace_report.specs.Linked.{HasEachTarget, IsAmong, fixed_identifiers, identifiers_in, targets_in}
 use Rattle.trace_report.specs.Page.{all_rows}
 use Rattle.trace_report.specs.Rows.{RowValue}
 use Rattle.trace_report.specs.Sorts.{is_of, most_links, rank, sort_of, target_of, targets_of}
-use Rattle.trace_report.specs.Targets.{Target, identifier, of_item, of_line, of_side}
-use Rattle.trace_report.specs.declared.links.Link.{Link}
-use Rattle.trace_report.specs.declared.links.Link.TheVariants as link
+use Rattle.trace_report.specs.Targets.{identifier}
+use Rattle.trace_report.specs.declared.targets.Target.{Target}
+use Rattle.trace_report.specs.declared.targets.Target.TheVariants.{Item as of_item, Line as of_line, Side as of_side}
 use Rattle.trace_report.specs.declared.sorts.Sort.{Sort}
 use Rattle.trace_report.specs.declared.sorts.Sort.TheVariants as sort
 use Rattle.trace_report.proofs.Distinct.{distinct-append, distinct-texts, each-of-first}
@@ -170,12 +170,12 @@ ranked sort.Unfinished = refl
 same-sort : (kind other : Sort) → (rank kind == rank other) ≡ true → other ≡ kind
 same-sort kind other same = sym (ranked other) ∙ ap sort_at (sym (eqb-true (rank kind) (rank other) same)) ∙ ranked kind
 
-module _ (kind : Sort) (to : Link) (leads : (number : ℕ) → led_to kind number ≡ Some (linked_to to number)) (places : List Target) where
-  leads-there : (one : RowValue) → is_of kind one ≡ true → Leads places one → IsAmong (linked_to to (target_of one)) places
+module _ (kind : Sort) (leads : (place : Target) → led_to kind place ≡ Some place) (places : List Target) where
+  leads-there : (one : RowValue) → is_of kind one ≡ true → Leads places one → IsAmong (target_of one) places
   leads-there one is lead =
       subst (λ o. IfSome o (λ place. IsAmong place places)) (ap (λ s. led_to s (target_of one)) (same-sort kind (sort_of one) is) ∙ leads (target_of one)) lead
 
-  each-leads : (rows : List RowValue) → AllByRecursion (Leads places) rows → AllByRecursion (λ number. IsAmong (linked_to to number) places) (targets_of kind rows)
+  each-leads : (rows : List RowValue) → AllByRecursion (Leads places) rows → AllByRecursion (λ (place : Target). IsAmong place places) (targets_of kind rows)
   each-leads [] lead = tt
   each-leads (one ∷ rows) lead =
       elim (cases_Bool (is_of kind one)) [
@@ -183,17 +183,17 @@ module _ (kind : Sort) (to : Link) (leads : (number : ℕ) → led_to kind numbe
         | inr e ↦ rw e (each-leads rows lead.1)
       ]
 
-  pub first-lead : (rows : List RowValue) → AllByRecursion (Leads places) rows → AllByRecursion (λ number. IsAmong (linked_to to number) places) (take most_links (targets_of kind rows))
-  first-lead rows lead = each-of-first (λ number. IsAmong (linked_to to number) places) most_links (targets_of kind rows) (each-leads rows lead)
+  pub first-lead : (rows : List RowValue) → AllByRecursion (Leads places) rows → AllByRecursion (λ (place : Target). IsAmong place places) (take most_links (targets_of kind rows))
+  first-lead rows lead = each-of-first (λ (place : Target). IsAmong place places) most_links (targets_of kind rows) (each-leads rows lead)
 
 has-each : (items lines sides : ℕ) (rows : List RowValue) → ArePlaced items lines sides rows → HasEachTarget rows
 has-each items lines sides rows are = record {
-  dropped = first-lead sort.Dropped link.Line (λ number. refl) (targets_in rows) rows are.lead;
-  ended = first-lead sort.Ended link.Line (λ number. refl) (targets_in rows) rows are.lead;
-  unfinished = first-lead sort.Unfinished link.Side (λ number. refl) (targets_in rows) rows are.lead;
-  negatives = first-lead sort.Negatives link.Item (λ number. refl) (targets_in rows) rows are.lead;
-  unanswered = first-lead sort.Unanswered link.Item (λ number. refl) (targets_in rows) rows are.lead;
-  strays = first-lead sort.Strays link.Item (λ number. refl) (targets_in rows) rows are.lead;
+  dropped = first-lead sort.Dropped (λ place. refl) (targets_in rows) rows are.lead;
+  ended = first-lead sort.Ended (λ place. refl) (targets_in rows) rows are.lead;
+  unfinished = first-lead sort.Unfinished (λ place. refl) (targets_in rows) rows are.lead;
+  negatives = first-lead sort.Negatives (λ place. refl) (targets_in rows) rows are.lead;
+  unanswered = first-lead sort.Unanswered (λ place. refl) (targets_in rows) rows are.lead;
+  strays = first-lead sort.Strays (λ place. refl) (targets_in rows) rows are.lead;
 }
 
 pub links_have_targets : LinksHaveTargets

@@ -25,7 +25,7 @@ use Rattle.trace_report.specs.Events.{frames_by}
 use Rattle.trace_canon.specs.declared.reception_starts.FramePlace.{FramePlace}
 use Rattle.trace_report.specs.declared.frames.FrameCounts.{FrameCounts}
 use Rattle.trace_canon.specs.proving.ReceptionStarts.{IsBegunAt}
-use Rattle.trace_canon.specs.ReceptionStarts.{left_by}
+use Rattle.trace_canon.specs.ReceptionStarts.{still_begun}
 use Rattle.trace_report.specs.declared.places.Places.{Places}
 use Rattle.trace_report.specs.proving.Following.{CountFrames, KnowsPlaces, IsTaken, counted_by, frames_with, taken_after}
 use Rattle.trace_canon.proofs.Promises.{role_own, role_other}
@@ -178,7 +178,7 @@ module _ (line micros most : ℕ) (few : most < 2 ^ 63) (place : FramePlace) whe
 
   found : (d : Dir) (own others : Option StandingReception) (taken : ℕ) (read : Result Layout PduFault) (whole : List ℕ) → Counts own taken → TookAtMost most own
       → (on_layout MESSAGE_LIMIT d own others micros read).verdict ≡ message whole
-      → frames_with (left_by d (on_layout MESSAGE_LIMIT d own others micros read).ended (begun_at own)) taken ≡ frames_by own (own_role line micros read)
+      → frames_with (still_begun d (on_layout MESSAGE_LIMIT d own others micros read).ended (begun_at own)) taken ≡ frames_by own (own_role line micros read)
   unfolding begun_at
   found d own others taken (Err fault) whole counts low is = absurd (cc is)
   found d None others taken (Ok (layout.single bytes)) whole counts low is = refl
@@ -190,7 +190,7 @@ module _ (line micros most : ℕ) (few : most < 2 ^ 63) (place : FramePlace) whe
       by (fit_of standing micros sequence_number can_dl) is
     where
       by : (fit : Fit) → (on_fit d standing fit sequence_number bytes).verdict ≡ message whole
-          → frames_with (left_by d (on_fit d standing fit sequence_number bytes).ended (Some place)) taken ≡ standing.taken + 2
+          → frames_with (still_begun d (on_fit d standing fit sequence_number bytes).ended (Some place)) taken ≡ standing.taken + 2
       by late it = absurd (cc it)
       by wrong_number it = absurd (cc it)
       by wrong_length it = absurd (cc it)
@@ -208,7 +208,7 @@ module _ (line micros most : ℕ) (few : most < 2 ^ 63) (place : FramePlace) whe
 pub frames_found : (d : Dir) (T : List Entry) (line micros : ℕ) (frame : FrameValue) (begun : Option FramePlace) (taken : ℕ) (whole : List ℕ) → length T < 2 ^ 63
     → IsBegunAt d T begun → IsTaken d T taken
     → (verdict MESSAGE_LIMIT T (record { line = line; micros = micros; dir = d; frame = frame })).verdict ≡ message whole
-    → frames_with (left_by d (verdict MESSAGE_LIMIT T (record { line = line; micros = micros; dir = d; frame = frame })).ended begun) taken
+    → frames_with (still_begun d (verdict MESSAGE_LIMIT T (record { line = line; micros = micros; dir = d; frame = frame })).ended begun) taken
     ≡ frames_by (stands MESSAGE_LIMIT d T) (role d (record { line = line; micros = micros; dir = d; frame = frame }))
 unfolding verdict begun_at
 frames_found d T line micros frame begun taken whole few is counts completes =
@@ -221,20 +221,20 @@ frames_by_side : (d : Dir) (T : List Entry) (line micros : ℕ) (frame : FrameVa
     → length T < 2 ^ 63 → KnowsPlaces T places → (d ≡ Tester → begun ≡ places.begun.tester) → (d ≡ Unit → begun ≡ places.begun.unit)
     → (d ≡ Tester → taken ≡ places.frames.tester) → (d ≡ Unit → taken ≡ places.frames.unit)
     → (verdict MESSAGE_LIMIT T (entry_at line micros d frame)).verdict ≡ message whole
-    → frames_with (left_by d (verdict MESSAGE_LIMIT T (entry_at line micros d frame)).ended begun) taken ≡ frames_by (stands MESSAGE_LIMIT d T) (role d (entry_at line micros d frame))
+    → frames_with (still_begun d (verdict MESSAGE_LIMIT T (entry_at line micros d frame)).ended begun) taken ≡ frames_by (stands MESSAGE_LIMIT d T) (role d (entry_at line micros d frame))
 frames_by_side Tester T line micros frame places begun taken whole few known of_tester of_unit taken_tester taken_unit completes =
-    (λ i. frames_with (left_by Tester (verdict MESSAGE_LIMIT T (entry_at line micros Tester frame)).ended (of_tester refl i)) (taken_tester refl i))
+    (λ i. frames_with (still_begun Tester (verdict MESSAGE_LIMIT T (entry_at line micros Tester frame)).ended (of_tester refl i)) (taken_tester refl i))
     ∙ frames_found Tester T line micros frame places.begun.tester places.frames.tester whole few known.tester known.frames.tester completes
 frames_by_side Unit T line micros frame places begun taken whole few known of_tester of_unit taken_tester taken_unit completes =
-    (λ i. frames_with (left_by Unit (verdict MESSAGE_LIMIT T (entry_at line micros Unit frame)).ended (of_unit refl i)) (taken_unit refl i))
+    (λ i. frames_with (still_begun Unit (verdict MESSAGE_LIMIT T (entry_at line micros Unit frame)).ended (of_unit refl i)) (taken_unit refl i))
     ∙ frames_found Unit T line micros frame places.begun.unit places.frames.unit whole few known.unit known.frames.unit completes
 
 -- of either side, by what is known of the places
 pub frames_known : (T : List Entry) (e : Entry) (d : Dir) (event : EventValue) (places : Places) (begun : Option FramePlace) (taken : ℕ) (whole : List ℕ)
     → e.dir ≡ d → event ≡ verdict MESSAGE_LIMIT T e → length T < 2 ^ 63 → KnowsPlaces T places → (d ≡ Tester → begun ≡ places.begun.tester) → (d ≡ Unit → begun ≡ places.begun.unit)
     → (d ≡ Tester → taken ≡ places.frames.tester) → (d ≡ Unit → taken ≡ places.frames.unit) → event.verdict ≡ message whole
-    → frames_with (left_by d event.ended begun) taken ≡ frames_by (stands MESSAGE_LIMIT e.dir T) (role e.dir e)
+    → frames_with (still_begun d event.ended begun) taken ≡ frames_by (stands MESSAGE_LIMIT e.dir T) (role e.dir e)
 frames_known T e d event places begun taken whole dir_is is few known of_tester of_unit taken_tester taken_unit completes =
-    (λ i. frames_with (left_by (sym dir_is i) (is i).ended begun) taken)
+    (λ i. frames_with (still_begun (sym dir_is i) (is i).ended begun) taken)
     ∙ frames_by_side e.dir T e.line e.micros e.frame places begun taken whole few known (λ side. of_tester (sym dir_is ∙ side)) (λ side. of_unit (sym dir_is ∙ side))
     (λ side. taken_tester (sym dir_is ∙ side)) (λ side. taken_unit (sym dir_is ∙ side)) (sym (ap (λ (x : EventValue). x.verdict) is) ∙ completes)

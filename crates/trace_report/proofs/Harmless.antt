@@ -8,7 +8,7 @@ use Rattle.can_log.specs.Digits.{digit, digits}
 use Rattle.can_log.proofs.Promises.{AllByRecursion-append}
 use Rattle.trace_report.specs.Front.{name_byte, name_text, plain_byte, numbered_byte}
 use Rattle.trace_report.specs.Laws.{is_escaped, is_harmless, LettersAreHarmless, NameIsHarmless}
-use Rattle.trace_report.specs.Words.{is_mark, is_within, shown_byte}
+use Rattle.trace_report.specs.Letters.{is_mark, is_within, shown_byte}
 
 abbrev AreHarmless : List ℕ → Type 0
 AreHarmless = AllByRecursion (λ b. is_harmless b ≡ true)

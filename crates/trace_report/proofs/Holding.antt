@@ -8,13 +8,14 @@ use Rattle.trace_log.proofs.Promises.{has_own_frame}
 use Rattle.trace_log.specs.Needing.{HasFrame}
 use Rattle.trace_log.specs.Settings.{Settings}
 use Rattle.trace_log.specs.Summing.{summary_of}
-use Rattle.trace_run.specs.Told.{AnswersTold, IsUnreadFor, TellsNothing, tells_no_refusal}
+use Rattle.trace_run.specs.Script.{TellsNothing, tells_no_refusal}
+use Rattle.trace_run.specs.Told.{AnswersTold, IsUnreadFor}
 use Rattle.trace_log.specs.Trace.{trace}
 use Rattle.trace_log.specs.declared.fault.Fault.{Fault}
 use Rattle.trace_log.specs.declared.fault.Fault.TheVariants.{BadLine, Oversize, LogLimit, OutputLimit, Read, Write, Memory}
 use Rattle.trace_log.specs.declared.summary.Summary.{Summary}
 use Rattle.trace_report.specs.Events.{end_rows}
-use Rattle.trace_report.specs.Held.{HoldsOne, HasOwnFrame}
+use Rattle.trace_report.specs.Kept.{KeepsOne, HasOwnFrame}
 use Rattle.trace_report.specs.Page.{first_time, last_time}
 use Rattle.trace_report.specs.Session.{SessionValue, session_of}
 use Rattle.trace_report.specs.declared.keeper.Heard.{Heard}
@@ -65,7 +66,7 @@ module _ (settings : Settings) (log : List ℕ) (given : ℕ) (old new : List �
   -- and of one that can, where this session is of what was heard
   pub read_so : (heard : Heard) (session : SessionValue)
       → ((T : List Entry) (summary : Summary) → IsHeardOf T summary heard → session ≡ session_of MESSAGE_LIMIT T summary)
-      → AnswersTold quiet_script tells_no_refusal answers_heard MESSAGE_LIMIT settings log given (Ok heard) old new → HoldsOne MESSAGE_LIMIT settings log (Ok session)
+      → AnswersTold quiet_script tells_no_refusal answers_heard MESSAGE_LIMIT settings log given (Ok heard) old new → KeepsOne MESSAGE_LIMIT settings log (Ok session)
   read_so heard session is (all, meanings, read, answer, wrote) =
       (meanings, read, is (trace settings meanings) (summary_of MESSAGE_LIMIT settings log meanings) answer)
 

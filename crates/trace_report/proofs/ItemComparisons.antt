@@ -8,10 +8,10 @@ use Rattle.direction.specs.declared.Dir.TheVariants as dir
 use Rattle.trace_canon.specs.Compared.{difference}
 use Rattle.uds_exchange.specs.Difference.{IsFirstDifference}
 use Rattle.uds_exchange.specs.Meaning.{ItemValue, exchange, stray}
-use Rattle.trace_report.specs.Blocks.{is_request_role}
+use Rattle.trace_report.specs.Roles.{is_request_role}
 use Rattle.trace_report.specs.Contrast.{FirstContrast, contrast_by, contrast_of, contrast_of_answers, contrast_of_kinds, first_by, first_contrast, first_place, is_same_side, place_behind}
-use Rattle.trace_report.specs.Held.{comparison_by}
-use Rattle.trace_report.specs.Items.{RowMessage, PlacedItem, both, item_value, pairs_of}
+use Rattle.trace_report.specs.Kept.{comparison_by}
+use Rattle.trace_report.specs.Items.{RowMessageValue, PlacedItemValue, both, item_value, pairs_of}
 use Rattle.trace_report.specs.Laws.{ComparisonIsOfItems}
 use Rattle.trace_report.specs.declared.contrast.Contrast.{Contrast}
 use Rattle.trace_report.specs.declared.contrast.Contrast.TheVariants as contrast
@@ -49,13 +49,13 @@ map-none : (place : Option ℕ) → option_map contrast.Answers place ≡ None �
 map-none None is = refl
 map-none (Some place) is = absurd (none-some (contrast.Answers place) (sym is))
 
-answers-none : (a b : Option RowMessage) → contrast_of_answers a b ≡ None → bytes_in a ≡ bytes_in b
+answers-none : (a b : Option RowMessageValue) → contrast_of_answers a b ≡ None → bytes_in a ≡ bytes_in b
 answers-none None None is = refl
 answers-none (Some a) None is = absurd (none-some _ (sym is))
 answers-none None (Some b) is = absurd (none-some _ (sym is))
 answers-none (Some a) (Some b) is = ap (λ bytes. Some bytes) (place-none a.bytes b.bytes (map-none (first_place a.bytes b.bytes) is))
 
-none-answers : (a b : Option RowMessage) → bytes_in a ≡ bytes_in b → contrast_of_answers a b ≡ None
+none-answers : (a b : Option RowMessageValue) → bytes_in a ≡ bytes_in b → contrast_of_answers a b ≡ None
 none-answers None None same = refl
 none-answers (Some a) None same = absurd (none-some a.bytes (sym same))
 none-answers None (Some b) same = absurd (none-some b.bytes same)
@@ -63,7 +63,7 @@ none-answers (Some a) (Some b) same = ap (option_map contrast.Answers) (none-pla
 
 -- And so are items.
 
-abbrev value_by : Bool → PlacedItem → ItemValue
+abbrev value_by : Bool → PlacedItemValue → ItemValue
 value_by is_request item = if is_request then exchange item.begin.bytes (bytes_in item.answer) else stray item.begin.dir item.begin.bytes
 
 side-same : (a b : Dir) → is_same_side a b ≡ true → a ≡ b
@@ -76,15 +76,15 @@ same-side : (a : Dir) → is_same_side a a ≡ true
 same-side dir.Tester = refl
 same-side dir.Unit = refl
 
-by-none : (place : Option ℕ) (is_request : Bool) (a b : PlacedItem) → contrast_by place is_request a b ≡ None → place ≡ None
+by-none : (place : Option ℕ) (is_request : Bool) (a b : PlacedItemValue) → contrast_by place is_request a b ≡ None → place ≡ None
 by-none None is_request a b is = refl
 by-none (Some place) is_request a b is = absurd (none-some _ (sym is))
 
-by-answers : (place : Option ℕ) (a b : PlacedItem) → contrast_by place true a b ≡ None → contrast_of_answers a.answer b.answer ≡ None
+by-answers : (place : Option ℕ) (a b : PlacedItemValue) → contrast_by place true a b ≡ None → contrast_of_answers a.answer b.answer ≡ None
 by-answers None a b is = is
 by-answers (Some place) a b is = absurd (none-some _ (sym is))
 
-kinds-none : (one other : Bool) (a b : PlacedItem) → contrast_of_kinds one other a b ≡ None → value_by one a ≡ value_by other b
+kinds-none : (one other : Bool) (a b : PlacedItemValue) → contrast_of_kinds one other a b ≡ None → value_by one a ≡ value_by other b
 kinds-none true true a b is =
     let bytes = place-none a.begin.bytes b.begin.bytes (by-none (first_place a.begin.bytes b.begin.bytes) true a b is) in
     let replies = answers-none a.answer b.answer (by-answers (first_place a.begin.bytes b.begin.bytes) a b is) in
@@ -118,7 +118,7 @@ abbrev is_exchange : ItemValue → Bool
 is_exchange (exchange request reply) = true
 is_exchange (stray d bytes) = false
 
-none-kinds : (one other : Bool) (a b : PlacedItem) → value_by one a ≡ value_by other b → contrast_of_kinds one other a b ≡ None
+none-kinds : (one other : Bool) (a b : PlacedItemValue) → value_by one a ≡ value_by other b → contrast_of_kinds one other a b ≡ None
 none-kinds true true a b same =
     ap (λ place. contrast_by place true a b) (none-place a.begin.bytes b.begin.bytes (ap bytes_of same)) ∙ none-answers a.answer b.answer (ap reply_of same)
 none-kinds true false a b same = absurd (cc (ap is_exchange same))
@@ -128,10 +128,10 @@ none-kinds false false a b same =
     ap (λ (s : Bool). if s then contrast_by (first_place a.begin.bytes b.begin.bytes) false a b else Some (contrast.Sides a.begin.dir)) side
     ∙ ap (λ place. contrast_by place false a b) (none-place a.begin.bytes b.begin.bytes (ap bytes_of same))
 
-none-is-same : (a b : PlacedItem) → contrast_of (both a b) ≡ None → item_value a ≡ item_value b
+none-is-same : (a b : PlacedItemValue) → contrast_of (both a b) ≡ None → item_value a ≡ item_value b
 none-is-same a b is = kinds-none (is_request_role a.begin.role) (is_request_role b.begin.role) a b is
 
-same-is-none : (a b : PlacedItem) → item_value a ≡ item_value b → contrast_of (both a b) ≡ None
+same-is-none : (a b : PlacedItemValue) → item_value a ≡ item_value b → contrast_of (both a b) ≡ None
 same-is-none a b same = none-kinds (is_request_role a.begin.role) (is_request_role b.begin.role) a b same
 
 -- The first difference.
@@ -142,7 +142,7 @@ IsFirst left right first = IsFirstDifference left right (difference (comparison_
 next-number : (n : ℕ) → n + 1 ≡ suc n
 next-number n = omega arith
 
-one-more : (how : Option Contrast) (a b : PlacedItem) (left right : List ItemValue) (later : Option FirstContrast) → how ≡ contrast_of (both a b)
+one-more : (how : Option Contrast) (a b : PlacedItemValue) (left right : List ItemValue) (later : Option FirstContrast) → how ≡ contrast_of (both a b)
     → IsFirst left right later → IsFirst (item_value a ∷ left) (item_value b ∷ right) (first_by how (both a b) later)
 one-more None a b left right None is rest = (λ i. none-is-same a b (sym is) i ∷ rest i)
 one-more None a b left right (Some first) is rest =

@@ -14,11 +14,11 @@ use Rattle.uds_exchange.specs.declared.step.Step.TheVariants as becomes
 use Rattle.uds_exchange.specs.proving.OpenExchange.{one_later, open_exchange_in, open_sid_in}
 use Rattle.uds_exchange.specs.proving.Pairing.{items_with, items_with_other}
 use Rattle.uds_message.specs.Message.{is_keep_alive, is_negative_response, sid}
-use Rattle.trace_report.specs.Events.{role_of_step}
-use Rattle.trace_report.specs.Items.{RowMessage, answer_in, item_value, items_in}
+use Rattle.trace_report.specs.Roles.{role_of_step}
+use Rattle.trace_report.specs.Items.{RowMessageValue, answer_in, item_value, items_in}
 use Rattle.trace_report.specs.Rows.{RowValue, message, no_answer, dropped, ended, unfinished}
 use Rattle.trace_report.specs.declared.row.MessagePlace.{MessagePlace}
-use Rattle.trace_report.specs.declared.row.MessageRole.TheVariants as role
+use Rattle.trace_report.specs.declared.roles.MessageRole.TheVariants as role
 
 -- What a row is to items.
 pub data RowKind : Type 0 where
@@ -54,8 +54,8 @@ values_of (answers bytes ∷ rest) = values_of rest
 values_of (strays d bytes ∷ rest) = stray d bytes ∷ values_of rest
 values_of (nothing ∷ rest) = values_of rest
 
-abbrev pub bytes_in : Option RowMessage → Option (List ℕ)
-bytes_in reply = option_map (λ (sent : RowMessage). sent.bytes) reply
+abbrev pub bytes_in : Option RowMessageValue → Option (List ℕ)
+bytes_in reply = option_map (λ (sent : RowMessageValue). sent.bytes) reply
 
 answer-by-kinds : (rows : List RowValue) → bytes_in (answer_in rows) ≡ answer_of (map kind rows)
 answer-by-kinds [] = refl

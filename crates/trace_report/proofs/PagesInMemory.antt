@@ -11,15 +11,15 @@ use Rattle.trace_log.specs.declared.fault.CompareFault.{CompareFault}
 use Rattle.trace_log.specs.declared.fault.CompareFault.TheVariants.{Left, Right}
 use Rattle.trace_log.specs.declared.fault.Fault.{Fault}
 use Rattle.trace_log.specs.declared.fault.Fault.TheVariants.{Memory, Read, Write}
-use Rattle.trace_report.specs.Held.{HasOwnFrame, HoldsTwo, TwoValue}
-use Rattle.trace_report.specs.InMemory.{HoldsInMemory, IsPairPageWith, counted_held}
+use Rattle.trace_report.specs.Kept.{HasOwnFrame, KeepsTwo, TwoValue}
+use Rattle.trace_report.specs.InMemory.{KeepsInMemory, IsPairPageWith, counted_two}
 use Rattle.trace_report.specs.PairPage.{PairTitleValue, pair_page}
 
 -- what two logs say, where no device fails
 pub held_in_memory : (limit : ℕ) (settings : Settings) (one other : List ℕ) (answer : Result TwoValue CompareFault)
     → FailedIf (Left Read) answer 0 0 → FailedIf (Right Read) answer 0 0 → IfErr answer (λ fault. fault_in fault ≢ Write)
     → (answer ≡ Err (Left Memory) → HasOwnFrame settings one) → (answer ≡ Err (Right Memory) → HasOwnFrame settings other)
-    → HoldsTwo limit settings one other answer → HoldsInMemory limit settings one other answer
+    → KeepsTwo limit settings one other answer → KeepsInMemory limit settings one other answer
 held_in_memory limit settings one other (Ok held) left right written left_refused right_refused is = is
 held_in_memory limit settings one other (Err (Left fault)) left right written left_refused right_refused is =
     (is, record { no_read = λ read. reads_well left (ap (λ f. Err (Left f)) read); no_write = written; memory = λ why. left_refused (ap (λ f. Err (Left f)) why) })
@@ -36,7 +36,7 @@ text_in_memory {A = A} result value old taken held text is old_is held_is wrote 
 
 -- the page of two logs that are held
 pub page_of_held : (title : PairTitleValue) (limit : ℕ) (settings : Settings) (one other text : List ℕ) (answer : Result TwoValue CompareFault) (held : TwoValue) (counted : CountedComparison)
-    → answer ≡ Ok held → HoldsInMemory limit settings one other answer → text ≡ pair_page title answer None → counted ≡ counted_held held
+    → answer ≡ Ok held → KeepsInMemory limit settings one other answer → text ≡ pair_page title answer None → counted ≡ counted_two held
     → IsPairPageWith title limit settings one other text counted
 page_of_held title limit settings one other text answer held counted is holds said counts =
-    (held, subst (HoldsInMemory limit settings one other) is holds, said ∙ ap (λ (a : Result TwoValue CompareFault). pair_page title a None) is, counts)
+    (held, subst (KeepsInMemory limit settings one other) is holds, said ∙ ap (λ (a : Result TwoValue CompareFault). pair_page title a None) is, counts)

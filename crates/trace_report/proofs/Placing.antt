@@ -3,22 +3,22 @@ use Rattle.std.proofs.Common.{◌≡◌, ℕ, ◌<◌, suc, zero, Bool, true, fa
 use Rattle.std.specs.Prelude.{slice_get, slice_set}
 use Rattle.std.proofs.lemmas.List.{map-append}
 use Rattle.std.proofs.lemmas.Option.{none-some, same_Some}
-use Rattle.trace_report.specs.Items.{RowMessage, PlacedItem, answer_in, items_in, message_in}
+use Rattle.trace_report.specs.Items.{RowMessageValue, PlacedItemValue, answer_in, items_in, message_in}
 use Rattle.trace_report.specs.Rows.{RowValue, message, no_answer, dropped, ended, unfinished}
 use Rattle.trace_report.specs.declared.item_places.ItemPlace.{ItemPlace}
-use Rattle.trace_report.specs.declared.row.MessageRole.TheVariants as role
+use Rattle.trace_report.specs.declared.roles.MessageRole.TheVariants as role
 use Rattle.trace_report.specs.proving.Keeping.{RowPart, asks, answers, begins, nothing, part_of, awaits, place_later, place_by, waiting_of, waiting_in, message_at, item_by, item_with, item_if, placed_at, ArePlaced, answered_at, place_answered, places_answered, item_answered, items_answered, places_begun, places_next, waiting_next}
 
 -- Items by what rows are to them.
 
-abbrev answer_of : List RowPart → Option RowMessage
+abbrev answer_of : List RowPart → Option RowMessageValue
 answer_of [] = None
 answer_of (asks sent ∷ rest) = None
 answer_of (answers sent ∷ rest) = Some sent
 answer_of (begins sent ∷ rest) = answer_of rest
 answer_of (nothing ∷ rest) = answer_of rest
 
-abbrev items_of : List RowPart → List PlacedItem
+abbrev items_of : List RowPart → List PlacedItemValue
 items_of [] = []
 items_of (asks sent ∷ rest) = item_by sent (answer_of rest) ∷ items_of rest
 items_of (answers sent ∷ rest) = items_of rest
@@ -91,7 +91,7 @@ waiting-still (answers sent ∷ rest) tail is none = waiting-still rest tail is 
 waiting-still (begins sent ∷ rest) tail is none = ap place_later (waiting-still rest tail is none)
 waiting-still (nothing ∷ rest) tail is none = waiting-still rest tail is none
 
-waiting-asked : (parts : List RowPart) (sent : RowMessage) → waiting_of (parts ++ asks sent ∷ []) ≡ Some (length (items_of parts))
+waiting-asked : (parts : List RowPart) (sent : RowMessageValue) → waiting_of (parts ++ asks sent ∷ []) ≡ Some (length (items_of parts))
 waiting-asked [] sent = refl
 waiting-asked (asks first ∷ rest) sent = (λ i. place_by (awaits-no-more rest (asks sent ∷ []) refl i) (waiting-asked rest sent i))
 waiting-asked (answers first ∷ rest) sent = waiting-asked rest sent
@@ -100,7 +100,7 @@ waiting-asked (nothing ∷ rest) sent = waiting-asked rest sent
 
 -- One more row that answers.
 
-waiting-answered : (parts : List RowPart) (sent : RowMessage) → waiting_of (parts ++ answers sent ∷ []) ≡ None
+waiting-answered : (parts : List RowPart) (sent : RowMessageValue) → waiting_of (parts ++ answers sent ∷ []) ≡ None
 waiting-answered [] sent = refl
 waiting-answered (asks first ∷ rest) sent = (λ i. place_by (awaits-no-more rest (answers sent ∷ []) refl i) (waiting-answered rest sent i))
 waiting-answered (answers first ∷ rest) sent = waiting-answered rest sent
@@ -114,26 +114,26 @@ none-waits (answers sent ∷ rest) is = absurd (cc is)
 none-waits (begins sent ∷ rest) is = ap place_later (none-waits rest is)
 none-waits (nothing ∷ rest) is = none-waits rest is
 
-answer-found : (parts : List RowPart) (reply : RowMessage) → awaits parts ≡ true → answer_of (parts ++ answers reply ∷ []) ≡ Some reply
+answer-found : (parts : List RowPart) (reply : RowMessageValue) → awaits parts ≡ true → answer_of (parts ++ answers reply ∷ []) ≡ Some reply
 answer-found [] reply is = refl
 answer-found (asks sent ∷ rest) reply is = absurd (cc is)
 answer-found (answers sent ∷ rest) reply is = absurd (cc is)
 answer-found (begins sent ∷ rest) reply is = answer-found rest reply is
 answer-found (nothing ∷ rest) reply is = answer-found rest reply is
 
-answer-stands : (parts : List RowPart) (reply : RowMessage) → awaits parts ≡ false → answer_of (parts ++ answers reply ∷ []) ≡ answer_of parts
+answer-stands : (parts : List RowPart) (reply : RowMessageValue) → awaits parts ≡ false → answer_of (parts ++ answers reply ∷ []) ≡ answer_of parts
 answer-stands [] reply is = absurd (cc is)
 answer-stands (asks sent ∷ rest) reply is = refl
 answer-stands (answers sent ∷ rest) reply is = refl
 answer-stands (begins sent ∷ rest) reply is = answer-stands rest reply is
 answer-stands (nothing ∷ rest) reply is = answer-stands rest reply is
 
-answered-later : (item : PlacedItem) (items : List PlacedItem) (waiting : Option ℕ) (reply : RowMessage)
+answered-later : (item : PlacedItemValue) (items : List PlacedItemValue) (waiting : Option ℕ) (reply : RowMessageValue)
     → items_answered (item ∷ items) (place_later waiting) reply ≡ item ∷ items_answered items waiting reply
 answered-later item items None reply = refl
 answered-later item items (Some number) reply = refl
 
-asked-by : (waits : Bool) (sent : RowMessage) (rest : List RowPart) (reply : RowMessage) → awaits rest ≡ waits
+asked-by : (waits : Bool) (sent : RowMessageValue) (rest : List RowPart) (reply : RowMessageValue) → awaits rest ≡ waits
     → items_of (rest ++ answers reply ∷ []) ≡ items_answered (items_of rest) (waiting_of rest) reply
     → item_by sent (answer_of (rest ++ answers reply ∷ [])) ∷ items_of (rest ++ answers reply ∷ [])
     ≡ items_answered (item_by sent (answer_of rest) ∷ items_of rest) (place_by waits (waiting_of rest)) reply
@@ -143,7 +143,7 @@ asked-by true sent rest reply is later =
 asked-by false sent rest reply is later =
     (λ i. item_by sent (answer-stands rest reply is i) ∷ later i) ∙ sym (answered-later (item_by sent (answer_of rest)) (items_of rest) (waiting_of rest) reply)
 
-items-answered : (parts : List RowPart) (reply : RowMessage) → items_of (parts ++ answers reply ∷ []) ≡ items_answered (items_of parts) (waiting_of parts) reply
+items-answered : (parts : List RowPart) (reply : RowMessageValue) → items_of (parts ++ answers reply ∷ []) ≡ items_answered (items_of parts) (waiting_of parts) reply
 items-answered [] reply = refl
 items-answered (asks sent ∷ rest) reply = asked-by (awaits rest) sent rest reply refl (items-answered rest reply)
 items-answered (answers sent ∷ rest) reply = items-answered rest reply
@@ -170,7 +170,7 @@ waiting-below (nothing ∷ rest) = waiting-below rest
 
 -- Places.
 
-pub same-count : (rows : List RowValue) (places : List ItemPlace) (items : List PlacedItem) → ArePlaced rows places items → length places ≡ length items
+pub same-count : (rows : List RowValue) (places : List ItemPlace) (items : List PlacedItemValue) → ArePlaced rows places items → length places ≡ length items
 same-count rows [] [] placed = refl
 same-count rows [] (item ∷ items) placed = absurd placed
 same-count rows (place ∷ places) [] placed = absurd placed
@@ -185,11 +185,11 @@ waiting-placed rows places waiting placed is =
     (waiting-below (map part_of rows)))
 
 -- the item at a place
-abbrev pub item_of_place : List RowValue → Option ItemPlace → Option PlacedItem
+abbrev pub item_of_place : List RowValue → Option ItemPlace → Option PlacedItemValue
 item_of_place rows None = None
 item_of_place rows (Some place) = placed_at rows place
 
-pub item-placed : (rows : List RowValue) (places : List ItemPlace) (items : List PlacedItem) (at : ℕ) → ArePlaced rows places items
+pub item-placed : (rows : List RowValue) (places : List ItemPlace) (items : List PlacedItemValue) (at : ℕ) → ArePlaced rows places items
     → item_of_place rows (slice_get places at) ≡ slice_get items at
 item-placed rows [] [] at placed = refl
 item-placed rows [] (item ∷ items) at placed = absurd placed
@@ -198,26 +198,26 @@ item-placed rows (place ∷ places) (item ∷ items) zero placed = placed.0
 item-placed rows (place ∷ places) (item ∷ items) (suc at) placed = item-placed rows places items at placed.1
 
 module _ (rows more : List RowValue) where
-  message-stays : (front : List RowValue) (at : ℕ) (sent : RowMessage) → message_at front at ≡ Some sent → message_at (front ++ more) at ≡ Some sent
+  message-stays : (front : List RowValue) (at : ℕ) (sent : RowMessageValue) → message_at front at ≡ Some sent → message_at (front ++ more) at ≡ Some sent
   message-stays [] at sent is = absurd (none-some sent is)
   message-stays (row ∷ rest) zero sent is = is
   message-stays (row ∷ rest) (suc at) sent is = message-stays rest at sent is
 
-  reply-stays : (begin : RowMessage) (reply then : Option RowMessage) (item : PlacedItem) → ((sent : RowMessage) → reply ≡ Some sent → then ≡ Some sent)
-      → option_map (λ (sent : RowMessage). item_by begin (Some sent)) reply ≡ Some item → option_map (λ (sent : RowMessage). item_by begin (Some sent)) then ≡ Some item
+  reply-stays : (begin : RowMessageValue) (reply then : Option RowMessageValue) (item : PlacedItemValue) → ((sent : RowMessageValue) → reply ≡ Some sent → then ≡ Some sent)
+      → option_map (λ (sent : RowMessageValue). item_by begin (Some sent)) reply ≡ Some item → option_map (λ (sent : RowMessageValue). item_by begin (Some sent)) then ≡ Some item
   reply-stays begin None then item goes is = absurd (none-some item is)
-  reply-stays begin (Some sent) then item goes is = ap (option_map (λ (sent : RowMessage). item_by begin (Some sent))) (goes sent refl) ∙ is
+  reply-stays begin (Some sent) then item goes is = ap (option_map (λ (sent : RowMessageValue). item_by begin (Some sent))) (goes sent refl) ∙ is
 
-  answer-stays : (begin : RowMessage) (answer : Option ℕ) (item : PlacedItem) → item_with rows begin answer ≡ Some item → item_with (rows ++ more) begin answer ≡ Some item
+  answer-stays : (begin : RowMessageValue) (answer : Option ℕ) (item : PlacedItemValue) → item_with rows begin answer ≡ Some item → item_with (rows ++ more) begin answer ≡ Some item
   answer-stays begin None item is = is
   answer-stays begin (Some at) item is = reply-stays begin (message_at rows at) (message_at (rows ++ more) at) item (λ sent. message-stays rows at sent) is
 
-  begin-stays : (begin then : Option RowMessage) (answer : Option ℕ) (item : PlacedItem) → ((sent : RowMessage) → begin ≡ Some sent → then ≡ Some sent)
+  begin-stays : (begin then : Option RowMessageValue) (answer : Option ℕ) (item : PlacedItemValue) → ((sent : RowMessageValue) → begin ≡ Some sent → then ≡ Some sent)
       → item_if rows begin answer ≡ Some item → item_if (rows ++ more) then answer ≡ Some item
   begin-stays None then answer item goes is = absurd (none-some item is)
   begin-stays (Some sent) then answer item goes is = ap (λ b. item_if (rows ++ more) b answer) (goes sent refl) ∙ answer-stays sent answer item is
 
-  stays-placed : (places : List ItemPlace) (items : List PlacedItem) → ArePlaced rows places items → ArePlaced (rows ++ more) places items
+  stays-placed : (places : List ItemPlace) (items : List PlacedItemValue) → ArePlaced rows places items → ArePlaced (rows ++ more) places items
   stays-placed [] [] placed = tt
   stays-placed [] (item ∷ items) placed = absurd placed
   stays-placed (place ∷ places) [] placed = absurd placed
@@ -226,29 +226,29 @@ module _ (rows more : List RowValue) where
     stays-placed places items placed.1,
   )
 
-one-placed : (rows : List RowValue) (places : List ItemPlace) (items : List PlacedItem) (place : ItemPlace) (item : PlacedItem) → ArePlaced rows places items
+one-placed : (rows : List RowValue) (places : List ItemPlace) (items : List PlacedItemValue) (place : ItemPlace) (item : PlacedItemValue) → ArePlaced rows places items
     → placed_at rows place ≡ Some item → ArePlaced rows (places ++ place ∷ []) (items ++ item ∷ [])
 one-placed rows [] [] place item placed is = (is, tt)
 one-placed rows [] (first ∷ items) place item placed is = absurd placed
 one-placed rows (first ∷ places) [] place item placed is = absurd placed
 one-placed rows (first ∷ places) (one ∷ items) place item placed is = (placed.0, one-placed rows places items place item placed.1 is)
 
-begin-is : (rows : List RowValue) (begin : Option RowMessage) (answer : Option ℕ) (item : PlacedItem) → item_if rows begin answer ≡ Some item → begin ≡ Some item.begin
+begin-is : (rows : List RowValue) (begin : Option RowMessageValue) (answer : Option ℕ) (item : PlacedItemValue) → item_if rows begin answer ≡ Some item → begin ≡ Some item.begin
 begin-is rows None answer item is = absurd (none-some item is)
-begin-is rows (Some begin) None item is = ap (λ (x : PlacedItem). Some x.begin) (same_Some (item_by begin None) item is)
+begin-is rows (Some begin) None item is = ap (λ (x : PlacedItemValue). Some x.begin) (same_Some (item_by begin None) item is)
 begin-is rows (Some begin) (Some at) item is = by (message_at rows at) is
   where
-    by : (reply : Option RowMessage) → option_map (λ (sent : RowMessage). item_by begin (Some sent)) reply ≡ Some item → Some begin ≡ Some item.begin
+    by : (reply : Option RowMessageValue) → option_map (λ (sent : RowMessageValue). item_by begin (Some sent)) reply ≡ Some item → Some begin ≡ Some item.begin
     by None is = absurd (none-some item is)
-    by (Some sent) is = ap (λ (x : PlacedItem). Some x.begin) (same_Some (item_by begin (Some sent)) item is)
+    by (Some sent) is = ap (λ (x : PlacedItemValue). Some x.begin) (same_Some (item_by begin (Some sent)) item is)
 
-module _ (rows : List RowValue) (at : ℕ) (reply : RowMessage) (there : message_at rows at ≡ Some reply) where
-  answered-here : (place : ItemPlace) (item : PlacedItem) → placed_at rows place ≡ Some item → placed_at rows (answered_at place at) ≡ Some (item_by item.begin (Some reply))
+module _ (rows : List RowValue) (at : ℕ) (reply : RowMessageValue) (there : message_at rows at ≡ Some reply) where
+  answered-here : (place : ItemPlace) (item : PlacedItemValue) → placed_at rows place ≡ Some item → placed_at rows (answered_at place at) ≡ Some (item_by item.begin (Some reply))
   answered-here place item is =
       ap (λ begin. item_if rows begin (Some at)) (begin-is rows (message_at rows place.begin) place.answer item is)
-      ∙ ap (option_map (λ (sent : RowMessage). item_by item.begin (Some sent))) there
+      ∙ ap (option_map (λ (sent : RowMessageValue). item_by item.begin (Some sent))) there
 
-  one-answered : (places : List ItemPlace) (items : List PlacedItem) (number : ℕ) → ArePlaced rows places items
+  one-answered : (places : List ItemPlace) (items : List PlacedItemValue) (number : ℕ) → ArePlaced rows places items
       → ArePlaced rows (place_answered places number at) (item_answered items number reply)
   one-answered [] [] number placed = tt
   one-answered [] (item ∷ items) number placed = absurd placed
@@ -256,7 +256,7 @@ module _ (rows : List RowValue) (at : ℕ) (reply : RowMessage) (there : message
   one-answered (place ∷ places) (item ∷ items) zero placed = (answered-here place item placed.0, placed.1)
   one-answered (place ∷ places) (item ∷ items) (suc number) placed = (placed.0, one-answered places items number placed.1)
 
-  if-answered : (places : List ItemPlace) (items : List PlacedItem) (waiting : Option ℕ) → ArePlaced rows places items
+  if-answered : (places : List ItemPlace) (items : List PlacedItemValue) (waiting : Option ℕ) → ArePlaced rows places items
       → ArePlaced rows (places_answered places waiting at) (items_answered items waiting reply)
   if-answered places items None placed = placed
   if-answered places items (Some number) placed = one-answered places items number placed
@@ -279,7 +279,7 @@ module _ (rows : List RowValue) (places : List ItemPlace) (waiting : Option ℕ)
   with-part : (row : RowValue) → map part_of (rows ++ row ∷ []) ≡ parts ++ part_of row ∷ []
   with-part row = map-append part_of rows (row ∷ [])
 
-  placed-so : (row : RowValue) (places-then : List ItemPlace) (items : List PlacedItem) → items_of (parts ++ part_of row ∷ []) ≡ items
+  placed-so : (row : RowValue) (places-then : List ItemPlace) (items : List PlacedItemValue) → items_of (parts ++ part_of row ∷ []) ≡ items
       → ArePlaced (rows ++ row ∷ []) places-then items → ArePlaced (rows ++ row ∷ []) places-then (items_in (rows ++ row ∷ []))
   placed-so row places-then items is so =
       subst (ArePlaced (rows ++ row ∷ []) places-then) (sym (items-by-parts (rows ++ row ∷ []) ∙ ap items_of (with-part row) ∙ is)) so
@@ -293,12 +293,12 @@ module _ (rows : List RowValue) (places : List ItemPlace) (waiting : Option ℕ)
     waits ∙ sym (waiting-still parts (nothing ∷ []) refl refl) ∙ ap (λ part. waiting_of (parts ++ part ∷ [])) (sym is) ∙ ap waiting_of (sym (with-part row)),
   )
 
-  begun : (row : RowValue) (sent : RowMessage) → message_in row ≡ Some sent → ArePlaced (rows ++ row ∷ []) (places_begun places (length rows)) (items_of parts ++ item_by sent None ∷ [])
+  begun : (row : RowValue) (sent : RowMessageValue) → message_in row ≡ Some sent → ArePlaced (rows ++ row ∷ []) (places_begun places (length rows)) (items_of parts ++ item_by sent None ∷ [])
   begun row sent is =
       one-placed (rows ++ row ∷ []) places (items_of parts) (record { begin = length rows; answer = None }) (item_by sent None) (still-placed row)
       (ap (λ begin. item_if (rows ++ row ∷ []) begin None) (at-end rows row ∙ is))
 
-  asked-more : (row : RowValue) (sent : RowMessage) → part_of row ≡ asks sent → message_in row ≡ Some sent → Next row (places_begun places (length rows)) (Some (length places))
+  asked-more : (row : RowValue) (sent : RowMessageValue) → part_of row ≡ asks sent → message_in row ≡ Some sent → Next row (places_begun places (length rows)) (Some (length places))
   asked-more row sent part is = (
     placed-so row (places_begun places (length rows)) (items_of parts ++ item_by sent None ∷ [])
         (ap (λ p. items_of (parts ++ p ∷ [])) part ∙ items-behind parts (asks sent ∷ []) refl) (begun row sent is),
@@ -306,14 +306,14 @@ module _ (rows : List RowValue) (places : List ItemPlace) (waiting : Option ℕ)
         ∙ sym (ap waiting_of (with-part row) ∙ ap (λ p. waiting_of (parts ++ p ∷ [])) part ∙ waiting-asked parts sent),
   )
 
-  begun-more : (row : RowValue) (sent : RowMessage) → part_of row ≡ begins sent → message_in row ≡ Some sent → Next row (places_begun places (length rows)) waiting
+  begun-more : (row : RowValue) (sent : RowMessageValue) → part_of row ≡ begins sent → message_in row ≡ Some sent → Next row (places_begun places (length rows)) waiting
   begun-more row sent part is = (
     placed-so row (places_begun places (length rows)) (items_of parts ++ item_by sent None ∷ [])
         (ap (λ p. items_of (parts ++ p ∷ [])) part ∙ items-behind parts (begins sent ∷ []) refl) (begun row sent is),
     waits ∙ sym (ap waiting_of (with-part row) ∙ ap (λ p. waiting_of (parts ++ p ∷ [])) part ∙ waiting-still parts (begins sent ∷ []) refl refl),
   )
 
-  answered-more : (row : RowValue) (sent : RowMessage) → part_of row ≡ answers sent → message_in row ≡ Some sent → Next row (places_answered places waiting (length rows)) None
+  answered-more : (row : RowValue) (sent : RowMessageValue) → part_of row ≡ answers sent → message_in row ≡ Some sent → Next row (places_answered places waiting (length rows)) None
   answered-more row sent part is = (
     placed-so row (places_answered places waiting (length rows)) (items_answered (items_of parts) waiting sent)
         (ap (λ p. items_of (parts ++ p ∷ [])) part ∙ items-answered parts sent ∙ ap (λ w. items_answered (items_of parts) w sent) (sym waits))

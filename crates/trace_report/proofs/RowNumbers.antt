@@ -22,12 +22,13 @@ use Rattle.uds_exchange.specs.declared.step.Step.{Step}
 use Rattle.uds_exchange.specs.declared.step.Step.TheVariants as becomes
 use Rattle.uds_message.specs.Message.{is_final_for, is_keep_alive, is_negative_response, is_pending_for, sid}
 use Rattle.trace_canon.proofs.Promises.{messages_next}
-use Rattle.trace_report.specs.Events.{asked_in, closing_rows, end_rows, ended_rows, ends_nothing, is_request_step, message_rows, role_of_step, rows_before, rows_of, standing_row, verdict_rows, waiting_row}
+use Rattle.trace_report.specs.Events.{asked_in, closing_rows, end_rows, ended_rows, ends_nothing, is_request_step, message_rows, rows_before, rows_of, standing_row, verdict_rows, waiting_row}
+use Rattle.trace_report.specs.Roles.{role_of_step}
 use Rattle.trace_report.specs.Numbers.{HasItem, HasPart, HasPartBy, IsUnanswered, RowNumbersArePlaces, TellsItsItem}
 use Rattle.trace_report.specs.Rows.{RowValue}
 use Rattle.trace_report.specs.Rows as row
-use Rattle.trace_report.specs.declared.row.MessageRole.{MessageRole}
-use Rattle.trace_report.specs.declared.row.MessageRole.TheVariants as role
+use Rattle.trace_report.specs.declared.roles.MessageRole.{MessageRole}
+use Rattle.trace_report.specs.declared.roles.MessageRole.TheVariants as role
 use Rattle.trace_report.proofs.Distinct.{at-front}
 use Rattle.trace_report.proofs.ItemNumbers.{Becomes, begun-still, item-still, one-grows, one-has, open-number, open-stands}
 use Rattle.trace_report.proofs.Steps.{rows_next}
@@ -110,13 +111,16 @@ module _ (M : List Message) (x : Message) where
 
   waiting-tells : (waits : Option (List ℕ)) → open_request M ≡ waits → is_tester_request x ≡ true → AllByRecursion (Tells (M ++ x ∷ [])) (waiting_row M waits)
   waiting-tells None waits_is is = tt
-  waiting-tells (Some request) waits_is is = ((
-    length (decided M),
-    exchange request None,
-    open-number M request waits_is,
-    ap (λ items. slice_get items (length (decided M))) (decided-before is) ∙ open-stands M request waits_is,
-    (request, refl, refl),
-  ), tt)
+  waiting-tells (Some request) waits_is is = (
+    (
+      length (decided M),
+      exchange request None,
+      open-number M request waits_is,
+      ap (λ items. slice_get items (length (decided M))) (decided-before is) ∙ open-stands M request waits_is,
+      (request, refl, refl),
+    ),
+    tt,
+  )
 
   before-tells : (step : Step) → is_request_step step ≡ is_request_step (step_after M x) → AllByRecursion (Tells (M ++ x ∷ [])) (rows_before M step)
   before-tells (becomes.Request service) is = waiting-tells (open_request M) refl (asks (sym is))

@@ -23,37 +23,44 @@ use Rattle.uds_exchange.specs.Order.{open_request}
 use Rattle.uds_exchange.specs.declared.step.Step.{Step}
 use Rattle.uds_exchange.specs.declared.step.Step.TheVariants as becomes
 use Rattle.uds_message.specs.Message.{is_keep_alive, is_negative_response, is_suppressing, sid}
-use Rattle.trace_report.specs.Events.{asked_in, closing_rows, ended_rows, ends_nothing, message_place, other_role, role_of_step, rows_before, rows_of, standing_row, verdict_rows, waiting_row}
+use Rattle.trace_report.specs.Events.{asked_in, closing_rows, ended_rows, ends_nothing, message_place, rows_before, rows_of, standing_row, verdict_rows, waiting_row}
+use Rattle.trace_report.specs.Roles.{other_role, role_of_step}
 use Rattle.trace_report.specs.Laws.{AreDistinct}
-use Rattle.trace_report.specs.Linked.{IsAmong, side_of, target_at, targets_in}
+use Rattle.trace_report.specs.Linked.{IsAmong, target_at, targets_in}
 use Rattle.trace_report.specs.Page.{all_rows}
 use Rattle.trace_report.specs.Rows.{RowValue}
 use Rattle.trace_report.specs.Rows as row
-use Rattle.trace_report.specs.Sorts.{side_number, sort_of, target_of}
-use Rattle.trace_report.specs.Targets.{Target, of_item, of_line, of_side}
+use Rattle.trace_report.specs.Sorts.{sort_of, target_of}
+use Rattle.trace_report.specs.declared.targets.Target.{Target}
+use Rattle.trace_report.specs.declared.targets.Target.TheVariants.{Item as of_item, Line as of_line, Side as of_side}
 use Rattle.trace_report.specs.declared.sorts.Sort.{Sort}
 use Rattle.trace_report.specs.declared.sorts.Sort.TheVariants as sort
 use Rattle.trace_report.proofs.Distinct.{among-front, among-last, distinct-more, found-append}
 use Rattle.trace_report.proofs.LineOrder.{Grow}
 use Rattle.trace_report.proofs.Steps.{rows_next}
 
--- where the link to a row of this sort leads, if one does
-abbrev pub led_to : Sort → ℕ → Option Target
-led_to sort.Requests number = None
-led_to sort.Positives number = None
-led_to sort.Negatives number = Some (of_item number)
-led_to sort.Pendings number = None
-led_to sort.KeepAlives number = None
-led_to sort.Strays number = Some (of_item number)
-led_to sort.Unanswered number = Some (of_item number)
-led_to sort.Silent number = None
-led_to sort.Dropped number = Some (of_line number)
-led_to sort.Ended number = Some (of_line number)
-led_to sort.Unfinished number = Some (of_side (side_of number))
+-- the place, where rows of this sort are linked to
+abbrev pub led_to : Sort → Target → Option Target
+led_to sort.Requests place = None
+led_to sort.Positives place = None
+led_to sort.Negatives place = Some place
+led_to sort.Pendings place = None
+led_to sort.KeepAlives place = None
+led_to sort.Strays place = Some place
+led_to sort.Unanswered place = Some place
+led_to sort.Silent place = None
+led_to sort.Dropped place = Some place
+led_to sort.Ended place = Some place
+led_to sort.Unfinished place = Some place
 
 -- the link to this row leads to one of these places
 abbrev pub Leads : List Target → RowValue → Type 0
 Leads places one = IfSome (led_to (sort_of one) (target_of one)) (λ place. IsAmong place places)
+
+-- the number of a side: its row stands before or behind that of the other
+abbrev pub side_number : Dir → ℕ
+side_number dir.Tester = 0
+side_number dir.Unit = 1
 
 -- the place is one of the first items, of the lines before, or of the first sides
 abbrev pub IsWithin : ℕ → ℕ → ℕ → Target → Type 0
@@ -174,16 +181,12 @@ new-side items lines sides d late (of_item number) within same = cc
 new-side items lines sides d late (of_line number) within same = cc
 new-side items lines sides d late (of_side e) within same = let equal : side_number e ≡ side_number d = ap (λ place. side_number (side_in place)) same in omega (arith, equal, within, late)
 
-side-led : (d : Dir) → of_side (side_of (side_number d)) ≡ of_side d
-side-led dir.Tester = refl
-side-led dir.Unit = refl
-
 pub placed-side : (items lines sides : ℕ) (rows : List RowValue) (d : Dir) (line len : ℕ) → ArePlaced items lines sides rows → sides ≤ side_number d
     → ArePlaced items lines (side_number d + 1) (rows ++ row.unfinished d line len ∷ [])
 placed-side items lines sides rows d line len are late =
     placed-new items lines sides items lines (side_number d + 1) rows (row.unfinished d line len) (of_side d) are refl (omega arith) (omega arith) (omega (arith, late)) (omega arith)
     (new-side items lines sides d late) (λ number high. inl high)
-    (subst (λ place. IsAmong place (targets_in rows ++ of_side d ∷ [])) (sym (side-led d)) (among-last (of_side d) (targets_in rows)))
+    (among-last (of_side d) (targets_in rows))
 
 -- where bounds grow
 pub placed-later : (items lines sides lines' sides' : ℕ) (rows : List RowValue) → ArePlaced items lines sides rows → lines ≤ lines' → sides ≤ sides' → ArePlaced items lines' sides' rows

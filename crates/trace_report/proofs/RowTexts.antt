@@ -3,7 +3,8 @@ use Rattle.std.proofs.Common.{◌≡◌, ◌≤◌, ◌+◌, ℕ, Bool, List, []
 use Rattle.std.proofs.lemmas.Bool.{cases_Bool}
 use Rattle.trace_report.specs.declared.blocks.Blocks.{Blocks}
 use Rattle.isotp_receive.specs.Trace.{Entry}
-use Rattle.trace_report.specs.Blocks.{begins_block, begins_exchange, blocks_behind, blocks_of, no_blocks, one_more_row, placed_text, rows_text}
+use Rattle.trace_report.specs.Blocks.{begins_block, begins_exchange, blocks_behind, blocks_of, no_blocks, one_more_row}
+use Rattle.trace_report.specs.Chart.{placed_text, rows_text}
 use Rattle.trace_report.specs.Events.{rows_of}
 use Rattle.trace_report.specs.Rows.{RowValue}
 use Rattle.trace_report.specs.Page.{rows_after}

@@ -20,7 +20,8 @@ use Rattle.uds_exchange.specs.declared.step.Step.{Step}
 use Rattle.uds_exchange.specs.declared.step.Step.TheVariants as becomes
 use Rattle.uds_exchange.specs.proving.OpenExchange.{open_sid_in}
 use Rattle.uds_exchange.specs.proving.Pairing.{items_with}
-use Rattle.trace_report.specs.Events.{asked_in, closing_rows, end_rows, ended_rows, ends_nothing, message_place, role_of_step, rows_before, rows_of, standing_row, verdict_rows, waiting_row}
+use Rattle.trace_report.specs.Events.{asked_in, closing_rows, end_rows, ended_rows, ends_nothing, message_place, rows_before, rows_of, standing_row, verdict_rows, waiting_row}
+use Rattle.trace_report.specs.Roles.{role_of_step}
 use Rattle.trace_report.specs.Laws.{ItemsAreTheMeaning}
 use Rattle.trace_report.specs.Page.{all_rows}
 use Rattle.trace_report.specs.Rows as row

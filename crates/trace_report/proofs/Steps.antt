@@ -10,7 +10,8 @@ use Rattle.uds_exchange.specs.Judging.{step_after}
 use Rattle.uds_exchange.specs.Order.{open_request}
 use Rattle.uds_exchange.specs.declared.step.Step.{Step}
 use Rattle.uds_exchange.specs.declared.step.Step.TheVariants as becomes
-use Rattle.trace_report.specs.Events.{asked_behind, asked_in, completes_request, ended_rows, frame_rows, ends_nothing, message_place, role_of_step, rows_before, rows_behind, rows_of, verdict_rows, waiting_row}
+use Rattle.trace_report.specs.Events.{asked_behind, asked_in, completes_request, ended_rows, frame_rows, ends_nothing, message_place, rows_before, rows_behind, rows_of, verdict_rows, waiting_row}
+use Rattle.trace_report.specs.Roles.{role_of_step}
 use Rattle.trace_report.specs.Page.{first_time, last_time}
 use Rattle.trace_report.specs.Rows as row
 use Rattle.trace_report.specs.proving.Following.{times_of}

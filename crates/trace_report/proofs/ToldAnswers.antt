@@ -1,15 +1,14 @@
 -- What a page says of answers.
-use Rattle.std.proofs.Common.{◌≡◌, ℕ, Bool, true, false, List, Option, Some, None, refl, option_map}
+use Rattle.std.proofs.Common.{◌≡◌, ℕ, Bool, true, false, Option, Some, None, refl, option_map}
 use Rattle.std.specs.Prelude.{◌↔◌, if◌then◌else◌}
 use Rattle.uds_message.specs.Message.{is_negative_response}
-use Rattle.trace_report.specs.Contrast.{contrast_of_answers, first_place}
-use Rattle.trace_report.specs.Items.{RowMessage}
+use Rattle.trace_report.specs.Contrast.{first_place}
 use Rattle.trace_report.specs.Laws.{NegativeIsNegative, UnansweredHasNone}
 use Rattle.trace_report.specs.declared.contrast.Contrast.TheVariants as contrast
 use Rattle.trace_report.specs.declared.contrast.LogName.{LogName}
 use Rattle.trace_report.specs.declared.contrast.LogName.TheVariants.{A, B}
-use Rattle.trace_report.specs.declared.row.MessageRole.{MessageRole}
-use Rattle.trace_report.specs.declared.row.MessageRole.TheVariants as is
+use Rattle.trace_report.specs.declared.roles.MessageRole.{MessageRole}
+use Rattle.trace_report.specs.declared.roles.MessageRole.TheVariants as is
 
 abbrev by_test : ℕ → Bool → MessageRole
 by_test asked negative = if negative then is.Negative asked else is.Positive asked

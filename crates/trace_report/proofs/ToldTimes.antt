@@ -1,10 +1,10 @@
 -- What a page says of times.
-use Rattle.std.proofs.Common.{◌≡◌, ℕ, Bool, true, false, List, [], ◌∷◌, ◌++◌, Some, None, refl, ap, ◌∙◌}
+use Rattle.std.proofs.Common.{ℕ, Bool, List, refl, ap, ◌∙◌}
 use Rattle.std.specs.Prelude.{if◌then◌else◌}
 use Rattle.isotp_receive.specs.Trace.{Entry}
-use Rattle.trace_report.specs.Events.{asked_in, completes_request}
+use Rattle.trace_report.specs.Events.{asked_in}
 use Rattle.trace_report.specs.Laws.{AfterIsFromTheLastFrame, AfterIsToTheFirstFrame, TimeIsOfTheLastFrame}
-use Rattle.trace_report.specs.declared.row.MessageRole.TheVariants as is
+use Rattle.trace_report.specs.declared.roles.MessageRole.TheVariants as is
 use Rattle.trace_report.proofs.Steps.{asked_next}
 
 pub time_is_of_the_last_frame : TimeIsOfTheLastFrame

@@ -1,6 +1,6 @@
 -- Four bytes in a row that are shown as letters: none go over a byte that is not.
 use Rattle.std.proofs.Common.{◌≡◌, ◌<◌, ◌&&◌, ℕ, Bool, true, false, List, [], ◌∷◌, length, drop, get_or, refl, arith}
-use Rattle.trace_report.specs.Words.{begins_with_word, has_word, is_mark}
+use Rattle.trace_report.specs.Letters.{begins_with_word, has_word, is_mark}
 
 not_then : (x : Bool) → (x && false) ≡ false
 not_then true = refl

@@ -5,11 +5,11 @@ use Rattle.std.specs.Fmt.{decimal}
 use Rattle.trace_log.specs.declared.config.TheConstants.{LARGEST_LIMIT}
 use Rattle.trace_log.specs.declared.fault.Fault.{Fault}
 use Rattle.trace_log.specs.declared.fault.Fault.TheVariants.{BadLine, Oversize, LogLimit, OutputLimit, Read, Write, Memory}
-use Rattle.trace_report.specs.Looks.{lacks_stamp, look_of, row_of}
+use Rattle.trace_report.specs.Looks.{lacks_stamp, look_of, look_row}
 use Rattle.trace_report.specs.declared.cause.RefusalCause.{RefusalCause}
 use Rattle.trace_report.specs.declared.cause.RefusalCause.TheVariants as cause
 use Rattle.trace_report.specs.declared.cause.CauseRow.{CauseRow}
-use Rattle.trace_run.specs.Told.{GlimpseValue}
+use Rattle.trace_run.specs.Script.{GlimpseValue}
 
 -- The cause of a log that is refused at this place. Where its source is over, nothing before the end was refused: the
 -- last line is cut. Else a line lacks its stamp, or the log looks like something else, or nothing is known.
@@ -19,7 +19,7 @@ cause_of_place source line column =
     else if lacks_stamp source.first line column then Some (cause.NoStamp line)
     else option_map (λ look. cause.Looks look) (look_of source.first line column)
 
--- the cause where this limit is passed: that, where a larger one can be given
+-- the cause of a log that passes this limit: the limit, where a larger one can be given
 abbrev pub cause_of_limit : ℕ → Option RefusalCause
 cause_of_limit most = if nat_lt most LARGEST_LIMIT then Some (cause.Limit most) else None
 
@@ -43,7 +43,7 @@ pub record CauseRowValue : Type 0 where
   pub words : List ℕ
   pub command : List ℕ
 
--- a row, without where its words lie in memory
+-- what is said of a cause, without where its words lie in memory
 abbrev pub row_value : CauseRow → CauseRowValue
 row_value row = record {
   before = row.before.now;
@@ -54,10 +54,10 @@ row_value row = record {
   command = row.command.now;
 }
 
--- the table of causes
+-- the table of causes: what is said of each
 abbrev pub row_of_cause : RefusalCause → CauseRowValue
 row_of_cause (cause.Looks look) =
-    record { before = []; number = None; between = []; is_named = true; words = (row_of look).words; command = (row_of look).command }
+    record { before = []; number = None; between = []; is_named = true; words = (look_row look).words; command = (look_row look).command }
 row_of_cause cause.Cut = record {
   before = codes "the last line of ";
   number = None;
@@ -88,20 +88,20 @@ abbrev pub number_text : Option ℕ → List ℕ
 number_text None = []
 number_text (Some number) = decimal number
 
--- a name before what is said of it, where it is said
+-- the name of a log before what is said of it, where it is said
 abbrev pub named_text : Bool → List ℕ → List ℕ
 named_text is_named name = if is_named then name ++ codes " " else []
 
--- what a row says of a log with this name
+-- the text of a row of the table of causes, for a log with this name
 abbrev pub row_text : CauseRowValue → List ℕ → List ℕ
 row_text row name =
     row.before ++ number_text row.number ++ row.between ++ named_text row.is_named name ++ row.words ++ codes "; " ++ row.command
 
--- what is said of a cause
+-- what is said of the cause of a refusal, for a log with this name
 abbrev pub refusal_cause_text : RefusalCause → List ℕ → List ℕ
 refusal_cause_text why name = row_text (row_of_cause why) name
 
--- on a page, where there is one
+-- the line of a page that tells the cause of a refusal, where one is known
 abbrev pub cause_line : Option RefusalCause → List ℕ
 cause_line None = []
 cause_line (Some why) = codes "<p><b>Cause:</b> " ++ refusal_cause_text why (codes "this log") ++ codes ".</p>\n"

@@ -5,8 +5,8 @@ use Rattle.can_log.specs.Digits.{hexadecimal}
 use Rattle.direction.specs.declared.Dir.{Dir}
 use Rattle.direction.specs.declared.Dir.TheVariants as dir
 use Rattle.trace_text.specs.Words.{direction_text}
-use Rattle.trace_report.specs.Blocks.{is_request_role}
-use Rattle.trace_report.specs.Items.{RowMessage, PlacedItem, ItemPair, both, only_left, only_right}
+use Rattle.trace_report.specs.Roles.{is_request_role}
+use Rattle.trace_report.specs.Items.{RowMessageValue, PlacedItemValue, ItemPairValue, both, only_left, only_right}
 use Rattle.trace_report.specs.declared.contrast.Contrast.{Contrast}
 use Rattle.trace_report.specs.declared.contrast.Contrast.TheVariants as contrast
 use Rattle.trace_report.specs.declared.contrast.LogName.{LogName}
@@ -25,14 +25,14 @@ first_place [] (b ∷ right) = Some 0
 first_place (a ∷ left) (b ∷ right) = if a == b then place_behind (first_place left right) else Some 0
 
 -- how two answers differ, if they do
-abbrev pub contrast_of_answers : Option RowMessage → Option RowMessage → Option Contrast
+abbrev pub contrast_of_answers : Option RowMessageValue → Option RowMessageValue → Option Contrast
 contrast_of_answers None None = None
 contrast_of_answers (Some a) None = Some (contrast.Unanswered B)
 contrast_of_answers None (Some b) = Some (contrast.Unanswered A)
 contrast_of_answers (Some a) (Some b) = option_map contrast.Answers (first_place a.bytes b.bytes)
 
 -- how the rest of two items differs whose first messages are of one kind and of one side, by where these differ
-abbrev pub contrast_by : Option ℕ → Bool → PlacedItem → PlacedItem → Option Contrast
+abbrev pub contrast_by : Option ℕ → Bool → PlacedItemValue → PlacedItemValue → Option Contrast
 contrast_by (Some place) is_request a b = Some (if is_request then contrast.Requests place else contrast.Strays place)
 contrast_by None true a b = contrast_of_answers a.answer b.answer
 contrast_by None false a b = None
@@ -45,7 +45,7 @@ is_same_side dir.Unit dir.Tester = false
 is_same_side dir.Unit dir.Unit = true
 
 -- how two items differ that begin with requests or with no requests
-abbrev pub contrast_of_kinds : Bool → Bool → PlacedItem → PlacedItem → Option Contrast
+abbrev pub contrast_of_kinds : Bool → Bool → PlacedItemValue → PlacedItemValue → Option Contrast
 contrast_of_kinds true true a b = contrast_by (first_place a.begin.bytes b.begin.bytes) true a b
 contrast_of_kinds true false a b = Some (contrast.Kinds A)
 contrast_of_kinds false true a b = Some (contrast.Kinds B)
@@ -54,7 +54,7 @@ contrast_of_kinds false false a b =
     else Some (contrast.Sides a.begin.dir)
 
 -- how the items of one number differ, if they do
-abbrev pub contrast_of : ItemPair → Option Contrast
+abbrev pub contrast_of : ItemPairValue → Option Contrast
 contrast_of (both a b) = contrast_of_kinds (is_request_role a.begin.role) (is_request_role b.begin.role) a b
 contrast_of (only_left a) = Some (contrast.Lacks B)
 contrast_of (only_right b) = Some (contrast.Lacks A)
@@ -63,7 +63,7 @@ contrast_of (only_right b) = Some (contrast.Lacks A)
 -- differ.
 pub record FirstContrast : Type 0 where
   pub before : ℕ
-  pub pair : ItemPair
+  pub pair : ItemPairValue
   pub how : Contrast
 
 -- the same behind one more item that is the same
@@ -72,12 +72,12 @@ later_by_one None = None
 later_by_one (Some first) = Some (record first { before = first.before + 1 })
 
 -- the first difference, by how the first items differ and by that of the others
-abbrev pub first_by : Option Contrast → ItemPair → Option FirstContrast → Option FirstContrast
+abbrev pub first_by : Option Contrast → ItemPairValue → Option FirstContrast → Option FirstContrast
 first_by None pair later = later_by_one later
 first_by (Some how) pair later = Some (record { before = 0; pair = pair; how = how })
 
 -- the first difference of these items, if there is one
-abbrev pub first_contrast : List ItemPair → Option FirstContrast
+abbrev pub first_contrast : List ItemPairValue → Option FirstContrast
 first_contrast [] = None
 first_contrast (pair ∷ rest) = first_by (contrast_of pair) pair (first_contrast rest)
 
@@ -105,27 +105,27 @@ bytes_words what place left right =
     ++ byte_or_end (drop place right) ++ codes "</b> in B."
 
 -- the bytes of an answer, if there is one
-abbrev pub answer_bytes : Option RowMessage → List ℕ
+abbrev pub answer_bytes : Option RowMessageValue → List ℕ
 answer_bytes None = []
 answer_bytes (Some reply) = reply.bytes
 
 -- the bytes of the first message of each item, or of its answer; none where a log has no item
-abbrev pub begin_left : ItemPair → List ℕ
+abbrev pub begin_left : ItemPairValue → List ℕ
 begin_left (both a b) = a.begin.bytes
 begin_left (only_left a) = a.begin.bytes
 begin_left (only_right b) = []
 
-abbrev pub begin_right : ItemPair → List ℕ
+abbrev pub begin_right : ItemPairValue → List ℕ
 begin_right (both a b) = b.begin.bytes
 begin_right (only_left a) = []
 begin_right (only_right b) = b.begin.bytes
 
-abbrev pub answer_left : ItemPair → List ℕ
+abbrev pub answer_left : ItemPairValue → List ℕ
 answer_left (both a b) = answer_bytes a.answer
 answer_left (only_left a) = answer_bytes a.answer
 answer_left (only_right b) = []
 
-abbrev pub answer_right : ItemPair → List ℕ
+abbrev pub answer_right : ItemPairValue → List ℕ
 answer_right (both a b) = answer_bytes b.answer
 answer_right (only_left a) = []
 answer_right (only_right b) = answer_bytes b.answer
@@ -147,7 +147,7 @@ abbrev pub unanswered_words : LogName → List ℕ
 unanswered_words log = codes "It is answered in " ++ log_letter (other_log log) ++ codes " and not in " ++ log_letter log ++ codes "."
 
 -- how the items of this pair differ, in words
-abbrev pub contrast_words : ItemPair → Contrast → List ℕ
+abbrev pub contrast_words : ItemPairValue → Contrast → List ℕ
 contrast_words pair (contrast.Lacks log) = lacks_words log
 contrast_words pair (contrast.Kinds log) = kinds_words log
 contrast_words pair (contrast.Sides d) = sides_words d

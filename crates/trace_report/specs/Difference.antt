@@ -1,18 +1,21 @@
 -- Where two sessions first differ: of both the rows from the request at or before the item to the next request, so that
 -- a frame which was dropped there stands where it explains the difference.
-use Rattle.std.specs.Prelude.{ℕ, ◌==◌, ◌&&◌, Bool, true, false, List, [], ◌∷◌, ◌++◌, codes, length, Option, Some, None, if◌then◌else◌}
+use Rattle.std.specs.Prelude.{ℕ, ◌==◌, ◌&&◌, Bool, false, List, [], ◌∷◌, ◌++◌, codes, length, Option, Some, None, if◌then◌else◌}
 use Rattle.std.specs.List.{list_any}
 use Rattle.direction.specs.declared.Dir.{Dir}
 use Rattle.trace_report.specs.Blocks.{begins_exchange, chart_head}
-use Rattle.trace_report.specs.Items.{is_answer_role}
+use Rattle.trace_report.specs.Roles.{is_answer_role}
 use Rattle.trace_report.specs.Marks.{marked_data}
-use Rattle.trace_report.specs.Rows.{RowValue, message, no_answer, dropped, ended, unfinished, begins_item, cell_front, cell_end, dropped_row, ended_row, message_front, no_answer_row, note_text, role_words, unfinished_row}
-use Rattle.trace_report.specs.Words.{data_text}
+use Rattle.trace_report.specs.Rows.{RowValue, message, no_answer, dropped, ended, unfinished, cell_front, cell_end}
+use Rattle.trace_report.specs.Roles.{begins_item}
+use Rattle.trace_report.specs.LostRows.{dropped_row, ended_row, no_answer_row, unfinished_row}
+use Rattle.trace_report.specs.MessageRows.{message_front, note_text, role_words}
+use Rattle.trace_report.specs.Data.{data_text}
 use Rattle.trace_report.specs.declared.contrast.Contrast.{Contrast}
 use Rattle.trace_report.specs.declared.contrast.Contrast.TheVariants as contrast
 use Rattle.trace_report.specs.declared.row.Arrow.TheVariants as arrow
 use Rattle.trace_report.specs.declared.row.MessagePlace.{MessagePlace}
-use Rattle.trace_report.specs.declared.row.MessageRole.{MessageRole}
+use Rattle.trace_report.specs.declared.roles.MessageRole.{MessageRole}
 
 -- the row begins the item of this number
 abbrev pub begins_number : ℕ → RowValue → Bool

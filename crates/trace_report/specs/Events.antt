@@ -2,7 +2,6 @@
 use Rattle.std.specs.Prelude.{ℕ, ◌+◌, Bool, true, false, List, [], ◌∷◌, ◌++◌, Option, Some, None, if◌then◌else◌}
 use Rattle.direction.specs.Dir.{Message}
 use Rattle.direction.specs.declared.Dir.{Dir}
-use Rattle.direction.specs.declared.Dir.TheVariants as dir
 use Rattle.isotp_receive.specs.declared.event.Ended.{Ended}
 use Rattle.isotp_receive.specs.StandingReception.{StandingReception, receptions_after, stands}
 use Rattle.isotp_receive.specs.Trace.{Entry, FrameRole, single, first, consecutive, continue_or_wait, overflow, no_part, role}
@@ -10,16 +9,16 @@ use Rattle.isotp_receive.specs.Verdict.{VerdictValue, EventValue, message, began
 use Rattle.uds_exchange.specs.Judging.{number_after, open_number, step_after}
 use Rattle.uds_exchange.specs.Order.{open_request}
 use Rattle.uds_exchange.specs.declared.step.Step.{Step}
-use Rattle.uds_exchange.specs.declared.step.Step.TheVariants as becomes
-use Rattle.uds_message.specs.Message.{is_keep_alive, is_negative_response, is_suppressing}
+use Rattle.uds_message.specs.Message.{is_suppressing}
 use Rattle.trace_canon.specs.MessageLines.{first_frame, place_of}
 use Rattle.trace_report.specs.Rows.{RowValue}
-use Rattle.trace_report.specs.Rows as row
 use Rattle.trace_report.specs.declared.row.MessagePlace.{MessagePlace}
-use Rattle.trace_report.specs.declared.row.MessageRole.{MessageRole}
-use Rattle.trace_report.specs.declared.row.MessageRole.TheVariants as message_role
+use Rattle.trace_report.specs.Roles.{role_of_step}
+use Rattle.direction.specs.declared.Dir.TheVariants as dir
+use Rattle.uds_exchange.specs.declared.step.Step.TheVariants as becomes
+use Rattle.trace_report.specs.Rows as row
 
--- the message begins an exchange
+-- a message of which this becomes begins an exchange
 abbrev pub is_request_step : Step → Bool
 is_request_step (becomes.Request service) = true
 is_request_step becomes.Answer = false
@@ -27,7 +26,7 @@ is_request_step becomes.Removed = false
 is_request_step becomes.Hold = false
 is_request_step becomes.Pass = false
 
--- the frame e completes a request after the frames T
+-- the frame e completes a request after the frames T, where it does this there
 abbrev pub completes_request_by : ℕ → List Entry → Entry → VerdictValue → Bool
 completes_request_by limit T e (message bytes) = is_request_step (step_after (messages limit T) (e.dir, bytes))
 completes_request_by limit T e began = false
@@ -35,7 +34,7 @@ completes_request_by limit T e stored = false
 completes_request_by limit T e flowed = false
 completes_request_by limit T e (dropped reason) = false
 
--- by what it does there
+-- the frame e completes a request after the frames T
 abbrev pub completes_request : ℕ → List Entry → Entry → Bool
 completes_request limit T e = completes_request_by limit T e (verdict limit T e).verdict
 
@@ -50,28 +49,7 @@ asked_behind limit earlier past (e ∷ rest) =
 abbrev pub asked_in : ℕ → List Entry → ℕ
 asked_in limit T = asked_behind limit 0 [] T
 
--- an answer by its first byte
-abbrev pub answer_role : ℕ → List ℕ → MessageRole
-answer_role asked bytes = if is_negative_response bytes then message_role.Negative asked else message_role.Positive asked
-
--- a message of a tester that belongs to no exchange: the keep-alive, or a stray
-abbrev pub other_tester_role : List ℕ → MessageRole
-other_tester_role bytes = if is_keep_alive bytes then message_role.KeepAlive else message_role.Stray
-
--- of either side
-abbrev pub other_role : Dir → List ℕ → MessageRole
-other_role dir.Tester bytes = other_tester_role bytes
-other_role dir.Unit bytes = message_role.Stray
-
--- what a message is, by what becomes of it, where the last request was complete at the time `asked`
-abbrev pub role_of_step : ℕ → Step → Dir → List ℕ → MessageRole
-role_of_step asked (becomes.Request service) d bytes = message_role.Request
-role_of_step asked becomes.Answer d bytes = answer_role asked bytes
-role_of_step asked becomes.Removed d bytes = message_role.Pending asked
-role_of_step asked becomes.Hold d bytes = other_role d bytes
-role_of_step asked becomes.Pass d bytes = other_role d bytes
-
--- how many frames carry a message that a frame of this role completes, where this stands for its direction
+-- how many frames carry a message that a frame of this role completes, where this reception stands for its direction
 abbrev pub frames_by : Option StandingReception → FrameRole → ℕ
 frames_by standing (single whole) = 1
 frames_by None (consecutive sequence_number can_dl bytes) = 1
@@ -81,7 +59,8 @@ frames_by standing continue_or_wait = 1
 frames_by standing overflow = 1
 frames_by standing no_part = 1
 
--- where a message stands that the frame e completes after the frames T
+-- the place of a message that the frame e completes after the frames T: its item, its first frame and its last one, and how
+-- many carry it
 abbrev pub message_place : ℕ → List Entry → Entry → List ℕ → MessagePlace
 message_place limit T e bytes = record {
   item = number_after (messages limit T) (e.dir, bytes);
@@ -90,31 +69,32 @@ message_place limit T e bytes = record {
   frames = frames_by (stands limit e.dir T) (role e.dir e);
 }
 
--- the row of the request that waits after these messages, if one does: it has no answer
+-- the row that tells that the request of the open exchange has no answer, if one is open after these messages
 abbrev pub waiting_row : List Message → Option (List ℕ) → List RowValue
 waiting_row M None = []
 waiting_row M (Some request) = row.no_answer (open_number M) (is_suppressing request) ∷ []
 
--- of an exchange that ends with these messages
+-- the row that tells that a request has no answer, where these messages end with it unanswered
 abbrev pub closing_rows : List Message → List RowValue
 closing_rows M = waiting_row M (open_request M)
 
--- what closes before a message, where it is a request
+-- the rows that stand before that of a message of which this becomes: a request closes the exchange before it
 abbrev pub rows_before : List Message → Step → List RowValue
 rows_before M step = if is_request_step step then closing_rows M else []
 
--- the row of a message of which this becomes, where M came before it
+-- the rows of a message that the frame e completes after the frames T, and of which this becomes: its own, and what closes
+-- before it
 abbrev pub message_rows : ℕ → List Entry → Entry → List ℕ → Step → List RowValue
 message_rows limit T e bytes step =
     rows_before (messages limit T) step
     ++ row.message (role_of_step (asked_in limit T) step e.dir bytes) e.dir (message_place limit T e bytes) bytes ∷ []
 
--- nothing ended
+-- a frame ended no reception
 abbrev pub ends_nothing : Option Ended → Bool
 ends_nothing None = true
 ends_nothing (Some end) = false
 
--- of what the frame e does after the frames T
+-- the rows that tell what the frame e does after the frames T; links lead to that of a dropped frame where this is said
 abbrev pub verdict_rows : ℕ → List Entry → Entry → Bool → VerdictValue → List RowValue
 verdict_rows limit T e linked (message bytes) = message_rows limit T e bytes (step_after (messages limit T) (e.dir, bytes))
 verdict_rows limit T e linked began = []
@@ -122,12 +102,12 @@ verdict_rows limit T e linked stored = []
 verdict_rows limit T e linked flowed = []
 verdict_rows limit T e linked (dropped reason) = row.dropped (place_of e) e.dir linked reason ∷ []
 
--- of what it ends
+-- the row that tells which reception the frame e ended, if it ended one
 abbrev pub ended_rows : Entry → Option Ended → List RowValue
 ended_rows e None = []
 ended_rows e (Some end) = row.ended (place_of e) end ∷ []
 
--- of both
+-- the rows that tell what the frame e ends and does after the frames T
 abbrev pub event_rows : ℕ → List Entry → Entry → EventValue → List RowValue
 event_rows limit T e event = ended_rows e event.ended ++ verdict_rows limit T e (ends_nothing event.ended) event.verdict
 
@@ -140,16 +120,16 @@ abbrev pub rows_behind : ℕ → List Entry → List Entry → List RowValue
 rows_behind limit past [] = []
 rows_behind limit past (e ∷ rest) = frame_rows limit past e ++ rows_behind limit (past ++ e ∷ []) rest
 
--- the rows of a trace
+-- the rows of a trace, but for those of its end
 abbrev pub rows_of : ℕ → List Entry → List RowValue
 rows_of limit T = rows_behind limit [] T
 
--- of a reception that stands at the end, if one does
+-- the row of a reception that stands at the end of the log, if one does
 abbrev pub standing_row : Dir → Option StandingReception → List RowValue
 standing_row d None = []
 standing_row d (Some begun) = row.unfinished d begun.line begun.len ∷ []
 
--- the rows of the end: the receptions that stand, the tester's first, and the request that waits
+-- the rows of the end of a log: the receptions that stand, the tester's first, and the request that waits
 abbrev pub end_rows : ℕ → List Entry → List RowValue
 end_rows limit T =
     standing_row dir.Tester (receptions_after limit T).tester ++ standing_row dir.Unit (receptions_after limit T).unit

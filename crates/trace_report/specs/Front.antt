@@ -7,7 +7,7 @@ use Rattle.can_log.specs.Canonical.{identifier_text}
 use Rattle.can_log.specs.Digits.{hexadecimal}
 use Rattle.can_log.specs.declared.frame.Id.{Id}
 use Rattle.trace_log.specs.Settings.{Settings}
-use Rattle.trace_report.specs.Words.{is_within}
+use Rattle.trace_report.specs.Letters.{is_within}
 
 -- a byte by its number: % and two digits
 abbrev pub numbered_byte : ℕ → List ℕ
@@ -24,23 +24,23 @@ name_byte b =
     else if b == code "\"" then codes "&quot;" else if b == code "'" then codes "&#39;"
     else plain_byte b
 
--- a name
+-- the name of a log, as a page may hold it
 abbrev pub name_text : List ℕ → List ℕ
 name_text name = flat_map name_byte name
 
 -- What a page is made for: its style, the name of the log, the identifiers, and the limit of the log.
-pub record PageTitle : Type 0 where
+pub record PageTitleValue : Type 0 where
   pub style : List ℕ
   pub name : List ℕ
   pub tester : Id
   pub unit : Id
   pub most : ℕ
 
--- of a log with this name and this configuration
-abbrev pub page_title : List ℕ → List ℕ → Settings → PageTitle
+-- what the page of a log is made for that has this style, this name and this configuration
+abbrev pub page_title : List ℕ → List ℕ → Settings → PageTitleValue
 page_title style name settings = record { style = style; name = name; tester = settings.tester; unit = settings.unit; most = settings.max_bytes }
 
--- nothing may be fetched and nothing may run
+-- the start of each page, by which nothing may be fetched and nothing may run
 abbrev pub page_start : List ℕ
 page_start =
     codes "<!doctype html>\n<html lang=\"en\">\n<head>\n<meta charset=\"utf-8\">\n"
@@ -48,8 +48,8 @@ page_start =
     ++ codes "<meta name=\"color-scheme\" content=\"light dark\">\n"
     ++ codes "<meta http-equiv=\"Content-Security-Policy\" content=\"default-src 'none'; style-src 'unsafe-inline'; base-uri 'none'; form-action 'none'\">\n"
 
--- the head of the page
-abbrev pub head_text : PageTitle → List ℕ
+-- the head of the page of one log: its start, its title, and its style
+abbrev pub head_text : PageTitleValue → List ℕ
 head_text title =
     page_start ++ codes "<title>" ++ name_text title.name ++ codes " - udsnorm report</title>\n<style>\n" ++ title.style
     ++ codes "</style>\n</head>\n<body>\n"
@@ -75,28 +75,29 @@ notice_with verdict middle =
     ++ codes "<p id=\"cut\" role=\"status\" hidden>This page has no end. What wrote it was stopped, or the file was cut, or the page is still loading: it tells nothing of the rest of the session.</p>\n"
     ++ codes "</header>\n"
 
--- of one log: its verdict is written last, which the style alone shows first and hides the word of
+-- the links of the page of one log, and its notice; its verdict is written last, which the style alone shows first and hides
+-- the word of
 abbrev pub notice_text : List ℕ
 notice_text = notice_with (codes "Verdict<span class=\"plain\">, at the end of this page</span>") (codes "Session")
 
--- the two identifiers
+-- the two identifiers of a page, each by the name of its side
 abbrev pub identifiers_text : Id → Id → List ℕ
 identifiers_text tester unit =
     codes "<p class=\"ids\"><span class=\"T\">tester " ++ identifier_text tester ++ codes "</span> <span class=\"U\">unit "
     ++ identifier_text unit ++ codes "</span></p>\n"
 
--- what the page is about, above all else
-abbrev pub header_text : PageTitle → List ℕ
+-- the header of a page: the name of the log, the two identifiers, the links, and the notice
+abbrev pub header_text : PageTitleValue → List ℕ
 header_text title =
     codes "<div class=\"page\">\n<header>\n<p class=\"brand\">udsnorm report</p>\n<h1>" ++ name_text title.name ++ codes "</h1>\n"
     ++ identifiers_text title.tester title.unit ++ notice_text
 
--- where the rows begin, with the filter
+-- the start of the chart of a session, with the filter that shows only what needs attention
 abbrev pub session_start : List ℕ
 session_start =
     codes "<main id=\"session\">\n<h2>Session</h2>\n"
     ++ codes "<p class=\"filter\"><input type=\"checkbox\" id=\"only\"> <label for=\"only\">Show only what needs a look</label></p>\n"
 
--- the front of a page
-abbrev pub front_text : PageTitle → List ℕ
+-- the front of a page of one log: all that stands before its rows
+abbrev pub front_text : PageTitleValue → List ℕ
 front_text title = head_text title ++ shapes_text ++ header_text title ++ session_start

@@ -1,23 +1,23 @@
 -- The end of a report: how to read it, and the sign that it is whole. All of it is fixed.
 use Rattle.std.specs.Prelude.{ℕ, List, ◌++◌, codes}
 
--- its heading
+-- the heading of the help
 abbrev pub help_heading : List ℕ
 help_heading = codes "<footer id=\"help\">\n<h2>How to read this page</h2>\n"
 
--- which times are told
+-- the words of the help on times
 abbrev pub times_words : List ℕ
 times_words =
     codes "Times are in seconds from the first frame of the two identifiers, and those of a message are of its last frame; <i>after</i> is the time from the last frame of the request to the first frame of the reply.</p>\n"
 
--- what a page shows, in words
+-- the words of the help on what the page of one log shows
 abbrev pub help_start : List ℕ
 help_start =
     help_heading
     ++ codes "<p>The left line is the tester, the right line the unit. Each arrow is a message, however many frames carried it, in the order in which the messages were complete. "
     ++ times_words
 
--- and what a page of two logs does
+-- the words of the help on what the page of two logs shows
 abbrev pub pair_help_start : List ℕ
 pair_help_start =
     help_heading
@@ -25,7 +25,7 @@ pair_help_start =
     ++ codes "<p>In a chart the left line is the tester, the right line the unit, and an arrow from one to the other is a message, however many frames carried it, in the order in which the messages were complete. An item has the time of its first message. "
     ++ times_words
 
--- what the rows of an exchange are
+-- the legend of the rows of an exchange
 abbrev pub exchange_legend : List ℕ
 exchange_legend =
     codes "<div class=\"q\"><dt>request</dt><dd>opens an item; its number is that of <code>udsnorm list</code></dd></div>\n"
@@ -35,7 +35,7 @@ exchange_legend =
     ++ codes "<div class=\"m\"><dt>no answer</dt><dd>none came before the next request or the end of the log</dd></div>\n"
     ++ codes "<div class=\"p\"><dt>silent</dt><dd>none came, and the request asked for none</dd></div>\n"
 
--- what the other rows are
+-- the legend of all other rows
 abbrev pub others_legend : List ℕ
 others_legend =
     codes "<div class=\"p\"><dt>keep-alive</dt><dd>3E 80, which wants no answer</dd></div>\n"
@@ -43,28 +43,28 @@ others_legend =
     ++ codes "<div class=\"x\"><dt>dropped</dt><dd>a frame that belongs to no complete message</dd></div>\n"
     ++ codes "<div class=\"x\"><dt>ended, unfinished</dt><dd>a message of which not all frames came</dd></div>\n"
 
--- what each row is
+-- the legend: what each row tells
 abbrev pub legend_text : List ℕ
 legend_text = codes "<dl class=\"legend\">\n" ++ exchange_legend ++ others_legend ++ codes "</dl>\n"
 
--- what it does not show
+-- the words of the help on what a page does not show
 abbrev pub limits_text : List ℕ
 limits_text =
     codes "<p>Frames with other identifiers, padding, the interface, and flow control that is in its place mean nothing here. A message of which no frame was recorded leaves no trace, also in a clean recording. "
     ++ codes "Grey letters after the bytes are those same bytes as text."
 
--- which blocks are folded
+-- the words of the help on blocks that are folded
 abbrev pub blocks_words : List ℕ
 blocks_words = codes " In a long session the first ten blocks are open, and the others folded and brief."
 
--- the end of that, and the sign that the page is whole, which hides the notice of its front
+-- the end of the help, and the sign that the page is whole, which hides the notice of its front
 abbrev pub tail_text : List ℕ
 tail_text = codes "</p>\n</footer>\n</div>\n<p id=\"end\">End of the report.</p>\n</body>\n</html>\n"
 
--- the end of a page
+-- the end of the page of one log
 abbrev pub help_text : List ℕ
 help_text = help_start ++ legend_text ++ limits_text ++ blocks_words ++ tail_text
 
--- of two logs
+-- the end of the page of two logs
 abbrev pub pair_help_text : List ℕ
 pair_help_text = pair_help_start ++ legend_text ++ limits_text ++ tail_text

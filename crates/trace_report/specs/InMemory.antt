@@ -8,43 +8,43 @@ use Rattle.trace_log.specs.Settings.{Settings}
 use Rattle.trace_log.specs.declared.fault.CompareFault.{CompareFault}
 use Rattle.trace_log.specs.declared.fault.CompareFault.TheVariants.{Left, Right}
 use Rattle.trace_log.specs.declared.summary.Summary.{Summary}
-use Rattle.trace_report.specs.Front.{PageTitle}
-use Rattle.trace_report.specs.Held.{HasOwnFrame, HoldsTwo, TwoValue, comparison_in}
+use Rattle.trace_report.specs.Front.{PageTitleValue}
+use Rattle.trace_report.specs.Kept.{HasOwnFrame, KeepsTwo, TwoValue, comparison_in}
 use Rattle.trace_report.specs.Page.{report_script}
 use Rattle.trace_report.specs.PairPage.{PairTitleValue, pair_page}
 use Rattle.trace_report.specs.declared.in_memory.NoPairPage.{NoPairPage}
 use Rattle.trace_report.specs.declared.in_memory.NoPairPage.TheVariants.{OfLog, OfMemory}
 
 -- the log can be read and has these counts, and this is the page with this title
-abbrev pub IsPageWith : PageTitle → ℕ → Settings → List ℕ → List ℕ → Summary → Type 0
+abbrev pub IsPageWith : PageTitleValue → ℕ → Settings → List ℕ → List ℕ → Summary → Type 0
 IsPageWith title limit = IsToldWith (report_script title limit) limit
 
 -- memory is needed to gather a page: each has its front
 abbrev pub NeedsMemoryForPage : ℕ → Settings → List ℕ → Type 0
 NeedsMemoryForPage limit settings log = ⊤
 
--- how two logs compare that are held, and the counts of each
-abbrev pub counted_held : TwoValue → CountedComparison
-counted_held held = record { comparison = comparison_in held; left = held.left.summary; right = held.right.summary }
+-- how two logs compare that are kept, and the counts of each
+abbrev pub counted_two : TwoValue → CountedComparison
+counted_two two = record { comparison = comparison_in two; left = two.left.summary; right = two.right.summary }
 
 -- both logs can be read; this is their page with this title; and so they compare, and these are the counts of each
 abbrev pub IsPairPageWith : PairTitleValue → ℕ → Settings → List ℕ → List ℕ → List ℕ → CountedComparison → Type 0
 IsPairPageWith title limit settings one other text counted =
-    (held : TwoValue) × HoldsTwo limit settings one other (Ok held) × (text ≡ pair_page title (Ok held) None) × (counted ≡ counted_held held)
+    (two : TwoValue) × KeepsTwo limit settings one other (Ok two) × (text ≡ pair_page title (Ok two) None) × (counted ≡ counted_two two)
 
--- memory is needed to hold the log of which a fault tells: it has a frame of one of the two sides
-abbrev pub NeedsMemoryToHold : Settings → List ℕ → List ℕ → CompareFault → Type 0
-NeedsMemoryToHold settings one other (Left fault) = HasOwnFrame settings one
-NeedsMemoryToHold settings one other (Right fault) = HasOwnFrame settings other
+-- memory is needed to keep the log of which a fault tells: it has a frame of one of the two sides
+abbrev pub NeedsMemoryToKeep : Settings → List ℕ → List ℕ → CompareFault → Type 0
+NeedsMemoryToKeep settings one other (Left fault) = HasOwnFrame settings one
+NeedsMemoryToKeep settings one other (Right fault) = HasOwnFrame settings other
 
 -- what both logs say, or why one of them can't be read
-abbrev pub HoldsInMemory : ℕ → Settings → List ℕ → List ℕ → Result TwoValue CompareFault → Type 0
-HoldsInMemory limit settings one other (Ok held) = HoldsTwo limit settings one other (Ok held)
-HoldsInMemory limit settings one other (Err fault) =
-    HoldsTwo limit settings one other (Err fault) × IsOfMemory (NeedsMemoryToHold settings one other fault) (fault_in fault)
+abbrev pub KeepsInMemory : ℕ → Settings → List ℕ → List ℕ → Result TwoValue CompareFault → Type 0
+KeepsInMemory limit settings one other (Ok two) = KeepsTwo limit settings one other (Ok two)
+KeepsInMemory limit settings one other (Err fault) =
+    KeepsTwo limit settings one other (Err fault) × IsOfMemory (NeedsMemoryToKeep settings one other fault) (fault_in fault)
 
 -- two logs have no page: a log can't be read, or memory was refused, which it needs; or, where both can be read, memory
 -- for the page was
 abbrev pub HasNoPairPage : ℕ → Settings → List ℕ → List ℕ → NoPairPage → Type 0
-HasNoPairPage limit settings one other (OfLog fault) = HoldsInMemory limit settings one other (Err fault)
-HasNoPairPage limit settings one other OfMemory = (held : TwoValue) × HoldsTwo limit settings one other (Ok held)
+HasNoPairPage limit settings one other (OfLog fault) = KeepsInMemory limit settings one other (Err fault)
+HasNoPairPage limit settings one other OfMemory = (two : TwoValue) × KeepsTwo limit settings one other (Ok two)

@@ -1,37 +1,27 @@
 -- The items of a session by its rows: each with the message that begins it and its answer, in the order of the numbers that
 -- `udsnorm list` gives them; and the items of two sessions side by side.
-use Rattle.std.specs.Prelude.{ℕ, ◌+◌, ◌-◌, ◌==◌, Bool, true, false, List, [], ◌∷◌, Option, Some, None, option_map, if◌then◌else◌}
+use Rattle.std.specs.Prelude.{ℕ, ◌+◌, ◌-◌, ◌==◌, Bool, false, List, [], ◌∷◌, Option, Some, None, option_map, if◌then◌else◌}
 use Rattle.direction.specs.declared.Dir.{Dir}
 use Rattle.uds_exchange.specs.Meaning.{ItemValue, exchange, stray}
-use Rattle.trace_report.specs.Blocks.{is_request_role}
-use Rattle.trace_report.specs.Rows.{RowValue, message, no_answer, dropped, ended, unfinished, begins_item}
+use Rattle.trace_report.specs.Roles.{is_request_role, begins_item, is_answer_role}
+use Rattle.trace_report.specs.Rows.{RowValue, message, no_answer, dropped, ended, unfinished}
 use Rattle.trace_report.specs.declared.row.MessagePlace.{MessagePlace}
-use Rattle.trace_report.specs.declared.row.MessageRole.{MessageRole}
-use Rattle.trace_report.specs.declared.row.MessageRole.TheVariants as role
+use Rattle.trace_report.specs.declared.roles.MessageRole.{MessageRole}
 
 -- A message of a session: what it is to its item, who sent it, where it stands, and its bytes.
-pub record RowMessage : Type 0 where
+pub record RowMessageValue : Type 0 where
   pub role : MessageRole
   pub dir : Dir
   pub place : MessagePlace
   pub bytes : List ℕ
 
 -- An item: the message that begins it, and its answer, if it has one.
-pub record PlacedItem : Type 0 where
-  pub begin : RowMessage
-  pub answer : Option RowMessage
-
--- the message answers a request
-abbrev pub is_answer_role : MessageRole → Bool
-is_answer_role role.Request = false
-is_answer_role (role.Positive asked) = true
-is_answer_role (role.Negative asked) = true
-is_answer_role (role.Pending asked) = false
-is_answer_role role.KeepAlive = false
-is_answer_role role.Stray = false
+pub record PlacedItemValue : Type 0 where
+  pub begin : RowMessageValue
+  pub answer : Option RowMessageValue
 
 -- the message that a row tells, if it tells one
-abbrev pub message_in : RowValue → Option RowMessage
+abbrev pub message_in : RowValue → Option RowMessageValue
 message_in (message is d place bytes) = Some (record { role = is; dir = d; place = place; bytes = bytes })
 message_in (no_answer number silent) = None
 message_in (dropped place d linked why) = None
@@ -39,52 +29,52 @@ message_in (ended place end) = None
 message_in (unfinished d line len) = None
 
 -- the answer to a request, by the message of the row behind it and by the answer among the rows behind that
-abbrev pub answer_by : Option RowMessage → Option RowMessage → Option RowMessage
+abbrev pub answer_by : Option RowMessageValue → Option RowMessageValue → Option RowMessageValue
 answer_by None later = later
 answer_by (Some sent) later = if is_request_role sent.role then None else if is_answer_role sent.role then Some sent else later
 
 -- the answer to a request among the rows behind it: the first one that stands before the next request
-abbrev pub answer_in : List RowValue → Option RowMessage
+abbrev pub answer_in : List RowValue → Option RowMessageValue
 answer_in [] = None
 answer_in (row ∷ rest) = answer_by (message_in row) (answer_in rest)
 
 -- the answer to a message of this role: only a request has one
-abbrev pub answer_to : MessageRole → List RowValue → Option RowMessage
+abbrev pub answer_to : MessageRole → List RowValue → Option RowMessageValue
 answer_to is rest = if is_request_role is then answer_in rest else None
 
--- the item that a message begins, by the rows behind it
-abbrev pub item_begun : RowMessage → List RowValue → PlacedItem
+-- the item that a message begins, which is answered among the rows behind it, or is not
+abbrev pub item_begun : RowMessageValue → List RowValue → PlacedItemValue
 item_begun begin rest = record { begin = begin; answer = answer_to begin.role rest }
 
--- the message, where it begins an item
-abbrev pub beginning : Option RowMessage → Option RowMessage
+-- this message, where it begins an item
+abbrev pub beginning : Option RowMessageValue → Option RowMessageValue
 beginning None = None
 beginning (Some sent) = if begins_item sent.role then Some sent else None
 
--- the items of rows, by the message with which the first one begins an item, if it does, the others, and the items of those
-abbrev pub items_by : Option RowMessage → List RowValue → List PlacedItem → List PlacedItem
+-- the items of a row and those behind it: that of the message, where the row begins an item with one, and these later ones
+abbrev pub items_by : Option RowMessageValue → List RowValue → List PlacedItemValue → List PlacedItemValue
 items_by None rest later = later
 items_by (Some begin) rest later = item_begun begin rest ∷ later
 
--- the items of these rows
-abbrev pub items_in : List RowValue → List PlacedItem
+-- the items that these rows tell, in order
+abbrev pub items_in : List RowValue → List PlacedItemValue
 items_in [] = []
 items_in (row ∷ rest) = items_by (beginning (message_in row)) rest (items_in rest)
 
 -- what an item is without its places: a request with its answer, or a message of no exchange
-abbrev pub item_value : PlacedItem → ItemValue
+abbrev pub item_value : PlacedItemValue → ItemValue
 item_value item =
-    if is_request_role item.begin.role then exchange item.begin.bytes (option_map (λ (reply : RowMessage). reply.bytes) item.answer)
+    if is_request_role item.begin.role then exchange item.begin.bytes (option_map (λ (reply : RowMessageValue). reply.bytes) item.answer)
     else stray item.begin.dir item.begin.bytes
 
 -- What two sessions have of one number: an item each, or one of them has none.
-pub data ItemPair : Type 0 where
-  both : PlacedItem → PlacedItem → ItemPair
-  only_left : PlacedItem → ItemPair
-  only_right : PlacedItem → ItemPair
+pub data ItemPairValue : Type 0 where
+  both : PlacedItemValue → PlacedItemValue → ItemPairValue
+  only_left : PlacedItemValue → ItemPairValue
+  only_right : PlacedItemValue → ItemPairValue
 
 -- the items of two sessions, number by number
-abbrev pub pairs_of : List PlacedItem → List PlacedItem → List ItemPair
+abbrev pub pairs_of : List PlacedItemValue → List PlacedItemValue → List ItemPairValue
 pairs_of [] [] = []
 pairs_of (a ∷ left) [] = only_left a ∷ pairs_of left []
 pairs_of [] (b ∷ right) = only_right b ∷ pairs_of [] right

@@ -1,7 +1,7 @@
 -- What holds of a page, whatever log it is of.
 use Prim.Native.Char.{code}
 use Rattle.std.specs.Prelude.{◌≡◌, ◌≢◌, ◌↔◌, ℕ, ◌==◌, ◌<◌, ◌^◌, ◌&&◌, not, ◌||◌, Bool, true, ⊤, List, [], ◌∷◌, codes, drop, false, length, map, nat_le, ◌++◌, Option, Some, None, Ok}
-use Rattle.std.specs.List.{AllByRecursion, find, list_any, starts_with}
+use Rattle.std.specs.List.{AllByRecursion, find, list_any}
 use Rattle.can_log.specs.declared.frame.Stamped.{Stamped}
 use Rattle.direction.specs.declared.Dir.{Dir}
 use Rattle.isotp_receive.specs.declared.TheConstants.{MESSAGE_LIMIT}
@@ -18,57 +18,57 @@ use Rattle.trace_canon.specs.declared.comparing.Compared.{Compared}
 use Rattle.trace_report.specs.Blocks.{begins_exchange}
 use Rattle.trace_report.specs.Contrast.{contrast_of_answers, first_contrast}
 use Rattle.trace_report.specs.Difference.{begins_number, rows_around}
-use Rattle.trace_report.specs.Events.{asked_in, completes_request, role_of_step, rows_of}
+use Rattle.trace_report.specs.Events.{asked_in, completes_request, rows_of}
+use Rattle.trace_report.specs.Roles.{role_of_step}
 use Rattle.trace_report.specs.Front.{name_text}
-use Rattle.trace_report.specs.Held.{HoldsTwo, TwoValue, comparison_by, comparison_in}
-use Rattle.trace_report.specs.Items.{RowMessage, PlacedItem, item_value, items_in, pairs_of}
+use Rattle.trace_report.specs.Kept.{KeepsTwo, TwoValue, comparison_by, comparison_in}
+use Rattle.trace_report.specs.Items.{RowMessageValue, PlacedItemValue, item_value, items_in, pairs_of}
 use Rattle.trace_report.specs.Linked.{HasEachTarget, identifiers_in}
+use Rattle.trace_report.specs.Looks.{begins}
 use Rattle.trace_report.specs.Page.{all_rows}
-use Rattle.trace_report.specs.Rows.{RowValue, asked_at, message_row, note_text}
+use Rattle.trace_report.specs.Rows.{RowValue}
+use Rattle.trace_report.specs.Roles.{asked_at}
+use Rattle.trace_report.specs.MessageRows.{message_row, note_text}
 use Rattle.trace_report.specs.Style.{page_style}
-use Rattle.trace_report.specs.Words.{letters}
+use Rattle.trace_report.specs.Letters.{letters}
 use Rattle.trace_report.specs.declared.contrast.Contrast.TheVariants as contrast
 use Rattle.trace_report.specs.declared.contrast.LogName.{LogName}
 use Rattle.trace_report.specs.declared.contrast.LogName.TheVariants.{A, B}
 use Rattle.trace_report.specs.declared.row.MessagePlace.{MessagePlace}
-use Rattle.trace_report.specs.declared.row.MessageRole.{MessageRole}
-use Rattle.trace_report.specs.declared.row.MessageRole.TheVariants as message_role
+use Rattle.trace_report.specs.declared.roles.MessageRole.{MessageRole}
+use Rattle.trace_report.specs.declared.roles.MessageRole.TheVariants as message_role
 
 -- a byte that opens and closes nothing in HTML: printable ASCII, and none of < > " '
 abbrev pub is_harmless : ℕ → Bool
 is_harmless b =
     nat_le (code " ") b && (nat_le b (code "~") && (not (b == code "<") && (not (b == code ">") && (not (b == code "\"") && not (b == code "'")))))
 
--- the text has this front
-abbrev begins_with : List ℕ → List ℕ → Bool
-begins_with front text = starts_with (λ one other. one == other) text front
-
--- the rest of the name that HTML has for one of the five signs, behind its &
+-- the text begins with what HTML has behind the & of one of the five signs
 abbrev pub begins_sign : List ℕ → Bool
 begins_sign text =
-    begins_with (codes "amp;") text || begins_with (codes "lt;") text || begins_with (codes "gt;") text
-    || begins_with (codes "quot;") text || begins_with (codes "#39;") text
+    begins text (codes "amp;") || begins text (codes "lt;") || begins text (codes "gt;")
+    || begins text (codes "quot;") || begins text (codes "#39;")
 
--- each & begins such a name
+-- each & of the text begins one of these names of signs
 abbrev pub is_escaped : List ℕ → Bool
 is_escaped [] = true
 is_escaped (b ∷ rest) = (not (b == code "&") || begins_sign rest) && is_escaped rest
 
--- so is the name of a log on its page, whatever its file is called: its bytes are harmless, and an & stands for a sign
--- alone
+-- the name of a log is harmless on its page, whatever its file is called: its bytes open and close nothing, and an & stands
+-- for a sign alone
 abbrev pub NameIsHarmless : Type 0
 NameIsHarmless = (name : List ℕ) → AllByRecursion (λ b. is_harmless b ≡ true) (name_text name) × (is_escaped (name_text name) ≡ true)
 
--- and so is each letter that is shown for the bytes of a message, of which none is an &
+-- each letter that is shown for the bytes of a message opens and closes nothing, and is no &
 abbrev pub LettersAreHarmless : Type 0
 LettersAreHarmless = (bytes : List ℕ) → AllByRecursion (λ b. (is_harmless b && not (b == code "&")) ≡ true) (letters bytes)
 
--- nor does the style of a page, in which no byte is a <: what would end the element that it stands in begins with that, and
--- so does a comment, which could hide what stands behind it
+-- the style of a page holds no tag, since no byte of it is a <: what would end the element that it stands in begins with that,
+-- and so does a comment, which could hide what stands behind it
 abbrev pub StyleHoldsNoTag : Type 0
 StyleHoldsNoTag = list_any (λ b. b == code "<") page_style ≡ false
 
--- none of these is equal to one behind it
+-- no element of the list is equal to one behind it
 abbrev pub AreDistinct : {X : Type 0} → List X → Type 0
 AreDistinct [] = ⊤
 AreDistinct (x ∷ rest) = AllByRecursion (λ later. x ≢ later) rest × AreDistinct rest
@@ -80,7 +80,8 @@ IdentifiersStandOnce = (settings : Settings) (meanings : List (Option Stamped)) 
     → AreDistinct (identifiers_in (all_rows MESSAGE_LIMIT (trace settings meanings)))
     × AreDistinct (identifiers_in (rows_of MESSAGE_LIMIT (trace settings meanings)))
 
--- and each link of its verdict leads to one of its rows
+-- each link of the verdict of a log leads to one of its rows, on the page of the whole log, and on one that ends where the log
+-- is refused
 abbrev pub LinksHaveTargets : Type 0
 LinksHaveTargets = (settings : Settings) (meanings : List (Option Stamped))
     → HasEachTarget (all_rows MESSAGE_LIMIT (trace settings meanings)) × HasEachTarget (rows_of MESSAGE_LIMIT (trace settings meanings))
@@ -88,20 +89,20 @@ LinksHaveTargets = (settings : Settings) (meanings : List (Option Stamped))
 -- what the page of two sessions says of their items is so: they are the same exactly if their values are, and else
 -- differ first where these do
 abbrev pub ComparisonIsOfItems : Type 0
-ComparisonIsOfItems = (left right : List PlacedItem)
+ComparisonIsOfItems = (left right : List PlacedItemValue)
     → IsFirstDifference (map item_value left) (map item_value right) (difference (comparison_by (first_contrast (pairs_of left right))))
 
 -- the items that the rows of a session tell are what its messages mean, and so those that `list` and `compare` have
 abbrev pub ItemsAreTheMeaning : Type 0
 ItemsAreTheMeaning = (T : List Entry) → map item_value (items_in (all_rows MESSAGE_LIMIT T)) ≡ meaning (messages MESSAGE_LIMIT T)
 
--- so what a page says of two logs is what `compare` answers, where that accepts both
+-- what a page says of two logs is what `compare` answers, where that accepts both
 abbrev pub AgreesWithCompare : Type 0
 AgreesWithCompare = (settings : Settings) (one other : List ℕ) (held : TwoValue) (compared : Compared)
-    → HoldsTwo MESSAGE_LIMIT settings one other (Ok held) → Compares MESSAGE_LIMIT settings one other (Ok compared)
+    → KeepsTwo MESSAGE_LIMIT settings one other (Ok held) → Compares MESSAGE_LIMIT settings one other (Ok compared)
     → comparison_in held ≡ compared.comparison
 
--- the rows around an item, which that page shows of each log, are where it is: the row that begins it is among them, if
+-- the rows around an item, which the page of two logs shows of each, are where it is: the row that begins it is among them, if
 -- the log has one; they are one piece of the log's rows; and behind the first of them no other exchange begins
 abbrev pub RowsAroundHaveTheItem : Type 0
 RowsAroundHaveTheItem = (number : ℕ) (rows : List RowValue)
@@ -114,19 +115,20 @@ abbrev pub NegativeIsNegative : Type 0
 NegativeIsNegative = (asked : ℕ) (d : Dir) (bytes : List ℕ) → (role_of_step asked becomes.Answer d bytes ≡ message_role.Negative asked) ↔ (is_negative_response bytes ≡ true)
 
 -- the answer to an exchange in this one of two logs
-abbrev pub answer_of : LogName → Option RowMessage → Option RowMessage → Option RowMessage
+abbrev pub answer_of : LogName → Option RowMessageValue → Option RowMessageValue → Option RowMessageValue
 answer_of A left right = left
 answer_of B left right = right
 
 -- the log that is said to have no answer to an exchange has none
 abbrev pub UnansweredHasNone : Type 0
-UnansweredHasNone = (left right : Option RowMessage) (log : LogName)
+UnansweredHasNone = (left right : Option RowMessageValue) (log : LogName)
     → contrast_of_answers left right ≡ Some (contrast.Unanswered log) → answer_of log left right ≡ None
 
--- a message in its place, but that its first frame came at this time, or its last one
+-- a message in its place, but that its first frame came at this time
 abbrev pub begun_at : ℕ → MessagePlace → MessagePlace
 begun_at time place = record place { first = record place.first { micros = time } }
 
+-- a message in its place, but that its last frame came at this time
 abbrev pub ended_at : ℕ → MessagePlace → MessagePlace
 ended_at time place = record place { last = record place.last { micros = time } }
 
@@ -139,7 +141,8 @@ TimeIsOfTheLastFrame = (origin time : ℕ) (is : MessageRole) (d : Dir) (place :
 abbrev pub AfterIsToTheFirstFrame : Type 0
 AfterIsToTheFirstFrame = (time count : ℕ) (is : MessageRole) (place : MessagePlace) → note_text is (ended_at time place) count ≡ note_text is place count
 
--- and after the last request that was complete before, each of which is so with its last frame
+-- how long after its request a reply came counts from the last request that was complete before, and each request is so with
+-- its last frame
 abbrev pub AfterIsFromTheLastFrame : Type 0
 AfterIsFromTheLastFrame = (limit : ℕ) (T : List Entry) (e : Entry)
     → (completes_request limit T e ≡ true → asked_in limit (T ++ e ∷ []) ≡ e.micros)

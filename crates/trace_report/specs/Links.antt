@@ -1,84 +1,71 @@
--- What needs a look in a report: for each reason how many rows, and links to the first ten.
+-- What needs attention in a report: for each reason how many rows, and links to the first ten.
 use Rattle.std.specs.Prelude.{ℕ, ◌-◌, ◌==◌, ◌&&◌, Bool, List, [], ◌∷◌, ◌++◌, codes, nat_lt, if◌then◌else◌}
 use Rattle.std.specs.Fmt.{decimal}
 use Rattle.std.specs.List.{flat_map}
 use Rattle.direction.specs.declared.Dir.TheVariants as dir
 use Rattle.trace_report.specs.Sorts.{most_links}
-use Rattle.trace_report.specs.Targets.{identifier, of_item, of_line, of_side}
+use Rattle.trace_report.specs.Targets.{identifier}
 use Rattle.trace_report.specs.declared.counts.SortCounts.{SortCounts}
-use Rattle.trace_report.specs.declared.links.Link.{Link}
-use Rattle.trace_report.specs.declared.links.Link.TheVariants as link
 use Rattle.trace_report.specs.declared.tally.Tally.{Tally}
+use Rattle.trace_report.specs.declared.targets.Target.{Target}
+use Rattle.trace_report.specs.declared.targets.Target.TheVariants as target
 
--- a link to an item
-abbrev pub item_link : ℕ → List ℕ
-item_link number = codes "<a href=\"#" ++ identifier (of_item number) ++ codes "\">item " ++ decimal number ++ codes "</a>"
+-- a link to a place: where it leads, and how it is called
+abbrev pub link_text : Target → List ℕ
+link_text (target.Item number) = codes "<a href=\"#" ++ identifier (target.Item number) ++ codes "\">item " ++ decimal number ++ codes "</a>"
+link_text (target.Line number) = codes "<a href=\"#" ++ identifier (target.Line number) ++ codes "\">line " ++ decimal number ++ codes "</a>"
+link_text (target.Side dir.Tester) = codes "<a href=\"#" ++ identifier (target.Side dir.Tester) ++ codes "\">of the tester</a>"
+link_text (target.Side dir.Unit) = codes "<a href=\"#" ++ identifier (target.Side dir.Unit) ++ codes "\">of the unit</a>"
 
--- a link to a line
-abbrev pub line_link : ℕ → List ℕ
-line_link number = codes "<a href=\"#" ++ identifier (of_line number) ++ codes "\">line " ++ decimal number ++ codes "</a>"
+-- a link to a place behind another link
+abbrev pub link_behind : Target → List ℕ
+link_behind place = codes ", " ++ link_text place
 
--- a link to what stands of a side at the end, by the number of the side
-abbrev pub side_link : ℕ → List ℕ
-side_link number =
-    if number == 0 then codes "<a href=\"#" ++ identifier (of_side dir.Tester) ++ codes "\">of the tester</a>"
-    else codes "<a href=\"#" ++ identifier (of_side dir.Unit) ++ codes "\">of the unit</a>"
+-- links to these places, each behind another link
+abbrev pub links_behind : List Target → List ℕ
+links_behind places = flat_map link_behind places
 
--- a link
-abbrev pub link_text : Link → ℕ → List ℕ
-link_text link.Item target = item_link target
-link_text link.Line target = line_link target
-link_text link.Side target = side_link target
+-- links to these places, with commas between
+abbrev pub links_text : List Target → List ℕ
+links_text [] = []
+links_text (place ∷ rest) = link_text place ++ links_behind rest
 
--- behind another one
-abbrev pub link_behind : Link → ℕ → List ℕ
-link_behind to target = codes ", " ++ link_text to target
-
--- several behind another one
-abbrev pub links_behind : Link → List ℕ → List ℕ
-links_behind to targets = flat_map (link_behind to) targets
-
--- links with commas between
-abbrev pub links_text : Link → List ℕ → List ℕ
-links_text to [] = []
-links_text to (target ∷ rest) = link_text to target ++ links_behind to rest
-
--- so many more there are
+-- so many rows there are besides those that are linked to
 abbrev pub others_text : ℕ → List ℕ
 others_text count = codes " and " ++ decimal count ++ codes " more"
 
--- where there are more than are linked to
+-- how many more rows there are, where there are more than are linked to
 abbrev pub more_text : ℕ → List ℕ
 more_text count = if nat_lt most_links count then others_text (count - most_links) else []
 
--- what needs a look for one reason: how many, and links to the first
-abbrev pub look_entry : List ℕ → Link → ℕ → List ℕ → List ℕ
-look_entry words to count first =
-    codes "<li>" ++ words ++ codes " <b>" ++ decimal count ++ codes "</b>: " ++ links_text to first ++ more_text count ++ codes "\n"
+-- what needs attention for one reason: how many rows, and links to the first
+abbrev pub attention_entry : List ℕ → ℕ → List Target → List ℕ
+attention_entry words count first =
+    codes "<li>" ++ words ++ codes " <b>" ++ decimal count ++ codes "</b>: " ++ links_text first ++ more_text count ++ codes "\n"
 
--- if anything does
-abbrev pub look_line : List ℕ → Link → ℕ → List ℕ → List ℕ
-look_line words to count first = if count == 0 then [] else look_entry words to count first
+-- what needs attention for one reason, if a row does
+abbrev pub attention_line : List ℕ → ℕ → List Target → List ℕ
+attention_line words count first = if count == 0 then [] else attention_entry words count first
 
--- for each reason
-abbrev pub look_lines : Tally → List ℕ
-look_lines tally =
-    look_line (codes "dropped frames") link.Line tally.counts.dropped tally.first.dropped.items
-    ++ look_line (codes "ended early") link.Line tally.counts.ended tally.first.ended.items
-    ++ look_line (codes "unfinished") link.Side tally.counts.unfinished tally.first.unfinished.items
-    ++ look_line (codes "negative answers") link.Item tally.counts.negatives tally.first.negatives.items
-    ++ look_line (codes "without an answer") link.Item tally.counts.unanswered tally.first.unanswered.items
-    ++ look_line (codes "strays") link.Item tally.counts.strays tally.first.strays.items
+-- what needs attention, a line for each reason
+abbrev pub attention_lines : Tally → List ℕ
+attention_lines tally =
+    attention_line (codes "dropped frames") tally.counts.dropped tally.first.dropped.items
+    ++ attention_line (codes "ended early") tally.counts.ended tally.first.ended.items
+    ++ attention_line (codes "unfinished") tally.counts.unfinished tally.first.unfinished.items
+    ++ attention_line (codes "negative answers") tally.counts.negatives tally.first.negatives.items
+    ++ attention_line (codes "without an answer") tally.counts.unanswered tally.first.unanswered.items
+    ++ attention_line (codes "strays") tally.counts.strays tally.first.strays.items
 
--- nothing needs a look
-abbrev pub needs_no_look : SortCounts → Bool
-needs_no_look counts =
+-- no row needs attention, by the counts of their sorts
+abbrev pub needs_no_attention : SortCounts → Bool
+needs_no_attention counts =
     counts.dropped == 0 && (counts.ended == 0 && (counts.unfinished == 0 && (counts.negatives == 0 && (counts.unanswered == 0 && counts.strays == 0))))
 
--- the list of what does
-abbrev pub look_list : Tally → List ℕ
-look_list tally = codes "<ul class=\"look\">\n" ++ look_lines tally ++ codes "</ul>\n"
+-- the list of what needs attention
+abbrev pub attention_list : Tally → List ℕ
+attention_list tally = codes "<ul class=\"look\">\n" ++ attention_lines tally ++ codes "</ul>\n"
 
--- where something does
-abbrev pub look_text : Tally → List ℕ
-look_text tally = if needs_no_look tally.counts then [] else look_list tally
+-- the list of what needs attention, where a row does
+abbrev pub attention_text : Tally → List ℕ
+attention_text tally = if needs_no_attention tally.counts then [] else attention_list tally

@@ -1,6 +1,6 @@
 -- What a file looks like that is no log, by its first bytes.
 use Prim.Native.Char.{code}
-use Rattle.std.specs.Prelude.{ℕ, ◌-◌, ◌==◌, ◌&&◌, ◌||◌, not, nat_le, nat_lt, Bool, List, [], ◌∷◌, ◌++◌, codes, length, slice_index, Option, Some, None, map, if◌then◌else◌}
+use Rattle.std.specs.Prelude.{ℕ, ◌-◌, ◌==◌, ◌&&◌, ◌||◌, not, nat_le, nat_lt, Bool, List, [], ◌∷◌, codes, length, slice_index, Option, Some, None, map, if◌then◌else◌}
 use Rattle.std.specs.List.{find, flat_map, list_any, starts_with}
 use Rattle.trace_report.specs.declared.looks.Look.{Look}
 use Rattle.trace_report.specs.declared.looks.Look.TheVariants as look
@@ -16,16 +16,16 @@ has_at bytes place byte = nat_lt place (length bytes) && (slice_index bytes plac
 
 -- What is known of the files that look so: the first bytes that tell one, each of these alone, what is said of it behind its name,
 -- and what unpacks or reads it, or what else makes a log of it.
-pub record TableRow : Type 0 where
+pub record LookRowValue : Type 0 where
   pub first : List (List ℕ)
   pub words : List ℕ
   pub command : List ℕ
 
--- a row of these
-abbrev pub row : List (List ℕ) → List ℕ → List ℕ → TableRow
-row first words command = record { first = first; words = words; command = command }
+-- a row of the table of looks, with these first bytes, what is said, and what makes a log of it
+abbrev pub known_by : List (List ℕ) → List ℕ → List ℕ → LookRowValue
+known_by first words command = record { first = first; words = words; command = command }
 
--- what reads the files of other tools
+-- what is said of a file that another tool has written: what reads it
 abbrev pub reads : List ℕ
 reads = codes "python3 -m udsnorm reads it"
 
@@ -34,62 +34,62 @@ reads = codes "python3 -m udsnorm reads it"
 -- interface, or one before a stamp; Vector ASC by its date or by what its numbers are; ASAM MDF 4, ended or not; PCAN TRC by a
 -- remark; captures of libpcap in micro- or nanoseconds, of either order, and those of the form pcapng, which begins with a line
 -- feed. The last three looks it takes more to tell.
-abbrev pub row_of : Look → TableRow
-row_of look.Gzip = row ((31 ∷ 139 ∷ []) ∷ []) (codes "looks compressed with gzip") (codes "zcat unpacks it")
-row_of look.Zstandard = row ((40 ∷ 181 ∷ 47 ∷ 253 ∷ []) ∷ []) (codes "looks compressed with zstd") (codes "zstdcat unpacks it")
-row_of look.Xz = row ((253 ∷ 55 ∷ 122 ∷ 88 ∷ 90 ∷ 0 ∷ []) ∷ []) (codes "looks compressed with xz") (codes "xzcat unpacks it")
-row_of look.Bzip2 = row (codes "BZh" ∷ []) (codes "looks compressed with bzip2") (codes "bzcat unpacks it")
-row_of look.Zip = row ((80 ∷ 75 ∷ 3 ∷ 4 ∷ []) ∷ []) (codes "looks like a zip archive") (codes "unzip -p unpacks it")
-row_of look.ByteOrderMark =
-    row ((239 ∷ 187 ∷ 191 ∷ []) ∷ []) (codes "begins with a byte order mark, which an editor has put in front") (codes "save it without")
-row_of look.Utf16 =
-    row ((255 ∷ 254 ∷ []) ∷ (254 ∷ 255 ∷ []) ∷ []) (codes "looks like a text in UTF-16") (codes "iconv -f UTF-16 -t ASCII makes a log of one")
-row_of look.Screen =
-    row (codes "  " ∷ codes " (" ∷ []) (codes "looks like candump's form for the screen")
+abbrev pub look_row : Look → LookRowValue
+look_row look.Gzip = known_by ((0x1F ∷ 0x8B ∷ []) ∷ []) (codes "looks compressed with gzip") (codes "zcat unpacks it")
+look_row look.Zstandard = known_by ((0x28 ∷ 0xB5 ∷ 0x2F ∷ 0xFD ∷ []) ∷ []) (codes "looks compressed with zstd") (codes "zstdcat unpacks it")
+look_row look.Xz = known_by ((0xFD ∷ 0x37 ∷ 0x7A ∷ 0x58 ∷ 0x5A ∷ 0x00 ∷ []) ∷ []) (codes "looks compressed with xz") (codes "xzcat unpacks it")
+look_row look.Bzip2 = known_by (codes "BZh" ∷ []) (codes "looks compressed with bzip2") (codes "bzcat unpacks it")
+look_row look.Zip = known_by ((0x50 ∷ 0x4B ∷ 0x03 ∷ 0x04 ∷ []) ∷ []) (codes "looks like a zip archive") (codes "unzip -p unpacks it")
+look_row look.ByteOrderMark =
+    known_by ((0xEF ∷ 0xBB ∷ 0xBF ∷ []) ∷ []) (codes "begins with a byte order mark, which an editor has put in front") (codes "save it without")
+look_row look.Utf16 =
+    known_by ((0xFF ∷ 0xFE ∷ []) ∷ (0xFE ∷ 0xFF ∷ []) ∷ []) (codes "looks like a text in UTF-16") (codes "iconv -f UTF-16 -t ASCII makes a log of one")
+look_row look.Screen =
+    known_by (codes "  " ∷ codes " (" ∷ []) (codes "looks like candump's form for the screen")
     (codes "python3 -m udsnorm reads it, and candump -l records a log")
-row_of look.Asc = row (codes "date " ∷ codes "base " ∷ []) (codes "looks like a Vector ASC file") reads
-row_of look.Blf = row (codes "LOGG" ∷ []) (codes "looks like a Vector BLF file") reads
-row_of look.Mf4 = row (codes "MDF     4" ∷ codes "UnFinMF 4" ∷ []) (codes "looks like an MF4 file") reads
-row_of look.Trc = row (codes ";" ∷ []) (codes "looks like a PCAN TRC file") reads
-row_of look.Pcap =
-    row ((161 ∷ 178 ∷ 195 ∷ 212 ∷ []) ∷ (212 ∷ 195 ∷ 178 ∷ 161 ∷ []) ∷ (161 ∷ 178 ∷ 60 ∷ 77 ∷ []) ∷ (77 ∷ 60 ∷ 178 ∷ 161 ∷ []) ∷ [])
+look_row look.Asc = known_by (codes "date " ∷ codes "base " ∷ []) (codes "looks like a Vector ASC file") reads
+look_row look.Blf = known_by (codes "LOGG" ∷ []) (codes "looks like a Vector BLF file") reads
+look_row look.Mf4 = known_by (codes "MDF     4" ∷ codes "UnFinMF 4" ∷ []) (codes "looks like an MF4 file") reads
+look_row look.Trc = known_by (codes ";" ∷ []) (codes "looks like a PCAN TRC file") reads
+look_row look.Pcap =
+    known_by ((0xA1 ∷ 0xB2 ∷ 0xC3 ∷ 0xD4 ∷ []) ∷ (0xD4 ∷ 0xC3 ∷ 0xB2 ∷ 0xA1 ∷ []) ∷ (0xA1 ∷ 0xB2 ∷ 0x3C ∷ 0x4D ∷ []) ∷ (0x4D ∷ 0x3C ∷ 0xB2 ∷ 0xA1 ∷ []) ∷ [])
     (codes "looks like a pcap capture") reads
-row_of look.Pcapng = row ((10 ∷ 13 ∷ 13 ∷ 10 ∷ []) ∷ []) (codes "looks like a pcapng capture") reads
-row_of look.Date = row [] (codes "looks like a log whose stamps have a date") reads
-row_of look.Csv = row [] (codes "looks like a CSV file") (codes "python3 -m udsnorm reads those of SavvyCAN and python-can")
-row_of look.Nanoseconds =
-    row [] (codes "looks like a log whose stamps have more than six decimals") (codes "python3 -m udsnorm rounds them")
+look_row look.Pcapng = known_by ((0x0A ∷ 0x0D ∷ 0x0D ∷ 0x0A ∷ []) ∷ []) (codes "looks like a pcapng capture") reads
+look_row look.Date = known_by [] (codes "looks like a log whose stamps have a date") reads
+look_row look.Csv = known_by [] (codes "looks like a CSV file") (codes "python3 -m udsnorm reads those of SavvyCAN and python-can")
+look_row look.Nanoseconds =
+    known_by [] (codes "looks like a log whose stamps have more than six decimals") (codes "python3 -m udsnorm rounds them")
 
--- first bytes, and the look that they tell
+-- a sign: first bytes, and the look that they tell
 abbrev pub Sign : Type 0
 Sign = List ℕ × Look
 
--- the first bytes of a look's row, with it
+-- the signs of a look: each of the first bytes in its row
 abbrev pub signs_of : Look → List Sign
-signs_of look = map (λ first. (first, look)) (row_of look).first
+signs_of look = map (λ first. (first, look)) (look_row look).first
 
--- those of all rows
+-- the signs of all looks that first bytes tell
 abbrev pub signs : List Sign
 signs = flat_map signs_of TOLD
 
--- first bytes tell this look
+-- the first bytes tell this look
 abbrev pub is_told : List ℕ → Look → Bool
-is_told bytes look = list_any (begins bytes) (row_of look).first
+is_told bytes look = list_any (begins bytes) (look_row look).first
 
--- the one look, or else the other
+-- the first of two looks that is one
 abbrev pub or_else : Option Look → Option Look → Option Look
 or_else (Some look) other = Some look
 or_else None other = other
 
--- what first bytes tell
+-- the look that first bytes tell, if they tell one
 abbrev pub look_told : List ℕ → Option Look
 look_told first = find (is_told first) TOLD
 
--- a stamp with a date: a year of four digits, and a hyphen
+-- the bytes begin with a stamp that has a date: a year of four digits, and a hyphen
 abbrev pub is_dated : List ℕ → Bool
 is_dated first = has_at first 0 (code "(") && has_at first 5 (code "-")
 
--- values with commas or semicolons between them, and no stamp in front
+-- the bytes are values with commas or semicolons between them, and no stamp stands in front
 abbrev pub is_table : List ℕ → Bool
 is_table first = not (has_at first 0 (code "(")) && (list_any (λ b. b == code ",") first || list_any (λ b. b == code ";") first)
 

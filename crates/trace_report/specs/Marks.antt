@@ -3,7 +3,7 @@ use Rattle.std.specs.Prelude.{ℕ, ◌+◌, ◌-◌, ◌==◌, List, [], ◌∷�
 use Rattle.std.specs.Fmt.{decimal}
 use Rattle.std.specs.List.{flat_map}
 use Rattle.can_log.specs.Digits.{hexadecimal}
-use Rattle.trace_report.specs.Words.{bytes_behind, most_shown, shown_first}
+use Rattle.trace_report.specs.Data.{bytes_behind, most_shown, shown_first}
 
 -- two digits for a byte, and a blank
 abbrev pub byte_ahead : ℕ → List ℕ

@@ -13,8 +13,8 @@ use Rattle.uds_message.specs.Message.{is_suppressing}
 use Rattle.trace_canon.specs.MessageLines.{placed_behind}
 use Rattle.trace_report.specs.Page.{all_rows}
 use Rattle.trace_report.specs.Rows.{RowValue, message, no_answer, dropped, ended, unfinished}
-use Rattle.trace_report.specs.declared.row.MessageRole.{MessageRole}
-use Rattle.trace_report.specs.declared.row.MessageRole.TheVariants as message_role
+use Rattle.trace_report.specs.declared.roles.MessageRole.{MessageRole}
+use Rattle.trace_report.specs.declared.roles.MessageRole.TheVariants as message_role
 
 -- the item of this number, counted from 1, stands among these, and this holds of it
 abbrev pub HasItem : List ItemValue → ℕ → (ItemValue → Type 0) → Type 0
@@ -25,15 +25,15 @@ HasItem items number Holds =
 abbrev pub IsBegunBy : List ℕ → ItemValue → Type 0
 IsBegunBy request item = (reply : Option (List ℕ)) × (item ≡ exchange request reply)
 
--- it is one that has this answer
+-- the item is an exchange that has this answer
 abbrev pub IsAnsweredBy : List ℕ → ItemValue → Type 0
 IsAnsweredBy reply item = (request : List ℕ) × (item ≡ exchange request (Some reply))
 
--- it is one for whose request this reply is pending
+-- the item is an exchange for whose request this reply is pending
 abbrev pub IsPendingBy : Message → ItemValue → Type 0
 IsPendingBy sent item = (request : List ℕ) × IsBegunBy request item × (is_pending_reply_to request sent ≡ true)
 
--- it is one without an answer, whose request asked for no positive one, or did not
+-- the item is an exchange without an answer, whose request asked for no positive one, or did not
 abbrev pub IsUnanswered : Bool → ItemValue → Type 0
 IsUnanswered silent item = (request : List ℕ) × (item ≡ exchange request None) × (silent ≡ is_suppressing request)
 

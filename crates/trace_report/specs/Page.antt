@@ -6,29 +6,30 @@ use Rattle.trace_report.specs.declared.blocks.Blocks.{Blocks}
 use Rattle.trace_report.specs.declared.cause.RefusalCause.{RefusalCause}
 use Rattle.trace_report.specs.declared.tally.Tally.{Tally}
 use Rattle.trace_log.specs.declared.summary.Summary.{Summary}
-use Rattle.trace_report.specs.Blocks.{block_end, blocks_of, rows_text}
+use Rattle.trace_report.specs.Blocks.{block_end, blocks_of}
+use Rattle.trace_report.specs.Chart.{rows_text}
 use Rattle.trace_report.specs.Causes.{cause_of}
 use Rattle.trace_report.specs.Events.{frame_rows, end_rows, rows_of}
-use Rattle.trace_report.specs.Front.{PageTitle, front_text}
+use Rattle.trace_report.specs.Front.{PageTitleValue, front_text}
 use Rattle.trace_report.specs.Help.{help_text}
 use Rattle.trace_report.specs.Rows.{RowValue}
 use Rattle.trace_report.specs.Sorts.{tally_of}
 use Rattle.trace_report.specs.Verdict.{refused_verdict, stop_line, verdict_text}
 use Rattle.trace_log.specs.declared.fault.Fault.{Fault}
-use Rattle.trace_run.specs.Told.{GlimpseValue, Refusal, Script}
+use Rattle.trace_run.specs.Script.{GlimpseValue, RefusalText, Script}
 
 -- the time of the first frame of a trace; 0 where it has none
 abbrev pub first_time : List Entry → ℕ
 first_time [] = 0
 first_time (e ∷ rest) = e.micros
 
--- the time of its last one
+-- the time of the last frame of a trace; an earlier one where it has none
 abbrev pub last_time : ℕ → List Entry → ℕ
 last_time earlier [] = earlier
 last_time earlier (e ∷ rest) = last_time e.micros rest
 
--- the front of a page stands before its first frame
-abbrev pub front_before : PageTitle → List Entry → List ℕ
+-- what stands before the rows of a frame: before those of the first one the front of the page
+abbrev pub front_before : PageTitleValue → List Entry → List ℕ
 front_before title [] = front_text title
 front_before title (e ∷ rest) = []
 
@@ -36,8 +37,8 @@ front_before title (e ∷ rest) = []
 abbrev pub rows_after : ℕ → ℕ → List Entry → List RowValue → List ℕ
 rows_after limit origin T rows = rows_text origin (blocks_of (rows_of limit T)) rows
 
--- of each frame
-abbrev pub frame_text : PageTitle → ℕ → List Entry → Entry → List ℕ
+-- what is told of the frame e after the frames T: its rows, and before the first frame the front of the page
+abbrev pub frame_text : PageTitleValue → ℕ → List Entry → Entry → List ℕ
 frame_text title limit T e = front_before title T ++ rows_after limit (first_time (T ++ e ∷ [])) T (frame_rows limit T e)
 
 -- all rows of a log that was read to its end
@@ -48,30 +49,30 @@ all_rows limit T = rows_of limit T ++ end_rows limit T
 abbrev pub page_end : Blocks → Tally → Summary → ℕ → ℕ → List ℕ
 page_end blocks tally summary first last = block_end blocks.count ++ codes "</main>\n" ++ verdict_text tally summary first last ++ help_text
 
--- and of the page of a log that is refused
+-- the end of the page of a log that is refused, behind rows that left these blocks and this tally
 abbrev pub refused_end : Fault → Option RefusalCause → Blocks → Tally → Summary → ℕ → ℕ → List ℕ
 refused_end why cause blocks tally summary first last =
     block_end blocks.count ++ stop_line why ++ codes "</main>\n" ++ refused_verdict why cause tally summary first last ++ help_text
 
--- where all rows are these
+-- the end of a page, behind these rows
 abbrev pub page_end_behind : List RowValue → List Entry → Summary → List ℕ
 page_end_behind rows T summary = page_end (blocks_of rows) (tally_of rows) summary (first_time T) (last_time 0 T)
 
 -- what is told at the end of a log
-abbrev pub last_text : PageTitle → ℕ → List Entry → Summary → List ℕ
+abbrev pub last_text : PageTitleValue → ℕ → List Entry → Summary → List ℕ
 last_text title limit T summary =
     front_before title T ++ rows_after limit (first_time T) T (end_rows limit T) ++ page_end_behind (all_rows limit T) T summary
 
 -- what is told where a log is refused for this reason, behind the frames T, with its cause by what is seen of the
 -- source. What is open there is neither unfinished nor without an answer: so no row is told of it.
-abbrev pub refused_text : PageTitle → ℕ → GlimpseValue → Refusal
+abbrev pub refused_text : PageTitleValue → ℕ → GlimpseValue → RefusalText
 refused_text title limit source T summary why =
     front_before title T ++ refused_end why (cause_of why title.most source) (blocks_of (rows_of limit T)) (tally_of (rows_of limit T)) summary (first_time T) (last_time 0 T)
 
--- the script of a report
-abbrev pub report_script : PageTitle → ℕ → Script
+-- what a report tells: of each frame its text, and at the end of the log the last one
+abbrev pub report_script : PageTitleValue → ℕ → Script
 report_script title limit = record { strict = false; word = frame_text title limit; last = last_text title limit }
 
--- nothing is seen of a source
+-- a source of which nothing is seen
 abbrev pub nothing_seen : GlimpseValue
 nothing_seen = record { first = []; is_over = false }

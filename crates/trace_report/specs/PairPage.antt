@@ -14,16 +14,16 @@ use Rattle.trace_report.specs.Contrast.{FirstContrast, contrast_words, first_con
 use Rattle.trace_report.specs.Counts.{counts_text}
 use Rattle.trace_report.specs.Difference.{contrast_chart}
 use Rattle.trace_report.specs.Front.{identifiers_text, name_text, notice_with, page_start, shapes_text}
-use Rattle.trace_report.specs.Held.{TwoValue, pairs_in}
+use Rattle.trace_report.specs.Kept.{TwoValue, pairs_in}
 use Rattle.trace_report.specs.Help.{pair_help_text}
 use Rattle.trace_report.specs.ItemRows.{pair_rows}
-use Rattle.trace_report.specs.Items.{ItemPair}
+use Rattle.trace_report.specs.Items.{ItemPairValue}
 use Rattle.trace_report.specs.Session.{SessionValue}
 use Rattle.trace_report.specs.Sorts.{counts_in}
 use Rattle.trace_log.specs.Summing.{is_clean}
 use Rattle.trace_report.specs.Verdict.{is_called_clean, refusal_words, span_of, unclean_reasons}
 use Rattle.trace_report.specs.declared.cause.RefusalCause.{RefusalCause}
-use Rattle.trace_run.specs.Told.{GlimpseValue}
+use Rattle.trace_run.specs.Script.{GlimpseValue}
 use Rattle.trace_report.specs.declared.contrast.LogName.{LogName}
 use Rattle.trace_report.specs.declared.contrast.LogName.TheVariants.{A, B}
 use Rattle.trace_report.specs.declared.pair_page.PairTitle.{PairTitle}
@@ -144,16 +144,16 @@ sessions_text title held =
 -- The items.
 
 -- the items of two sessions that are the same
-abbrev pub same_items : TwoValue → List ItemPair → List ℕ
+abbrev pub same_items : TwoValue → List ItemPairValue → List ℕ
 same_items held pairs = codes "<h2>Items</h2>\n" ++ pair_rows false held.left.first held.right.first 0 1 pairs
 
 -- the rows of so many items before the first difference
-abbrev pub rows_to_difference : TwoValue → ℕ → List ItemPair → List ℕ
+abbrev pub rows_to_difference : TwoValue → ℕ → List ItemPairValue → List ℕ
 rows_to_difference held count pairs =
     if count == 0 then codes "<p>Nothing: the first item differs.</p>\n" else pair_rows false held.left.first held.right.first 0 1 (take count pairs)
 
 -- what stands before it
-abbrev pub items_before : TwoValue → ℕ → List ItemPair → List ℕ
+abbrev pub items_before : TwoValue → ℕ → List ItemPairValue → List ℕ
 items_before held count pairs = codes "<h2>Before the difference</h2>\n" ++ rows_to_difference held count pairs
 
 -- a side of the difference
@@ -170,24 +170,24 @@ difference_text title held first =
     ++ contrast_side B title.right first held.right ++ codes "</div>\n</section>\n"
 
 -- what stands behind it, from the item of this number on
-abbrev pub later_items : TwoValue → ℕ → List ItemPair → List ℕ
+abbrev pub later_items : TwoValue → ℕ → List ItemPairValue → List ℕ
 later_items held number pairs =
     codes "<h2>After the difference</h2>\n<p>Items of the same number, side by side. Where one session has an item more or less, none below it need fit.</p>\n"
     ++ pair_rows true held.left.first held.right.first 0 number pairs
 
 -- where there are items
-abbrev pub items_after : TwoValue → ℕ → List ItemPair → List ℕ
+abbrev pub items_after : TwoValue → ℕ → List ItemPairValue → List ℕ
 items_after held number [] = []
 items_after held number (pair ∷ rest) = later_items held number (pair ∷ rest)
 
 -- all items, by the first difference
-abbrev pub items_text : PairTitleValue → TwoValue → List ItemPair → Option FirstContrast → List ℕ
+abbrev pub items_text : PairTitleValue → TwoValue → List ItemPairValue → Option FirstContrast → List ℕ
 items_text title held pairs None = same_items held pairs
 items_text title held pairs (Some first) =
     items_before held first.before pairs ++ difference_text title held first ++ items_after held (first.before + 2) (drop (first.before + 1) pairs)
 
 -- the page behind its front
-abbrev pub pair_body : PairTitleValue → TwoValue → List ItemPair → Option FirstContrast → List ℕ
+abbrev pub pair_body : PairTitleValue → TwoValue → List ItemPairValue → Option FirstContrast → List ℕ
 pair_body title held pairs first =
     verdict_by (look_exchanged_in held) (length pairs) first ++ sessions_text title held ++ codes "<main id=\"session\">\n" ++ items_text title held pairs first ++ codes "</main>\n"
     ++ pair_help_text

@@ -12,6 +12,6 @@ pub record SessionValue : Type 0 where
   pub first : ℕ
   pub last : ℕ
 
--- of a trace with these counts
+-- what a log says that means this trace and has these counts
 abbrev pub session_of : ℕ → List Entry → Summary → SessionValue
 session_of limit T summary = record { rows = all_rows limit T; summary = summary; first = first_time T; last = last_time 0 T }

@@ -2,18 +2,18 @@
 use Rattle.std.specs.Prelude.{ℕ, ◌==◌, Bool, true, false, List, [], ◌∷◌, length, take, if◌then◌else◌}
 use Rattle.std.specs.List.{flat_map}
 use Rattle.arrayvec.specs.ArrayVec.{ArrayVec}
-use Rattle.direction.specs.declared.Dir.{Dir}
-use Rattle.direction.specs.declared.Dir.TheVariants as dir
 use Rattle.trace_report.specs.Rows.{RowValue, message, no_answer, dropped, ended, unfinished}
 use Rattle.trace_report.specs.declared.counts.SortCounts.{SortCounts}
-use Rattle.trace_report.specs.declared.row.MessageRole.{MessageRole}
-use Rattle.trace_report.specs.declared.row.MessageRole.TheVariants as role
+use Rattle.trace_report.specs.declared.roles.MessageRole.{MessageRole}
+use Rattle.trace_report.specs.declared.roles.MessageRole.TheVariants as role
 use Rattle.trace_report.specs.declared.sorts.Sort.{Sort}
 use Rattle.trace_report.specs.declared.sorts.Sort.TheVariants as sort
 use Rattle.trace_report.specs.declared.tally.FirstTargets.{FirstTargets}
 use Rattle.trace_report.specs.declared.tally.Tally.{Tally}
+use Rattle.trace_report.specs.declared.targets.Target.{Target}
+use Rattle.trace_report.specs.declared.targets.Target.TheVariants as target
 
--- the sort of a message
+-- the sort of the row of a message of this role
 abbrev pub sort_of_role : MessageRole → Sort
 sort_of_role role.Request = sort.Requests
 sort_of_role (role.Positive asked) = sort.Positives
@@ -22,7 +22,25 @@ sort_of_role (role.Pending asked) = sort.Pendings
 sort_of_role role.KeepAlive = sort.KeepAlives
 sort_of_role role.Stray = sort.Strays
 
--- the sort of an item without an answer
+-- rows of this sort need attention: a page links to the first of them, and its filter hides each exchange without one
+abbrev pub needs_attention : Sort → Bool
+needs_attention sort.Requests = false
+needs_attention sort.Positives = false
+needs_attention sort.Negatives = true
+needs_attention sort.Pendings = false
+needs_attention sort.KeepAlives = false
+needs_attention sort.Strays = true
+needs_attention sort.Unanswered = true
+needs_attention sort.Silent = false
+needs_attention sort.Dropped = true
+needs_attention sort.Ended = true
+needs_attention sort.Unfinished = true
+
+-- a message of this role needs attention
+abbrev pub message_needs_attention : MessageRole → Bool
+message_needs_attention is = needs_attention (sort_of_role is)
+
+-- the sort of the row of an item without an answer, which asked for no positive one or did
 abbrev pub sort_of_silence : Bool → Sort
 sort_of_silence true = sort.Silent
 sort_of_silence false = sort.Unanswered
@@ -49,37 +67,32 @@ rank sort.Dropped = 8
 rank sort.Ended = 9
 rank sort.Unfinished = 10
 
--- a row is of this sort
+-- the row is of this sort
 abbrev pub is_of : Sort → RowValue → Bool
 is_of kind row = rank kind == rank (sort_of row)
 
--- the number by which a link names a side
-abbrev pub side_number : Dir → ℕ
-side_number dir.Tester = 0
-side_number dir.Unit = 1
+-- where a link to a row leads: to its item or to its line, or to what stands of its side
+abbrev pub target_of : RowValue → Target
+target_of (message is d place bytes) = target.Item place.item
+target_of (no_answer number asked) = target.Item number
+target_of (dropped place d linked why) = target.Line place.line
+target_of (ended place end) = target.Line place.line
+target_of (unfinished d line len) = target.Side d
 
--- where a link to a row leads: to the number of its item or to its line, or to its side
-abbrev pub target_of : RowValue → ℕ
-target_of (message is d place bytes) = place.item
-target_of (no_answer number asked) = number
-target_of (dropped place d linked why) = place.line
-target_of (ended place end) = place.line
-target_of (unfinished d line len) = side_number d
-
--- the targets of the rows of a sort, in order
-abbrev pub targets_of : Sort → List RowValue → List ℕ
+-- the places to which links to the rows of a sort lead, in order
+abbrev pub targets_of : Sort → List RowValue → List Target
 targets_of kind rows = flat_map (λ row. if is_of kind row then target_of row ∷ [] else []) rows
 
--- how many there are
+-- how many of these rows are of this sort
 abbrev pub count_of : Sort → List RowValue → ℕ
 count_of kind rows = length (targets_of kind rows)
 
--- so many are linked to
+-- so many rows of a sort are linked to at the most
 abbrev pub most_links : ℕ
 most_links = 10
 
--- the first of them
-abbrev pub first_of : Sort → List RowValue → ArrayVec ℕ
+-- the places to which links lead to the first rows of a sort
+abbrev pub first_of : Sort → List RowValue → ArrayVec Target
 first_of kind rows = record { items = take most_links (targets_of kind rows) }
 
 -- how many rows there are of each sort
@@ -98,7 +111,7 @@ counts_in rows = record {
   unfinished = count_of sort.Unfinished rows;
 }
 
--- of each sort that needs a look
+-- of each sort that needs attention the places to which links to its first rows lead
 abbrev pub first_targets : List RowValue → FirstTargets
 first_targets rows = record {
   dropped = first_of sort.Dropped rows;
@@ -109,6 +122,6 @@ first_targets rows = record {
   strays = first_of sort.Strays rows;
 }
 
--- both: all that the verdict of a report has of its rows
+-- all that the verdict of a report has of its rows: how many there are of each sort, and where links to the first of them lead
 abbrev pub tally_of : List RowValue → Tally
 tally_of rows = record { counts = counts_in rows; first = first_targets rows }

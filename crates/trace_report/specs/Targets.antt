@@ -3,23 +3,16 @@ use Rattle.std.specs.Prelude.{ℕ, List, ◌++◌, codes}
 use Rattle.std.specs.Fmt.{decimal}
 use Rattle.direction.specs.declared.Dir.{Dir}
 use Rattle.direction.specs.declared.Dir.TheVariants as dir
+use Rattle.trace_report.specs.declared.targets.Target.{Target}
+use Rattle.trace_report.specs.declared.targets.Target.TheVariants as target
 
--- A place to which links lead.
-pub data Target : Type 0 where
-  -- the row that begins the item of this number
-  of_item : ℕ → Target
-  -- the first row of the frame in this line of the log
-  of_line : ℕ → Target
-  -- the row of what stands of this side at the end of the log
-  of_side : Dir → Target
-
--- the letter of a side
+-- the letter of a side, in identifiers and in classes of the style
 abbrev pub side_text : Dir → List ℕ
 side_text dir.Tester = codes "t"
 side_text dir.Unit = codes "u"
 
--- the identifier of a place
+-- the identifier of a place on the page
 abbrev pub identifier : Target → List ℕ
-identifier (of_item number) = codes "i" ++ decimal number
-identifier (of_line number) = codes "l" ++ decimal number
-identifier (of_side d) = codes "e" ++ side_text d
+identifier (target.Item number) = codes "i" ++ decimal number
+identifier (target.Line number) = codes "l" ++ decimal number
+identifier (target.Side d) = codes "e" ++ side_text d

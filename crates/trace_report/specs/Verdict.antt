@@ -1,12 +1,12 @@
--- The verdict of a report: whether the recording is clean, what needs a look, and all counts. It is known at the end,
+-- The verdict of a report: whether the recording is clean, what needs attention, and all counts. It is known at the end,
 -- and written there; the style shows it first.
 use Rattle.std.specs.Fmt.{decimal}
 use Rattle.std.specs.Prelude.{ℕ, ◌==◌, ◌&&◌, ◌||◌, not, Bool, List, [], ◌++◌, codes, Option, if◌then◌else◌}
 use Rattle.trace_text.specs.Words.{stamp_text}
 use Rattle.trace_report.specs.Causes.{cause_line}
 use Rattle.trace_report.specs.Counts.{counts_text}
-use Rattle.trace_report.specs.Links.{look_text}
-use Rattle.trace_report.specs.Words.{seconds_between}
+use Rattle.trace_report.specs.Links.{attention_text}
+use Rattle.trace_report.specs.Durations.{seconds_between}
 use Rattle.trace_log.specs.Summing.{is_clean, lacks_line_feed}
 use Rattle.trace_report.specs.declared.cause.RefusalCause.{RefusalCause}
 use Rattle.trace_report.specs.declared.counts.SortCounts.{SortCounts}
@@ -15,39 +15,39 @@ use Rattle.trace_log.specs.declared.fault.Fault.{Fault}
 use Rattle.trace_log.specs.declared.fault.Fault.TheVariants as fault
 use Rattle.trace_log.specs.declared.summary.Summary.{Summary}
 
--- a text, where it is so
+-- a text, where what it says is so
 abbrev pub clause : Bool → List ℕ → List ℕ
 clause holds text = if holds then text else []
 
--- from when to when
+-- the words of a verdict on the time that a log spans, from the first frame to the last one
 abbrev pub span_text : ℕ → ℕ → List ℕ
 span_text first last =
     codes "<p class=\"span\">First frame at " ++ stamp_text first ++ codes ", last at " ++ stamp_text last ++ codes " by the clock of the log: "
     ++ seconds_between first last ++ codes " s.</p>\n"
 
--- where there are frames
+-- the time that a log of so many frames spans, where it has frames
 abbrev pub span_of : ℕ → ℕ → ℕ → List ℕ
 span_of frames first last = if frames == 0 then [] else span_text first last
 
--- nothing of the two sides is known to be missing
+-- the heading of a clean recording: nothing of the two sides is known to be missing
 abbrev pub clean_verdict : List ℕ
 clean_verdict =
     codes "<section id=\"verdict\" class=\"good\">\n<h2><span aria-hidden=\"true\">&#10003;</span> The recording is clean</h2>\n"
     ++ codes "<p>No frame of the two identifiers was dropped, and no message is in part."
 
--- something is
+-- the heading of a recording of which something is known to be missing
 abbrev pub unclean_start : List ℕ
 unclean_start = codes "<section id=\"verdict\" class=\"warn\">\n<h2><span aria-hidden=\"true\">!</span> The recording is not clean</h2>\n<p>"
 
--- no frame is of the two sides
+-- the heading of a log in which no frame is of the two sides
 abbrev pub empty_start : List ℕ
 empty_start = codes "<section id=\"verdict\" class=\"warn\">\n<h2><span aria-hidden=\"true\">!</span> No frame of the tester or the unit</h2>\n<p>"
 
--- tester and unit look exchanged
+-- the heading of a clean recording of which tester and unit look exchanged
 abbrev pub exchanged_start : List ℕ
 exchanged_start = codes "<section id=\"verdict\" class=\"warn\">\n<h2><span aria-hidden=\"true\">!</span> Tester and unit look exchanged</h2>\n<p>"
 
--- and the recording is not clean, either
+-- the heading of a recording that is not clean, and of which tester and unit look exchanged
 abbrev pub unclean_exchanged_start : List ℕ
 unclean_exchanged_start =
     codes "<section id=\"verdict\" class=\"warn\">\n<h2><span aria-hidden=\"true\">!</span> The recording is not clean, and tester and unit look exchanged</h2>\n<p>"
@@ -56,23 +56,23 @@ unclean_exchanged_start =
 abbrev pub is_called_clean : Summary → Bool
 is_called_clean summary = is_clean summary && not summary.looks_exchanged
 
--- of what was recorded something is in part
+-- something of what was recorded is in part
 abbrev pub is_partial : Summary → Bool
 is_partial summary = not (summary.dropped == 0) || (not (summary.ended == 0) || not (summary.unfinished == 0))
 
--- what was lost of its frames, in the words that `--strict` tells it
+-- what was lost of the frames of a recording, in the words that `--strict` tells it
 abbrev pub lost_words : Summary → List ℕ
 lost_words summary =
     codes "<em>frames " ++ decimal summary.frames ++ codes " dropped " ++ decimal summary.dropped ++ codes " ended " ++ decimal summary.ended
     ++ codes " unfinished " ++ decimal summary.unfinished
 
--- and what it lacks, in those words
+-- what a recording lacks, in the words that `--strict` tells it
 abbrev pub lacking_words : Summary → List ℕ
 lacking_words summary =
     clause (summary.tester_frames == 0) (codes ", no frame of the tester") ++ clause (summary.unit_frames == 0) (codes ", no frame of the unit")
     ++ clause (lacks_line_feed summary) (codes ", no line feed at the end") ++ codes ".</em>"
 
--- both
+-- what was lost of a recording and what it lacks, in the words that `--strict` tells it
 abbrev pub strict_words : Summary → List ℕ
 strict_words summary = lost_words summary ++ lacking_words summary
 
@@ -88,7 +88,7 @@ exchanged_words summary =
     clause (not (is_clean summary)) (codes " ")
     ++ codes "No message is a request: the tester sent responses, and the unit messages that are none. See <code>--tester</code> and <code>--unit</code>."
 
--- what that means for the messages below
+-- what it means for the messages of a page that a recording is not called clean
 abbrev pub meaning_words : Summary → List ℕ
 meaning_words summary =
     clause (is_partial summary) (codes " Frames are missing, late, out of order or of no legal form. Messages that they belonged to are not below.")
@@ -106,11 +106,11 @@ start_by summary =
     if summary.frames == 0 then empty_start
     else if summary.looks_exchanged then (if is_clean summary then exchanged_start else unclean_exchanged_start) else unclean_start
 
--- each reason, with that
+-- the heading of a recording that is not called clean, and each reason
 abbrev pub unclean_verdict : Summary → List ℕ
 unclean_verdict summary = start_by summary ++ unclean_reasons summary
 
--- the heading, and its sentences
+-- the heading of the verdict of a log that is read to its end, and its sentences
 abbrev pub heading_text : Summary → List ℕ
 heading_text summary = if is_called_clean summary then clean_verdict else unclean_verdict summary
 
@@ -121,26 +121,26 @@ answers_text asked refused missing =
     else if refused == 0 && missing == 0 then codes " No answer is negative, and none is missing."
     else codes " Not every request has a positive answer."
 
--- by the counts
+-- whether each answer is positive, by the counts of the rows
 abbrev pub answers_of : SortCounts → List ℕ
 answers_of counts = answers_text counts.requests counts.negatives counts.unanswered
 
 -- what was found of a log with this tally, whose first frame and last one have these times
 abbrev pub findings_text : Tally → Summary → ℕ → ℕ → List ℕ
 findings_text tally summary first last =
-    look_text tally ++ counts_text tally.counts summary ++ span_of summary.frames first last ++ codes "</section>\n"
+    attention_text tally ++ counts_text tally.counts summary ++ span_of summary.frames first last ++ codes "</section>\n"
 
--- the verdict of such a log
+-- the verdict of a log with this tally, whose first frame and last one have these times
 abbrev pub verdict_text : Tally → Summary → ℕ → ℕ → List ℕ
 verdict_text tally summary first last = heading_text summary ++ answers_of tally.counts ++ codes "</p>\n" ++ findings_text tally summary first last
 
 -- A log that is refused.
 
--- a place that no log can have
+-- why a log is refused whose bytes no log can have in this place
 abbrev pub place_words : ℕ → ℕ → List ℕ
 place_words line column = codes "line " ++ decimal line ++ codes " column " ++ decimal column ++ codes ": not a log line"
 
--- why it is refused, as the program tells it; no other reason is told on a page
+-- why a log is refused, as the program tells it; no other reason is told on a page
 abbrev pub refusal_words : Fault → List ℕ
 refusal_words (fault.BadLine line column) = place_words line column
 refusal_words fault.LogLimit = codes "log longer than the limit"
@@ -150,11 +150,11 @@ refusal_words fault.Read = []
 refusal_words fault.Write = []
 refusal_words fault.Memory = []
 
--- where its rows stop
+-- the line behind the rows of a log that is refused: why they stop there
 abbrev pub stop_line : Fault → List ℕ
 stop_line why = codes "<p class=\"stop\"><b>Refused here:</b> " ++ refusal_words why ++ codes ".</p>\n"
 
--- the heading, its sentences, and the cause, where there is one
+-- the heading of the verdict of a log that is refused, its sentences, and the cause, where there is one
 abbrev pub refused_heading : Fault → Option RefusalCause → List ℕ
 refused_heading why cause =
     codes "<section id=\"verdict\" class=\"bad\">\n<h2><span aria-hidden=\"true\">&#10005;</span> The log is refused</h2>\n<p><em>"

@@ -3,20 +3,21 @@ ghost use Rattle.std.specs.Prelude.{◌≡◌, ◌^◌, ◌-◌, ◌<◌, ◌||�
 ghost use Rattle.trace_report.specs.Blocks as Spec;
 ghost use Rattle.trace_report.specs.proving.Pages.{row_of};
 
-use crate::row::{MessagePlace, MessageRole, Row};
-use crate::words::Seconds;
+use crate::durations::Seconds;
+use crate::roles::is_request_role;
+use crate::row::{MessagePlace, Row};
 use text_parts::{Either, Part, When, say};
 use trace_canon::reception_starts::FramePlace;
 use trace_io::TextSink;
 use trace_text::Number;
 
-/// A request closes a block that has this many rows.
+/// A block of so many rows ends before the next request.
 pub(crate) const FULL_BLOCK: u64 = 200;
 
-/// Any row closes one that has so many.
+/// A block of so many rows ends before any row.
 const LARGEST_BLOCK: u64 = 1000;
 
-/// So many blocks are open.
+/// So many blocks, the first ones, are written open.
 const OPEN_BLOCKS: u64 = 10;
 
 /// How many blocks stand, and how many rows the last of them has.
@@ -41,20 +42,6 @@ pub(crate) fn begins_exchange(row: Row<'_>) -> bool
         Row::Message { role, .. } => is_request_role(role),
         Row::NoAnswer { .. } | Row::Dropped { .. } | Row::Ended { .. } | Row::Unfinished { .. } =>
             false,
-    }
-}
-
-/// Whether a message begins one.
-pub fn is_request_role(role: MessageRole) -> bool
-    ensures { result ≡ Spec.is_request_role role }
-{
-    match role {
-        MessageRole::Request => true,
-        MessageRole::Positive { .. }
-        | MessageRole::Negative { .. }
-        | MessageRole::Pending { .. }
-        | MessageRole::KeepAlive
-        | MessageRole::Stray => false,
     }
 }
 
@@ -185,7 +172,7 @@ impl Part for BlockEnd {
     }
 }
 
-/// The header of a chart.
+/// The head of a table of rows: the names of its columns.
 #[derive(Clone, Copy)]
 pub struct ChartHead;
 
@@ -226,7 +213,7 @@ impl<'a> Part for BlockTitle<'a> {
     }
 }
 
-/// The title of a block that begins with a message.
+/// The title of a block that begins with the row of a message.
 #[derive(Clone, Copy)]
 struct MessageTitle(u64, MessagePlace);
 
@@ -251,7 +238,7 @@ impl Part for MessageTitle {
     }
 }
 
-/// The title of one that begins with a frame.
+/// The title of a block that begins with the row of a frame.
 #[derive(Clone, Copy)]
 struct FromPlace(u64, FramePlace);
 

@@ -1,19 +1,19 @@
 //! The rows of messages in blocks that are folded at first: one line of words each, without a shape.
-ghost use Rattle.std.specs.Prelude.{◌≡◌};
-ghost use Rattle.trace_report.specs.Rows.{brief_message};
-ghost use Rattle.trace_report.specs.Rows as Spec;
+ghost use Rattle.trace_report.specs.BriefRows.{brief_message};
 
 use crate::cells::Side;
+use crate::data::BriefData;
 use crate::message_rows::{After, MessageFront, say_message_row};
-use crate::row::{MessagePlace, MessageRole};
-use crate::words::BriefData;
+use crate::roles::MessageRole;
+use crate::row::MessagePlace;
+use crate::sorts::message_needs_attention;
 use direction::Dir;
 use text_parts::{Part, say};
 use trace_io::TextSink;
 use trace_text::Service;
 use uds_message::sid;
 
-/// Says the row of a message in a block of brief rows: what needs a look has its full row there, too.
+/// Says the row of a message in a block of brief rows: what needs attention has its full row there, too.
 pub(crate) fn say_brief_message<S: TextSink>(
     origin: u64,
     role: MessageRole,
@@ -24,7 +24,7 @@ pub(crate) fn say_brief_message<S: TextSink>(
 )
     ensures { S.says out.old (brief_message origin role dir place message.now) out.new }
 {
-    if needs_look(role) {
+    if message_needs_attention(role) {
         say_message_row(origin, role, dir, place, message, out);
     } else {
         let words = BriefWords {
@@ -51,20 +51,7 @@ pub(crate) fn say_brief_message<S: TextSink>(
     }
 }
 
-/// Whether a message needs a look.
-fn needs_look(role: MessageRole) -> bool
-    ensures { result ≡ Spec.needs_look role }
-{
-    match role {
-        MessageRole::Negative { .. } | MessageRole::Stray => true,
-        MessageRole::Request
-        | MessageRole::Positive { .. }
-        | MessageRole::Pending { .. }
-        | MessageRole::KeepAlive => false,
-    }
-}
-
-/// The words of a brief row, of a message that needs no look.
+/// The words of a brief row, of a message that needs no attention.
 #[derive(Clone, Copy)]
 struct BriefWords<'a> {
     role: MessageRole,
@@ -73,7 +60,7 @@ struct BriefWords<'a> {
 }
 
 impl<'a> Part for BriefWords<'a> {
-    ghost use Rattle.trace_report.specs.Rows.{brief_words};
+    ghost use Rattle.trace_report.specs.BriefRows.{brief_words};
 
     ghost text = { λ words. brief_words words.role words.first words.message.now };
 

@@ -4,7 +4,7 @@ ghost use Rattle.trace_report.specs.Causes.{row_value};
 ghost use Rattle.trace_report.specs.Causes as Spec;
 ghost use Rattle.trace_run.specs.Seen.{glimpse_value};
 
-use crate::looks::{Look, lacks_stamp, look_of, row_of};
+use crate::looks::{Look, lacks_stamp, look_of, look_row};
 use text_parts::{Part, When, say};
 use trace_io::TextSink;
 use trace_log::{Fault, LARGEST_LIMIT};
@@ -113,11 +113,11 @@ pub fn row_of_cause(cause: RefusalCause) -> CauseRow
     }
 }
 
-/// The row of a log that looks so.
+/// What is said of a log that looks like something else.
 fn row_of_look(look: Look) -> CauseRow
     ensures { row_value result ≡ Spec.row_of_cause (RefusalCause.Looks look) }
 {
-    let row = row_of(look);
+    let row = look_row(look);
     CauseRow {
         before: "",
         number: None,

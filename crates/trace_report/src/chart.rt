@@ -1,15 +1,21 @@
 //! The chart of a page, as far as its rows were said.
 ghost use Rattle.std.specs.Prelude.{◌≡◌, ◌^◌, ◌<◌, ◌-◌, List, [], ◌∷◌, ◌++◌, length};
-ghost use Rattle.trace_report.specs.Blocks.{blocks_of, rows_text};
+ghost use Rattle.trace_report.specs.Blocks.{blocks_behind, blocks_of};
+ghost use Rattle.trace_report.specs.Chart.{message_text, row_text, rows_text};
 ghost use Rattle.trace_report.specs.Rows.{RowValue};
 ghost use Rattle.trace_report.specs.proving.Following.{IsChartOf, row_if, rows_in};
 ghost use Rattle.trace_report.specs.proving.Pages.{row_of};
 
-use crate::blocks::{Blocks, no_blocks};
+use crate::blocks::{Blocks, Opening, begins_exchange, is_brief, no_blocks, one_more_row};
+use crate::brief_rows::say_brief_message;
 use crate::follower::NewRows;
-use crate::row::Row;
-use crate::rows::say_next_row;
+use crate::lost_rows::{say_dropped_row, say_ended_row, say_no_answer_row, say_unfinished_row};
+use crate::message_rows::say_message_row;
+use crate::roles::MessageRole;
+use crate::row::{MessagePlace, Row};
 use crate::tally::Tally;
+use direction::Dir;
+use text_parts::say;
 use trace_io::TextSink;
 
 /// The blocks of the rows that were said, and what the verdict needs of them.
@@ -53,5 +59,62 @@ impl Chart {
             say_next_row(origin, &mut self.blocks, row, out);
             self.tally.take(row);
         }
+    }
+}
+
+/// Says a row behind those before, and what begins before it.
+pub(crate) fn say_next_row<S: TextSink>(origin: u64, blocks: &mut Blocks, row: Row<'_>, out: &mut S)
+    ensures says { blocks.old.count < 2 ^ 64 - 1 → blocks.old.rows < 2 ^ 64 - 1 → S.says out.old (rows_text origin blocks.old (row_of row.entry ∷ [])) out.new }
+    ensures stands { blocks.old.count < 2 ^ 64 - 1 → blocks.old.rows < 2 ^ 64 - 1 → blocks.new ≡ blocks_behind blocks.old (row_of row.entry ∷ []) }
+{
+    let opening = Opening {
+        origin,
+        blocks: *blocks,
+        row,
+    };
+    say(out, opening);
+    *blocks = one_more_row(begins_exchange(row), *blocks);
+    say_row(is_brief(*blocks), origin, row, out);
+}
+
+/// Says a row, in a page whose first frame has the time `origin`, in a block of brief rows or in another.
+fn say_row<S: TextSink>(brief: bool, origin: u64, row: Row<'_>, out: &mut S)
+    ensures { S.says out.old (row_text brief origin (row_of row.entry)) out.new }
+{
+    match row {
+        Row::Message {
+            role,
+            dir,
+            place,
+            message,
+        } => { say_message(brief, origin, role, dir, place, message, out) }
+        Row::NoAnswer { number, silent } => say_no_answer_row(number, silent, out),
+        Row::Dropped {
+            place,
+            dir,
+            linked,
+            reason,
+        } => { say_dropped_row(linked, origin, place, dir, reason, out) }
+        Row::Ended { place, ended } => say_ended_row(true, origin, place, ended, out),
+        Row::Unfinished { dir, line, len } => say_unfinished_row(true, dir, line, len, out),
+    }
+}
+
+/// Says the row of a message, in a block of brief rows or in another.
+fn say_message<S: TextSink>(
+    brief: bool,
+    origin: u64,
+    role: MessageRole,
+    dir: Dir,
+    place: MessagePlace,
+    message: &[u8],
+    out: &mut S,
+)
+    ensures { S.says out.old (message_text brief origin role dir place message.now) out.new }
+{
+    if brief {
+        say_brief_message(origin, role, dir, place, message, out);
+    } else {
+        say_message_row(origin, role, dir, place, message, out);
     }
 }

@@ -6,9 +6,9 @@ ghost use Rattle.trace_report.specs.Items.{both};
 ghost use Rattle.trace_report.specs.declared.contrast.Contrast.TheVariants.{Answers};
 ghost use Rattle.trace_report.specs.proving.Lending.{item_of, message_of, pair_of};
 
-use crate::blocks::is_request_role;
-use crate::items::{LentItem, LentMessage, LentPair};
+use crate::items::{ItemPair, PlacedItem, RowMessage};
 use crate::marks::parted;
+use crate::roles::is_request_role;
 use direction::Dir;
 use text_parts::Part;
 use trace_io::TextSink;
@@ -43,18 +43,18 @@ pub(crate) enum Contrast {
 }
 
 /// How the items of one number differ, if they do.
-pub(crate) fn contrast_of(pair: LentPair<'_>) -> Option<Contrast>
+pub(crate) fn contrast_of(pair: ItemPair<'_>) -> Option<Contrast>
     ensures { result ≡ Spec.contrast_of (pair_of pair.entry) }
 {
     match pair {
-        LentPair::Both(a, b) => contrast_of_items(a, b),
-        LentPair::OnlyLeft(_) => Some(Contrast::Lacks(LogName::B)),
-        LentPair::OnlyRight(_) => Some(Contrast::Lacks(LogName::A)),
+        ItemPair::Both(a, b) => contrast_of_items(a, b),
+        ItemPair::OnlyLeft(_) => Some(Contrast::Lacks(LogName::B)),
+        ItemPair::OnlyRight(_) => Some(Contrast::Lacks(LogName::A)),
     }
 }
 
 /// How two items differ, if they do.
-fn contrast_of_items(a: LentItem<'_>, b: LentItem<'_>) -> Option<Contrast>
+fn contrast_of_items(a: PlacedItem<'_>, b: PlacedItem<'_>) -> Option<Contrast>
     ensures { result ≡ Spec.contrast_of (both (item_of a.entry) (item_of b.entry)) }
 {
     match (
@@ -69,7 +69,7 @@ fn contrast_of_items(a: LentItem<'_>, b: LentItem<'_>) -> Option<Contrast>
 }
 
 /// How two exchanges differ, if they do.
-fn contrast_of_exchanges(a: LentItem<'_>, b: LentItem<'_>) -> Option<Contrast>
+fn contrast_of_exchanges(a: PlacedItem<'_>, b: PlacedItem<'_>) -> Option<Contrast>
     ensures { result ≡ contrast_of_kinds true true (item_of a.entry) (item_of b.entry) }
 {
     match first_place(a.begin.bytes, b.begin.bytes) {
@@ -79,7 +79,7 @@ fn contrast_of_exchanges(a: LentItem<'_>, b: LentItem<'_>) -> Option<Contrast>
 }
 
 /// How two strays differ, if they do.
-fn contrast_of_strays(a: LentItem<'_>, b: LentItem<'_>) -> Option<Contrast>
+fn contrast_of_strays(a: PlacedItem<'_>, b: PlacedItem<'_>) -> Option<Contrast>
     ensures { result ≡ contrast_of_kinds false false (item_of a.entry) (item_of b.entry) }
 {
     if !is_same_side(a.begin.sent.dir, b.begin.sent.dir) {
@@ -92,7 +92,7 @@ fn contrast_of_strays(a: LentItem<'_>, b: LentItem<'_>) -> Option<Contrast>
 }
 
 /// How two answers differ, if they do.
-fn contrast_of_answers(a: Option<LentMessage<'_>>, b: Option<LentMessage<'_>>) -> Option<Contrast>
+fn contrast_of_answers(a: Option<RowMessage<'_>>, b: Option<RowMessage<'_>>) -> Option<Contrast>
     ensures { result ≡ Spec.contrast_of_answers (option_map message_of a.entry) (option_map message_of b.entry) }
 {
     match (a, b) {
@@ -150,7 +150,7 @@ fn place_of_difference(a: &[u8], b: &[u8]) -> Option<usize>
 }
 
 /// Says in words how the items of this pair differ.
-pub(crate) fn say_contrast_words<S: TextSink>(pair: LentPair<'_>, how: Contrast, out: &mut S)
+pub(crate) fn say_contrast_words<S: TextSink>(pair: ItemPair<'_>, how: Contrast, out: &mut S)
     ensures { S.says out.old (contrast_words (pair_of pair.entry) how) out.new }
 {
     match how {
@@ -165,14 +165,14 @@ pub(crate) fn say_contrast_words<S: TextSink>(pair: LentPair<'_>, how: Contrast,
 }
 
 /// Says at which byte the first messages of the items differ.
-fn say_begins_words<S: TextSink>(what: &str, place: usize, pair: LentPair<'_>, out: &mut S)
+fn say_begins_words<S: TextSink>(what: &str, place: usize, pair: ItemPair<'_>, out: &mut S)
     ensures { S.says out.old (bytes_words what.now place (Spec.begin_left (pair_of pair.entry)) (Spec.begin_right (pair_of pair.entry))) out.new }
 {
     say_bytes_words(what, place, begin_left(pair), begin_right(pair), out);
 }
 
 /// Says at which byte the answers of the items differ.
-fn say_answers_words<S: TextSink>(place: usize, pair: LentPair<'_>, out: &mut S)
+fn say_answers_words<S: TextSink>(place: usize, pair: ItemPair<'_>, out: &mut S)
     ensures { S.says out.old (contrast_words (pair_of pair.entry) (Answers place)) out.new }
 {
     say_bytes_words(
@@ -272,7 +272,7 @@ fn say_other_letter<S: TextSink>(log: LogName, out: &mut S)
 }
 
 /// The bytes of an answer, none where there is no answer.
-fn answer_bytes<'a>(answer: Option<LentMessage<'a>>) -> &'a [u8]
+fn answer_bytes<'a>(answer: Option<RowMessage<'a>>) -> &'a [u8]
     ensures { result.now ≡ Spec.answer_bytes (option_map message_of answer.entry) }
 {
     match answer {
@@ -282,42 +282,42 @@ fn answer_bytes<'a>(answer: Option<LentMessage<'a>>) -> &'a [u8]
 }
 
 /// The bytes of the first message of the item of A, none where it has no item.
-fn begin_left<'a>(pair: LentPair<'a>) -> &'a [u8]
+fn begin_left<'a>(pair: ItemPair<'a>) -> &'a [u8]
     ensures { result.now ≡ Spec.begin_left (pair_of pair.entry) }
 {
     match pair {
-        LentPair::Both(a, _) | LentPair::OnlyLeft(a) => a.begin.bytes,
-        LentPair::OnlyRight(_) => &[],
+        ItemPair::Both(a, _) | ItemPair::OnlyLeft(a) => a.begin.bytes,
+        ItemPair::OnlyRight(_) => &[],
     }
 }
 
 /// The bytes of the first message of the item of B, none where it has no item.
-fn begin_right<'a>(pair: LentPair<'a>) -> &'a [u8]
+fn begin_right<'a>(pair: ItemPair<'a>) -> &'a [u8]
     ensures { result.now ≡ Spec.begin_right (pair_of pair.entry) }
 {
     match pair {
-        LentPair::Both(_, b) | LentPair::OnlyRight(b) => b.begin.bytes,
-        LentPair::OnlyLeft(_) => &[],
+        ItemPair::Both(_, b) | ItemPair::OnlyRight(b) => b.begin.bytes,
+        ItemPair::OnlyLeft(_) => &[],
     }
 }
 
 /// The bytes of the answer in A, none where it has none.
-fn answer_left<'a>(pair: LentPair<'a>) -> &'a [u8]
+fn answer_left<'a>(pair: ItemPair<'a>) -> &'a [u8]
     ensures { result.now ≡ Spec.answer_left (pair_of pair.entry) }
 {
     match pair {
-        LentPair::Both(a, _) | LentPair::OnlyLeft(a) => answer_bytes(a.answer),
-        LentPair::OnlyRight(_) => &[],
+        ItemPair::Both(a, _) | ItemPair::OnlyLeft(a) => answer_bytes(a.answer),
+        ItemPair::OnlyRight(_) => &[],
     }
 }
 
 /// The bytes of the answer in B, none where it has none.
-fn answer_right<'a>(pair: LentPair<'a>) -> &'a [u8]
+fn answer_right<'a>(pair: ItemPair<'a>) -> &'a [u8]
     ensures { result.now ≡ Spec.answer_right (pair_of pair.entry) }
 {
     match pair {
-        LentPair::Both(_, b) | LentPair::OnlyRight(b) => answer_bytes(b.answer),
-        LentPair::OnlyLeft(_) => &[],
+        ItemPair::Both(_, b) | ItemPair::OnlyRight(b) => answer_bytes(b.answer),
+        ItemPair::OnlyLeft(_) => &[],
     }
 }
 

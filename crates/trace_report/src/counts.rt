@@ -3,7 +3,7 @@ ghost use Rattle.std.specs.Prelude.{◌≡◌, []};
 ghost use Rattle.trace_report.specs.Sorts.{counts_in};
 ghost use Rattle.trace_report.specs.proving.Tallying.{counts_with};
 
-use crate::sorts::Sort;
+use crate::sorts::{Sort, needs_attention};
 use text_parts::{Either, Part, When, say};
 use trace_io::TextSink;
 use trace_log::Summary;
@@ -103,26 +103,26 @@ impl<'a> Part for Counts<'a> {
             (
                 "<dl class=\"counts\">\n",
                 (
-                    PlainCount("lines", summary.lines),
-                    PlainCount("frames", summary.frames),
-                    PlainCount("messages", summary.messages),
+                    LogCount("lines", summary.lines),
+                    LogCount("frames", summary.frames),
+                    LogCount("messages", summary.messages),
                 ),
                 (
-                    PlainCount("requests", counts.requests),
-                    PlainCount("positive", counts.positives),
-                    LookCount("negative", counts.negatives),
-                    LookCount("no answer", counts.unanswered),
-                    PlainCount("silent", counts.silent),
+                    SortCount(Sort::Requests, "requests", counts.requests),
+                    SortCount(Sort::Positives, "positive", counts.positives),
+                    SortCount(Sort::Negatives, "negative", counts.negatives),
+                    SortCount(Sort::Unanswered, "no answer", counts.unanswered),
+                    SortCount(Sort::Silent, "silent", counts.silent),
                 ),
                 (
-                    PlainCount("pending", counts.pendings),
-                    PlainCount("keep-alive", counts.keep_alives),
-                    LookCount("stray", counts.strays),
+                    SortCount(Sort::Pendings, "pending", counts.pendings),
+                    SortCount(Sort::KeepAlives, "keep-alive", counts.keep_alives),
+                    SortCount(Sort::Strays, "stray", counts.strays),
                 ),
                 (
-                    LookCount("dropped", counts.dropped),
-                    LookCount("ended", counts.ended),
-                    LookCount("unfinished", counts.unfinished),
+                    SortCount(Sort::Dropped, "dropped", counts.dropped),
+                    SortCount(Sort::Ended, "ended", counts.ended),
+                    SortCount(Sort::Unfinished, "unfinished", counts.unfinished),
                 ),
                 "</dl>\n",
             ),
@@ -130,22 +130,22 @@ impl<'a> Part for Counts<'a> {
     }
 }
 
-/// A count under this name, of what needs no look.
+/// A count of the log under this name.
 #[derive(Clone, Copy)]
-struct PlainCount(&'static str, u64);
+struct LogCount(&'static str, u64);
 
-impl Part for PlainCount {
+impl Part for LogCount {
     ghost use Rattle.std.specs.Prelude.{false};
     ghost use Rattle.trace_report.specs.Counts.{count_line};
 
     ghost text = { λ plain. count_line false plain.0.now plain.1 };
 
     fn say<S: TextSink>(self, out: &mut S) {
-        let PlainCount(words, count) = self;
+        let LogCount(words, count) = self;
         say(
             out,
             CountLine {
-                needs_look: false,
+                needs_attention: false,
                 words,
                 count,
             },
@@ -153,33 +153,30 @@ impl Part for PlainCount {
     }
 }
 
-/// A count under this name, of what needs a look.
+/// A count of the rows of this sort, under this name.
 #[derive(Clone, Copy)]
-struct LookCount(&'static str, u64);
+struct SortCount(Sort, &'static str, u64);
 
-impl Part for LookCount {
-    ghost use Rattle.std.specs.Prelude.{true};
-    ghost use Rattle.trace_report.specs.Counts.{count_line};
+impl Part for SortCount {
+    ghost use Rattle.trace_report.specs.Counts.{sort_count};
 
-    ghost text = { λ look. count_line true look.0.now look.1 };
+    ghost text = { λ of. sort_count of.0 of.1.now of.2 };
 
     fn say<S: TextSink>(self, out: &mut S) {
-        let LookCount(words, count) = self;
-        say(
-            out,
-            CountLine {
-                needs_look: true,
-                words,
-                count,
-            },
-        );
+        let SortCount(sort, words, count) = self;
+        let line = CountLine {
+            needs_attention: needs_attention(sort),
+            words,
+            count,
+        };
+        say(out, line);
     }
 }
 
-/// A count under this name, and whether what it counts needs a look.
+/// A count under this name, and whether what it counts needs attention.
 #[derive(Clone, Copy)]
 struct CountLine {
-    needs_look: bool,
+    needs_attention: bool,
     words: &'static str,
     count: u64,
 }
@@ -187,11 +184,11 @@ struct CountLine {
 impl Part for CountLine {
     ghost use Rattle.trace_report.specs.Counts.{count_line};
 
-    ghost text = { λ line. count_line line.needs_look line.words.now line.count };
+    ghost text = { λ line. count_line line.needs_attention line.words.now line.count };
 
     fn say<S: TextSink>(self, out: &mut S) {
         let CountLine {
-            needs_look,
+            needs_attention,
             words,
             count,
         } = self;
@@ -202,7 +199,7 @@ impl Part for CountLine {
                 Either(
                     count == 0,
                     " class=\"zero\"",
-                    When(needs_look, " class=\"hot\""),
+                    When(needs_attention, " class=\"hot\""),
                 ),
                 "><dt>",
                 words,

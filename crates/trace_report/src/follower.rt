@@ -1,5 +1,5 @@
 //! The rows of a session, as its frames come.
-ghost use Rattle.std.specs.Prelude.{◌≡◌, ◌^◌, ◌<◌, List, [], ◌∷◌, ◌++◌, length};
+ghost use Rattle.std.specs.Prelude.{◌≡◌, List, [], ◌∷◌, ◌++◌};
 ghost use Rattle.direction.specs.Dir.{Message};
 ghost use Rattle.isotp_receive.specs.declared.TheConstants.{MESSAGE_LIMIT};
 ghost use Rattle.isotp_receive.specs.EventSeen.{seen_event};
@@ -9,13 +9,14 @@ ghost use Rattle.isotp_receive.specs.Verdict.{verdict};
 ghost use Rattle.trace_run.specs.Seen.{IsSeen};
 ghost use Rattle.uds_exchange.specs.Judging.{IsJudgedAfter, number_after, sent, step_after};
 ghost use Rattle.trace_canon.specs.MessageLines.{place_of};
-ghost use Rattle.trace_report.specs.Events.{closing_rows, end_rows, ended_rows, frame_rows, role_of_step as role_by, rows_before, standing_row};
-ghost use Rattle.trace_report.specs.Rows.{message as message_row};
+ghost use Rattle.trace_report.specs.Events.{closing_rows, end_rows, ended_rows, frame_rows, rows_before};
+ghost use Rattle.trace_report.specs.Roles.{role_of_step as role_by};
+ghost use Rattle.trace_report.specs.Rows.{message as tells_message};
 ghost use Rattle.trace_report.specs.proving.Following.{Follows, IsSilent, IsWaiting, MeetsMessage, dropped_rows, row_if, rows_in, unfinished_if};
 ghost use Rattle.trace_report.specs.proving.Pages.{row_of};
 
-use crate::events::role_of_step;
 use crate::places::{MessageExtent, Places};
+use crate::roles::role_of_step;
 use crate::row::{MessagePlace, Row};
 use direction::Dir;
 use isotp_receive::{Ended, Event, Pair, Verdict};
@@ -40,7 +41,7 @@ pub(crate) struct Follower {
     pub places: Places,
     /// When the last request was complete.
     pub asked: u64,
-    /// Whether it asked for no positive answer.
+    /// Whether the last request asked for no positive answer.
     pub silent: bool,
 }
 
@@ -66,7 +67,7 @@ impl Follower {
     {
         let here = here_of(seen);
         let extent = self.places.take(here, seen.dir, seen.event);
-        let first = ended_row(here, seen.event.ended);
+        let first = ended_row_of(here, seen.event.ended);
         match seen.message {
             Some(message) => {
                 let (second, row) = self.take_message(here, message, extent);
@@ -79,7 +80,7 @@ impl Follower {
             None => NewRows {
                 first,
                 second: None,
-                third: dropped_row(here, seen.dir, seen.event),
+                third: dropped_row_of(here, seen.dir, seen.event),
             },
         }
     }
@@ -100,10 +101,10 @@ impl Follower {
         ensures closing { (M : List Message) → IsJudgedAfter M message.entry → IsWaiting M self.old.waits → IsSilent M self.old.silent
             → row_if result.0 ≡ rows_before M (step_after M (sent message.entry)) }
         ensures row { (M : List Message) → IsJudgedAfter M message.entry → message.entry.item_number ≡ number_after M (sent message.entry)
-            → row_of result.1 ≡ message_row (role_by self.old.asked (step_after M (sent message.entry)) message.entry.dir message.entry.bytes.now) message.entry.dir
+            → row_of result.1 ≡ tells_message (role_by self.old.asked (step_after M (sent message.entry)) message.entry.dir message.entry.bytes.now) message.entry.dir
             (record { item = number_after M (sent message.entry); first = extent.first; last = here; frames = extent.frames }) message.entry.bytes.now }
     {
-        let waiting = waiting_row(self.waits, self.silent);
+        let waiting = closing_row_of(self.waits, self.silent);
         let row = Row::Message {
             role: role_of_step(self.asked, message.step, message.dir, message.bytes),
             dir: message.dir,
@@ -135,15 +136,15 @@ impl Follower {
         ensures { (T : List Entry) → Follows T self.now → pair.now.receptions ≡ receptions_after MESSAGE_LIMIT T → rows_in result ≡ end_rows MESSAGE_LIMIT T }
     {
         NewRows {
-            first: unfinished_row(Dir::Tester, pair.open(Dir::Tester)),
-            second: unfinished_row(Dir::Unit, pair.open(Dir::Unit)),
-            third: waiting_row(self.waits, self.silent),
+            first: unfinished_row_of(Dir::Tester, pair.open(Dir::Tester)),
+            second: unfinished_row_of(Dir::Unit, pair.open(Dir::Unit)),
+            third: closing_row_of(self.waits, self.silent),
         }
     }
 }
 
-/// The row of the request that waits, if one does: it has no answer.
-fn waiting_row<'a>(waits: Option<u64>, silent: bool) -> Option<Row<'a>>
+/// The row that tells that the request of the open exchange has no answer, if one is open.
+fn closing_row_of<'a>(waits: Option<u64>, silent: bool) -> Option<Row<'a>>
     ensures { (M : List Message) → IsWaiting M waits → IsSilent M silent → row_if result ≡ closing_rows M }
 {
     let number = waits?;
@@ -163,7 +164,7 @@ fn here_of(seen: Seen<'_>) -> FramePlace
 
 /// The row of a frame here, if it was dropped.
 #[inline(always)]
-fn dropped_row<'a>(here: FramePlace, dir: Dir, event: Event<'_>) -> Option<Row<'a>>
+fn dropped_row_of<'a>(here: FramePlace, dir: Dir, event: Event<'_>) -> Option<Row<'a>>
     ensures { row_if result ≡ dropped_rows here dir (seen_event event.entry) }
 {
     match event.verdict {
@@ -178,7 +179,7 @@ fn dropped_row<'a>(here: FramePlace, dir: Dir, event: Event<'_>) -> Option<Row<'
 }
 
 /// The row of what a frame here ended, if it ended something.
-fn ended_row<'a>(here: FramePlace, ended: Option<Ended>) -> Option<Row<'a>>
+fn ended_row_of<'a>(here: FramePlace, ended: Option<Ended>) -> Option<Row<'a>>
     ensures { (e : Entry) → here ≡ place_of e → row_if result ≡ ended_rows e ended }
 {
     let ended = ended?;
@@ -187,7 +188,7 @@ fn ended_row<'a>(here: FramePlace, ended: Option<Ended>) -> Option<Row<'a>>
 
 /// The row of a reception that stands at the end, if one does: the line of its first frame, and the bytes that this
 /// announced.
-fn unfinished_row<'a>(dir: Dir, begun: Option<(u64, u32)>) -> Option<Row<'a>>
+fn unfinished_row_of<'a>(dir: Dir, begun: Option<(u64, u32)>) -> Option<Row<'a>>
     ensures { row_if result ≡ unfinished_if dir begun }
 {
     let (line, len) = begun?;

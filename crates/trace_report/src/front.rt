@@ -7,7 +7,7 @@ use trace_text::Identifier;
 
 /// What a page is made for: its style, the name of the log, the identifiers, and the limit of the log.
 #[derive(Clone, Copy)]
-pub(crate) struct Title<'a> {
+pub(crate) struct PageTitle<'a> {
     pub style: &'a str,
     pub name: &'a [u8],
     pub tester: Id,
@@ -17,7 +17,7 @@ pub(crate) struct Title<'a> {
 
 /// What stands before the rows of a report.
 #[derive(Clone, Copy)]
-pub(crate) struct Front<'a>(pub Title<'a>);
+pub(crate) struct Front<'a>(pub PageTitle<'a>);
 
 impl<'a> Part for Front<'a> {
     ghost use Rattle.trace_report.specs.Front.{front_text};
@@ -44,7 +44,7 @@ impl<'a> Part for Front<'a> {
 
 /// The head of the page.
 #[derive(Clone, Copy)]
-struct Head<'a>(Title<'a>);
+struct Head<'a>(PageTitle<'a>);
 
 impl<'a> Part for Head<'a> {
     ghost use Rattle.trace_report.specs.Front.{head_text};
@@ -118,7 +118,7 @@ impl Part for Shapes {
 
 /// What the page is about, above all else.
 #[derive(Clone, Copy)]
-struct Header<'a>(Title<'a>);
+struct Header<'a>(PageTitle<'a>);
 
 impl<'a> Part for Header<'a> {
     ghost use Rattle.trace_report.specs.Front.{header_text};

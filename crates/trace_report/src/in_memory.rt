@@ -3,7 +3,7 @@ ghost use Rattle.std.specs.Prelude.{◌≡◌, Ok, None, IfOk, MatchResult};
 ghost use Rattle.isotp_receive.specs.declared.TheConstants.{MESSAGE_LIMIT};
 ghost use Rattle.trace_canon.specs.InMemory.{IsUnread};
 ghost use Rattle.trace_report.specs.Front.{page_title};
-ghost use Rattle.trace_report.specs.InMemory.{HasNoPairPage, HoldsInMemory, IsPageWith, IsPairPageWith, NeedsMemoryForPage, counted_held};
+ghost use Rattle.trace_report.specs.InMemory.{HasNoPairPage, KeepsInMemory, IsPageWith, IsPairPageWith, NeedsMemoryForPage, counted_two};
 ghost use Rattle.trace_report.specs.PairPage as Spec;
 
 use crate::keeper::keep_two;
@@ -86,7 +86,7 @@ pub fn pair_page(
 
 /// What two logs say, as [`keep_two`](crate::keep_two) answers it.
 fn keep_both(alloc: Global, config: &Config, left: &[u8], right: &[u8]) -> Result<Two, CompareFault>
-    ensures { HoldsInMemory MESSAGE_LIMIT config.now left.now right.now result }
+    ensures { KeepsInMemory MESSAGE_LIMIT config.now left.now right.now result }
 {
     keep_two(alloc, config, &mut Bytes::new(left), &mut Bytes::new(right))
 }
@@ -108,7 +108,7 @@ fn text_of(
 
 /// How two logs compare that are kept, and the counts of each.
 fn counted_two(two: &Two) -> CountedComparison
-    ensures { result ≡ counted_held two.now }
+    ensures { result ≡ counted_two two.now }
 {
     CountedComparison {
         comparison: two.comparison(),

@@ -5,7 +5,8 @@ ghost use Rattle.trace_report.specs.proving.Keeping.{places_answered, places_by,
 ghost use Rattle.trace_report.specs.proving.Keeping as Keeping;
 ghost use Rattle.trace_report.specs.proving.Pages.{row_of};
 
-use crate::row::{MessageRole, Row};
+use crate::roles::MessageRole;
+use crate::row::Row;
 
 /// Where an item stands among the rows: the message that begins it, and its answer, if it has one.
 #[derive(Clone, Copy)]

@@ -1,7 +1,7 @@
 //! The rows of a page of two sessions that tell items, one for each number.
 ghost use Rattle.std.specs.Prelude.{◌≡◌, ◌+◌, ◌-◌, Some, drop, option_map, take};
-ghost use Rattle.trace_report.specs.Blocks.{is_request_role as begins_exchange};
-ghost use Rattle.trace_report.specs.Held.{pairs_in};
+ghost use Rattle.trace_report.specs.Roles.{is_request_role as begins_exchange};
+ghost use Rattle.trace_report.specs.Kept.{pairs_in};
 ghost use Rattle.trace_report.specs.Items.{both, only_left, only_right};
 ghost use Rattle.trace_report.specs.ItemRows.{different_row, item_note, item_side, item_sides, next_table, no_answer_text, no_item, note_of, open_mark, pair_row, pair_rows, row_opening, same_row, table_opening, told_answer, told_item, told_message, told_reply, told_reply_if};
 ghost use Rattle.trace_report.specs.ItemRows as Spec;
@@ -9,13 +9,15 @@ ghost use Rattle.trace_report.specs.proving.Rowing.{IsKnown, placed_if, row_if};
 ghost use Rattle.trace_report.specs.proving.Lending.{item_of, message_of, pair_of};
 ghost use Rattle.uds_message.specs.Message.{is_suppressing as suppresses};
 
-use crate::blocks::{BlockEnd, FULL_BLOCK, is_request_role};
+use crate::blocks::{BlockEnd, FULL_BLOCK};
 use crate::contrast::{LogName, contrast_of};
-use crate::items::{LentItem, LentMessage, LentPair};
-use crate::message_rows::{FurtherNote, NamedLines, RoleWords, asked_at};
-use crate::row::{MessagePlace, MessageRole};
+use crate::data::Data;
+use crate::durations::Seconds;
+use crate::items::{ItemPair, PlacedItem, RowMessage};
+use crate::message_rows::{FurtherNote, NamedLines, RoleWords};
+use crate::roles::{MessageRole, asked_at, is_request_role};
+use crate::row::MessagePlace;
 use crate::two::Two;
-use crate::words::{Data, Seconds};
 use text_parts::{Part, say};
 use trace_io::TextSink;
 use trace_text::values::{say_number, say_text};
@@ -61,7 +63,7 @@ fn say_row_if<S: TextSink>(
     right: u64,
     number: u64,
     same: bool,
-    pair: Option<LentPair<'_>>,
+    pair: Option<ItemPair<'_>>,
     out: &mut S,
 ) -> u64
     ensures said { IsKnown same (option_map pair_of pair.entry) → S.says out.old (row_if opened left right placed number (option_map pair_of pair.entry)) out.new }
@@ -83,14 +85,14 @@ fn say_known_row<S: TextSink>(
     right: u64,
     number: u64,
     same: bool,
-    pair: LentPair<'_>,
+    pair: ItemPair<'_>,
     out: &mut S,
 )
     ensures { IsKnown same (Some (pair_of pair.entry)) → S.says out.old (pair_row left right number (pair_of pair.entry)) out.new }
 {
     match pair {
-        LentPair::Both(a, b) if same => say_same_row(left, right, number, a, b, out),
-        LentPair::Both(_, _) | LentPair::OnlyLeft(_) | LentPair::OnlyRight(_) => say_pair_row(
+        ItemPair::Both(a, b) if same => say_same_row(left, right, number, a, b, out),
+        ItemPair::Both(_, _) | ItemPair::OnlyLeft(_) | ItemPair::OnlyRight(_) => say_pair_row(
             left, right, number, pair, out,
         ),
     }
@@ -146,12 +148,12 @@ fn say_open_mark<S: TextSink>(opened: bool, out: &mut S)
 }
 
 /// Says the row of a number, in a page whose sessions begin at these times.
-fn say_pair_row<S: TextSink>(left: u64, right: u64, number: u64, pair: LentPair<'_>, out: &mut S)
+fn say_pair_row<S: TextSink>(left: u64, right: u64, number: u64, pair: ItemPair<'_>, out: &mut S)
     ensures { S.says out.old (pair_row left right number (pair_of pair.entry)) out.new }
 {
     match pair {
-        LentPair::Both(a, b) => say_both_row(left, right, number, a, b, out),
-        LentPair::OnlyLeft(_) | LentPair::OnlyRight(_) => say_different_row(
+        ItemPair::Both(a, b) => say_both_row(left, right, number, a, b, out),
+        ItemPair::OnlyLeft(_) | ItemPair::OnlyRight(_) => say_different_row(
             left, right, number, pair, out,
         ),
     }
@@ -162,15 +164,15 @@ fn say_both_row<S: TextSink>(
     left: u64,
     right: u64,
     number: u64,
-    a: LentItem<'_>,
-    b: LentItem<'_>,
+    a: PlacedItem<'_>,
+    b: PlacedItem<'_>,
     out: &mut S,
 )
     ensures { S.says out.old (pair_row left right number (both (item_of a.entry) (item_of b.entry))) out.new }
 {
-    match contrast_of(LentPair::Both(a, b)) {
+    match contrast_of(ItemPair::Both(a, b)) {
         None => say_same_row(left, right, number, a, b, out),
-        Some(_) => say_different_row(left, right, number, LentPair::Both(a, b), out),
+        Some(_) => say_different_row(left, right, number, ItemPair::Both(a, b), out),
     }
 }
 
@@ -179,8 +181,8 @@ fn say_same_row<S: TextSink>(
     left: u64,
     right: u64,
     number: u64,
-    a: LentItem<'_>,
-    b: LentItem<'_>,
+    a: PlacedItem<'_>,
+    b: PlacedItem<'_>,
     out: &mut S,
 )
     ensures { S.says out.old (same_row left right number (item_of a.entry) (item_of b.entry)) out.new }
@@ -200,7 +202,7 @@ fn say_different_row<S: TextSink>(
     left: u64,
     right: u64,
     number: u64,
-    pair: LentPair<'_>,
+    pair: ItemPair<'_>,
     out: &mut S,
 )
     ensures { S.says out.old (different_row left right number (pair_of pair.entry)) out.new }
@@ -213,18 +215,24 @@ fn say_different_row<S: TextSink>(
 }
 
 /// Says what both logs have of a number.
-fn say_item_sides<S: TextSink>(left: u64, right: u64, pair: LentPair<'_>, out: &mut S)
+fn say_item_sides<S: TextSink>(left: u64, right: u64, pair: ItemPair<'_>, out: &mut S)
     ensures { S.says out.old (item_sides left right (pair_of pair.entry)) out.new }
 {
     match pair {
-        LentPair::Both(a, b) => say_both_sides(left, right, a, b, out),
-        LentPair::OnlyLeft(a) => say_left_side(left, right, a, out),
-        LentPair::OnlyRight(b) => say_right_side(left, right, b, out),
+        ItemPair::Both(a, b) => say_both_sides(left, right, a, b, out),
+        ItemPair::OnlyLeft(a) => say_left_side(left, right, a, out),
+        ItemPair::OnlyRight(b) => say_right_side(left, right, b, out),
     }
 }
 
 /// Says the items of both logs.
-fn say_both_sides<S: TextSink>(left: u64, right: u64, a: LentItem<'_>, b: LentItem<'_>, out: &mut S)
+fn say_both_sides<S: TextSink>(
+    left: u64,
+    right: u64,
+    a: PlacedItem<'_>,
+    b: PlacedItem<'_>,
+    out: &mut S,
+)
     ensures { S.says out.old (item_sides left right (both (item_of a.entry) (item_of b.entry))) out.new }
 {
     say_item_side(LogName::A, left, a, out);
@@ -232,7 +240,7 @@ fn say_both_sides<S: TextSink>(left: u64, right: u64, a: LentItem<'_>, b: LentIt
 }
 
 /// Says the item of A, where B has none.
-fn say_left_side<S: TextSink>(left: u64, right: u64, item: LentItem<'_>, out: &mut S)
+fn say_left_side<S: TextSink>(left: u64, right: u64, item: PlacedItem<'_>, out: &mut S)
     ensures { S.says out.old (item_sides left right (only_left (item_of item.entry))) out.new }
 {
     say_item_side(LogName::A, left, item, out);
@@ -240,7 +248,7 @@ fn say_left_side<S: TextSink>(left: u64, right: u64, item: LentItem<'_>, out: &m
 }
 
 /// Says the item of B, where A has none.
-fn say_right_side<S: TextSink>(left: u64, right: u64, item: LentItem<'_>, out: &mut S)
+fn say_right_side<S: TextSink>(left: u64, right: u64, item: PlacedItem<'_>, out: &mut S)
     ensures { S.says out.old (item_sides left right (only_right (item_of item.entry))) out.new }
 {
     say_no_item(out);
@@ -248,7 +256,7 @@ fn say_right_side<S: TextSink>(left: u64, right: u64, item: LentItem<'_>, out: &
 }
 
 /// Says the item of a log.
-fn say_item_side<S: TextSink>(log: LogName, origin: u64, item: LentItem<'_>, out: &mut S)
+fn say_item_side<S: TextSink>(log: LogName, origin: u64, item: PlacedItem<'_>, out: &mut S)
     ensures { S.says out.old (item_side log origin (item_of item.entry)) out.new }
 {
     say_text(out, "<td>");
@@ -265,7 +273,7 @@ fn say_no_item<S: TextSink>(out: &mut S)
 }
 
 /// Says an item, without its places.
-fn say_told_item<S: TextSink>(item: LentItem<'_>, out: &mut S)
+fn say_told_item<S: TextSink>(item: PlacedItem<'_>, out: &mut S)
     ensures { S.says out.old (told_item (item_of item.entry)) out.new }
 {
     say_told_message(item.begin, out);
@@ -273,7 +281,7 @@ fn say_told_item<S: TextSink>(item: LentItem<'_>, out: &mut S)
 }
 
 /// Says a message, without its place.
-fn say_told_message<S: TextSink>(lent: LentMessage<'_>, out: &mut S)
+fn say_told_message<S: TextSink>(lent: RowMessage<'_>, out: &mut S)
     ensures { S.says out.old (told_message (message_of lent.entry)) out.new }
 {
     let words = RoleWords(lent.sent.role, lent.sent.dir, lent.bytes);
@@ -284,7 +292,7 @@ fn say_told_message<S: TextSink>(lent: LentMessage<'_>, out: &mut S)
 fn say_told_reply_if<S: TextSink>(
     role: MessageRole,
     request: &[u8],
-    reply: Option<LentMessage<'_>>,
+    reply: Option<RowMessage<'_>>,
     out: &mut S,
 )
     ensures { S.says out.old (told_reply_if (begins_exchange role) request.now (option_map message_of reply.entry)) out.new }
@@ -295,7 +303,7 @@ fn say_told_reply_if<S: TextSink>(
 }
 
 /// Says the answer to a request, or what stands in its place, behind an arrow.
-fn say_told_reply<S: TextSink>(request: &[u8], reply: Option<LentMessage<'_>>, out: &mut S)
+fn say_told_reply<S: TextSink>(request: &[u8], reply: Option<RowMessage<'_>>, out: &mut S)
     ensures { S.says out.old (told_reply request.now (option_map message_of reply.entry)) out.new }
 {
     say_text(out, " &#8594; ");
@@ -303,7 +311,7 @@ fn say_told_reply<S: TextSink>(request: &[u8], reply: Option<LentMessage<'_>>, o
 }
 
 /// Says the answer to a request, or what stands in its place.
-fn say_told_answer<S: TextSink>(request: &[u8], reply: Option<LentMessage<'_>>, out: &mut S)
+fn say_told_answer<S: TextSink>(request: &[u8], reply: Option<RowMessage<'_>>, out: &mut S)
     ensures { S.says out.old (told_answer request.now (option_map message_of reply.entry)) out.new }
 {
     match reply {
@@ -331,7 +339,7 @@ fn say_no_answer<S: TextSink>(silent: bool, out: &mut S)
 }
 
 /// Says when an item was.
-fn say_note_of<S: TextSink>(log: LogName, origin: u64, item: LentItem<'_>, out: &mut S)
+fn say_note_of<S: TextSink>(log: LogName, origin: u64, item: PlacedItem<'_>, out: &mut S)
     ensures { S.says out.old (note_of log origin (item_of item.entry)) out.new }
 {
     match item.answer {
@@ -344,8 +352,8 @@ fn say_note_of<S: TextSink>(log: LogName, origin: u64, item: LentItem<'_>, out: 
 fn say_item_note<S: TextSink>(
     log: LogName,
     origin: u64,
-    begin: LentMessage<'_>,
-    last: LentMessage<'_>,
+    begin: RowMessage<'_>,
+    last: RowMessage<'_>,
     out: &mut S,
 )
     ensures { S.says out.old (item_note log origin (message_of begin.entry) (message_of last.entry)) out.new }

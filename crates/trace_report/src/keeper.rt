@@ -1,5 +1,5 @@
 //! Logs that are kept as a whole: a machine that says nothing, and keeps the rows of a session.
-ghost use Rattle.std.specs.Prelude.{◌≡◌, ◌≢◌, ◌-◌, ℕ, List, [], ◌∷◌, ◌++◌, IfOk, IfErr, Err, OnOk, Some};
+ghost use Rattle.std.specs.Prelude.{◌≡◌, ◌≢◌, ℕ, List, [], ◌++◌, IfOk, IfErr, Err, OnOk, Some};
 ghost use Rattle.isotp_receive.specs.declared.TheConstants.{MESSAGE_LIMIT};
 ghost use Rattle.isotp_receive.specs.Trace.{Entry};
 ghost use Rattle.trace_log.specs.Answers.{ReadsWhile};
@@ -7,7 +7,7 @@ ghost use Rattle.trace_canon.specs.Compared.{fault_in};
 ghost use Rattle.trace_log.specs.declared.fault.Fault.{Fault as FaultValue};
 ghost use Rattle.trace_log.specs.Devices.{AgreesWith, bytes_given, ReadFrom, HasLowCounts};
 ghost use Rattle.trace_log.specs.Refusal.{HasNoBadPlaceWithin};
-ghost use Rattle.trace_report.specs.Held.{HoldsOne, HasOwnFrame, HoldsTwo};
+ghost use Rattle.trace_report.specs.Kept.{KeepsOne, HasOwnFrame, KeepsTwo};
 ghost use Rattle.trace_report.specs.proving.Following.{row_if, rows_in};
 ghost use Rattle.trace_report.specs.Session.{session_of};
 ghost use Rattle.trace_report.specs.proving.Heard.{IsHeardOf};
@@ -23,7 +23,7 @@ use isotp_receive::Pair;
 use std::alloc::{AllocError, Global};
 use trace_io::{Source, TextSink};
 use trace_log::{CompareFault, Config, Fault, Summary};
-use trace_run::{Glimpse, Machine, Nowhere, Seen, Stop, run};
+use trace_run::{Glimpse, Machine, NoAnswer, Nowhere, Seen, run};
 
 /// Reads two logs, the first one whole before the second, and answers what both say. No announcement and no canonical
 /// log is too long for it.
@@ -39,7 +39,7 @@ pub fn keep_two<A: Source, B: Source>(
     // What is answered, for all logs with which the bytes that were read agree.
     ensures answer { (one other : List ℕ)
         → AgreesWith A.Source left.old left.new one → AgreesWith B.Source right.old right.new other
-        → HoldsTwo MESSAGE_LIMIT config.now one other result }
+        → KeepsTwo MESSAGE_LIMIT config.now one other result }
 
     // After a fault of the first log nothing of the second was read.
     ensures unread { (fault : FaultValue) → result ≡ Err (CompareFault.Left fault) → right.new ≡ right.old }
@@ -76,7 +76,7 @@ pub fn keep_two<A: Source, B: Source>(
 /// Reads a log, and answers what it says.
 fn keep<R: Source>(alloc: Global, config: &Config, reader: &mut R) -> Result<Session, Fault>
     requires reader { HasLowCounts R.Source reader.old }
-    ensures answer { (log : List ℕ) → AgreesWith R.Source reader.old reader.new log → HoldsOne MESSAGE_LIMIT config.now log result }
+    ensures answer { (log : List ℕ) → AgreesWith R.Source reader.old reader.new log → KeepsOne MESSAGE_LIMIT config.now log result }
     ensures near { (log : List ℕ) → AgreesWith R.Source reader.old reader.new log
         → ReadsWhile (HasNoBadPlaceWithin log) (bytes_given R.Source reader.old reader.new) (R.failures reader.old) (R.failures reader.new) }
     ensures memory { (log : List ℕ) → AgreesWith R.Source reader.old reader.new log → result ≡ Err Fault.Memory → HasOwnFrame config.now log }
@@ -148,7 +148,7 @@ fn keep_row_if(rows: &mut KeptRows, row: Option<Row<'_>>) -> Result<(), AllocErr
 /// Keeps the rows of a session.
 #[derive(Drop)]
 pub(crate) struct Keeper {
-    /// Of the frames so far, if there are any.
+    /// The times of the first frame so far and of the last one, if there are frames.
     pub times: Option<Times>,
     pub follower: Follower,
     pub rows: KeptRows,
@@ -181,7 +181,12 @@ impl Machine for Keeper {
         Ok(())
     }
 
-    fn end<S: TextSink>(self, pair: &Pair, summary: &Summary, _out: &mut S) -> Result<Heard, Stop> {
+    fn end<S: TextSink>(
+        self,
+        pair: &Pair,
+        summary: &Summary,
+        _out: &mut S,
+    ) -> Result<Heard, NoAnswer> {
         let Keeper {
             times,
             follower,
@@ -199,7 +204,7 @@ impl Machine for Keeper {
         self,
         _summary: &Summary,
         _why: Fault,
-        _source: Glimpse<'_>,
+        _glimpse: Glimpse<'_>,
         _out: &mut S,
     ) {}
 }

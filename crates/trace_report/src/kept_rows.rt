@@ -10,8 +10,9 @@ ghost use Rattle.trace_report.specs.proving.Pages.{row_of};
 
 use crate::counts::SortCounts;
 use crate::item_places::{ItemPlace, note_row};
-use crate::items::{LentItem, LentMessage};
-use crate::row::{MessagePlace, MessageRole, Row};
+use crate::items::{PlacedItem, RowMessage};
+use crate::roles::MessageRole;
+use crate::row::{MessagePlace, Row};
 use crate::sorts::sort_of;
 use direction::Dir;
 use isotp_receive::{Ended, Reason};
@@ -137,7 +138,7 @@ impl KeptRows {
         }
     }
 
-    /// How many items they tell.
+    /// How many items the rows tell.
     pub fn items(&self) -> usize
         ensures value { result ≡ length (items_in self.now) }
         ensures small { result < 2 ^ 63 }
@@ -147,7 +148,7 @@ impl KeptRows {
 
     /// The item at a place, counted from 0, if there is one.
     #[inline(always)]
-    pub fn item(&self, at: usize) -> Option<LentItem<'_>>
+    pub fn item(&self, at: usize) -> Option<PlacedItem<'_>>
         ensures { option_map item_of result ≡ slice_get (items_in self.now) at }
     {
         match self.items.get(at) {
@@ -156,7 +157,7 @@ impl KeptRows {
         }
     }
 
-    /// How many there are of each sort.
+    /// How many rows there are of each sort.
     pub fn counts(&self) -> SortCounts
         ensures { result ≡ counts_in self.now }
     {
@@ -237,7 +238,11 @@ fn row_at<'a>(messages: &'a Messages, row: KeptRow) -> Row<'a>
 
 /// The item that stands there among the rows, lent.
 #[inline(always)]
-fn item_at<'a>(messages: &'a Messages, rows: &'a [KeptRow], item: ItemPlace) -> Option<LentItem<'a>>
+fn item_at<'a>(
+    messages: &'a Messages,
+    rows: &'a [KeptRow],
+    item: ItemPlace,
+) -> Option<PlacedItem<'a>>
     requires { AreLaid messages.now rows.now }
     ensures { option_map item_of result ≡ Keeping.placed_at (rows_at messages.now rows.now) item }
 {
@@ -250,20 +255,20 @@ fn item_at<'a>(messages: &'a Messages, rows: &'a [KeptRow], item: ItemPlace) -> 
 fn item_with<'a>(
     messages: &'a Messages,
     rows: &'a [KeptRow],
-    begin: LentMessage<'a>,
+    begin: RowMessage<'a>,
     answer: Option<usize>,
-) -> Option<LentItem<'a>>
+) -> Option<PlacedItem<'a>>
     requires { AreLaid messages.now rows.now }
     ensures { option_map item_of result ≡ Keeping.item_with (rows_at messages.now rows.now) (message_of begin.entry) answer }
 {
     match answer {
-        None => Some(LentItem {
+        None => Some(PlacedItem {
             begin,
             answer: None,
         }),
         Some(at) => {
             let reply = message_at(messages, rows, at)?;
-            Some(LentItem {
+            Some(PlacedItem {
                 begin,
                 answer: Some(reply),
             })
@@ -273,7 +278,7 @@ fn item_with<'a>(
 
 /// The message of the row at a place, lent, if there is one.
 #[inline(always)]
-fn message_at<'a>(messages: &'a Messages, rows: &'a [KeptRow], at: usize) -> Option<LentMessage<'a>>
+fn message_at<'a>(messages: &'a Messages, rows: &'a [KeptRow], at: usize) -> Option<RowMessage<'a>>
     requires { AreLaid messages.now rows.now }
     ensures { option_map message_of result ≡ Keeping.message_at (rows_at messages.now rows.now) at }
 {
@@ -285,12 +290,12 @@ fn message_at<'a>(messages: &'a Messages, rows: &'a [KeptRow], at: usize) -> Opt
 
 /// The message of a row, lent, if it has one.
 #[inline(always)]
-fn message_of_row<'a>(messages: &'a Messages, row: &'a KeptRow) -> Option<LentMessage<'a>>
+fn message_of_row<'a>(messages: &'a Messages, row: &'a KeptRow) -> Option<RowMessage<'a>>
     requires { IsLaid messages.now row.now }
     ensures { option_map message_of result ≡ message_in (Keeping.row_at messages.now row.now) }
 {
     match row {
-        KeptRow::Message(sent) => Some(LentMessage {
+        KeptRow::Message(sent) => Some(RowMessage {
             sent,
             bytes: messages.message(sent.bytes),
         }),

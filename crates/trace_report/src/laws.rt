@@ -8,12 +8,12 @@ pub fn name_is_harmless()
     ensures { NameIsHarmless }
 {}
 
-/// Nor do the letters that are shown for bytes of a message.
+/// The letters that are shown for bytes of a message open and close nothing on a page.
 pub fn letters_are_harmless()
     ensures { LettersAreHarmless }
 {}
 
-/// Nor does the style of a page.
+/// The style of a page opens and closes no element.
 pub fn style_holds_no_tag()
     ensures { StyleHoldsNoTag }
 {}

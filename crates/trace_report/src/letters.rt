@@ -1,7 +1,7 @@
 //! The bytes of messages as letters, where they may be text.
 ghost use Rattle.std.specs.Prelude.{◌≡◌};
-ghost use Rattle.trace_report.specs.Words.{letter_text, letters};
-ghost use Rattle.trace_report.specs.Words as Spec;
+ghost use Rattle.trace_report.specs.Letters.{letter_text, letters};
+ghost use Rattle.trace_report.specs.Letters as Spec;
 
 use text_parts::{Part, say};
 use trace_io::TextSink;
@@ -11,7 +11,7 @@ use trace_io::TextSink;
 pub(crate) struct LettersText<'a>(pub &'a [u8]);
 
 impl<'a> Part for LettersText<'a> {
-    ghost use Rattle.trace_report.specs.Words.{letters_text};
+    ghost use Rattle.trace_report.specs.Letters.{letters_text};
 
     ghost text = { λ bytes. letters_text bytes.0.now };
 
@@ -27,7 +27,7 @@ impl<'a> Part for LettersText<'a> {
 struct Letters<'a>(&'a [u8]);
 
 impl<'a> Part for Letters<'a> {
-    ghost use Rattle.trace_report.specs.Words.{letters};
+    ghost use Rattle.trace_report.specs.Letters.{letters};
 
     ghost text = { λ bytes. letters bytes.0.now };
 
@@ -48,21 +48,21 @@ fn is_letter(byte: u8) -> bool
     matches!(byte, b'0'..=b'9' | b'A'..=b'Z' | b'a'..=b'z')
 }
 
-/// Whether it is one of the signs that are shown.
+/// Whether a byte is one of the signs that are shown.
 fn is_sign(byte: u8) -> bool
     ensures { result ≡ Spec.is_sign byte }
 {
     matches!(byte, b'-' | b'.' | b'/' | b':' | b'_')
 }
 
-/// Whether it is shown as it is, and is no blank.
+/// Whether a byte is shown as it is, and is no blank.
 fn is_mark(byte: u8) -> bool
     ensures { result ≡ Spec.is_mark byte }
 {
     is_letter(byte) || is_sign(byte)
 }
 
-/// Whether four bytes in a row are.
+/// Whether four bytes in a row are shown as they are, without a blank.
 pub fn has_word(bytes: &[u8]) -> bool
     ensures { result ≡ Spec.has_word bytes.now }
 {

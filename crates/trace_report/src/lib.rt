@@ -7,29 +7,33 @@
 //! event -> Follower -> rows -> Chart -> page
 //! ```
 //!
-//! [`report`] is a machine over the driver of `trace_run` (`reporter`). A `follower` knows what the rows to come
-//! depend on: the number of the exchange that waits, how and when its request came, and the `places` where messages
-//! begin. It answers the rows of a frame (`row`). The `chart` says them, in `blocks` that fold, and keeps a `tally` for
-//! the verdict.
-//!
-//! The text of a page is in pieces: its `front`; the rows of messages (`message_rows`, `brief_rows`) and of what is
-//! missing (`lost_rows`), by `cells`, `words` and `letters`; the `verdict`, with `reasons`, `links` and `counts`; of a
-//! refused log the `refusal`, with its `cause`, by what it `looks` like; and the `help`. Of the style it is proved that it
-//! holds no tag.
-//!
-//! Of two logs a page says first whether they are the same. So both are kept: [`keep_two`] keeps the rows of each
-//! (`keeper`), and [`write_pair_page`] writes the page of both.
+//! [`report`] is a machine over the driver of `trace_run`. Of two logs a page says first whether they are the same: so
+//! [`keep_two`] keeps the rows of both, and [`write_pair_page`] writes the page.
 //!
 //! ```text
 //! event -> Follower -> rows -> Keeper -> Session -> Two -> page
 //! ```
 //!
-//! The rows of a [`Session`] are `kept_rows`, which note the `item_places` among them, and lend `items`. [`Two`] has both
-//! sessions, whose items stand side by side, and their comparison. The first `contrast` of a pair is the difference that
-//! the page tells (`pair_verdict`) and shows by the rows around it (`difference`), with a mark at the byte (`marks`). The
-//! items before and behind it are rows of a table (`item_rows`, `pair_items`).
-//!
-//! [`in_memory`] answers of logs in memory with their page and the counts.
+//! | Part | Files | Definitions |
+//! |---|---|---|
+//! | times and bytes, as rows show them | `durations`, `letters`, `data` | `Durations`, `Letters`, `Data` |
+//! | what a row tells | `targets`, `roles`, `row` | `Targets`, `Roles`, `Rows` |
+//! | what is counted, and where links lead | `sorts`, `tally` | `Sorts`, `Linked` |
+//! | the text of a row | `cells`, `message_rows`, `brief_rows`, `lost_rows` | `Rows`, `MessageRows`, `BriefRows`, `LostRows` |
+//! | the chart: rows one after another, in blocks that fold | `blocks`, `chart` | `Blocks`, `Chart` |
+//! | the rows of a frame, by what the frames before it were | `follower`, `places`, `frames`, `times` | `Events` |
+//! | the verdict of a log | `verdict`, `links`, `counts`, `reasons` | `Links`, `Counts`, `Verdict` |
+//! | why a log is refused | `looks`, `cause`, `refusal` | `Looks`, `Causes`, `Verdict` |
+//! | what stands before the rows and behind them | `style`, `front`, `log_names`, `help` | `Style`, `Front`, `Help` |
+//! | [`report`] | `reporter` | `Page` |
+//! | the items of a session, by its rows | `kept_rows`, `item_places`, `items` | `Items` |
+//! | how two items differ | `contrast`, `marks` | `Contrast`, `Marks` |
+//! | the items of two sessions, a row for each number | `item_rows`, `pair_items` | `ItemRows`, `PairPage` |
+//! | the chart of the first difference | `difference` | `Difference` |
+//! | [`keep_two`], [`Session`], [`Two`] | `keeper`, `session`, `two` | `Session`, `Kept` |
+//! | [`write_pair_page`] | `pair_page`, `pair_verdict` | `PairPage` |
+//! | pages of logs in memory, with the counts | [`in_memory`] | `InMemory` |
+//! | what holds of each page | [`laws`] | `Numbers`, `Laws` |
 #![tactic(auto)]
 
 mod blocks;
@@ -39,8 +43,9 @@ mod cells;
 mod chart;
 mod contrast;
 mod counts;
+mod data;
 mod difference;
-mod events;
+mod durations;
 mod follower;
 mod frames;
 mod front;
@@ -67,24 +72,26 @@ mod places;
 mod reasons;
 mod refusal;
 mod reporter;
+mod roles;
 mod row;
-mod rows;
 mod session;
 mod sorts;
 mod style;
 mod tally;
+mod targets;
 mod times;
 mod two;
 mod verdict;
-mod words;
 
-pub use blocks::{ChartHead, is_request_role};
+pub use blocks::ChartHead;
 pub use cause::{CauseLine, CauseOf, CauseRow, RefusalCause, cause_of, row_of_cause};
 pub use cells::{CellEnd, CellFront};
 pub use counts::{Counts, SortCounts};
+pub use data::{BytesApart, Data, MoreWords};
+pub use durations::Seconds;
 pub use front::{Identifiers, PageStart, Shapes};
 pub use help::{HelpHeading, Legend, Limits, Tail, TimesWords};
-pub use items::{LentItem, LentMessage, is_answer_role};
+pub use items::{PlacedItem, RowMessage};
 pub use keeper::keep_two;
 pub use kept_rows::{KeptMessage, KeptRows};
 pub use letters::{has_word, shown_byte};
@@ -92,16 +99,14 @@ pub use log_names::Name;
 pub use looks::{Look, look_told};
 pub use loss_words::{DroppedWords, EndedWords, UnfinishedWords};
 pub use lost_rows::{say_dropped_row, say_ended_row, say_no_answer_row, say_unfinished_row};
-pub use message_rows::{
-    FurtherNote, MessageFront, NamedLines, Note, RoleWords, asked_at, begins_item,
-};
+pub use message_rows::{FurtherNote, MessageFront, NamedLines, Note, RoleWords};
 pub use pair_page::{PairTitle, write_pair_page};
 pub use reasons::{StrictWords, UncleanReasons};
 pub use refusal::Refusal;
 pub use reporter::report;
-pub use row::{Arrow, MessagePlace, MessageRole, Row};
+pub use roles::{MessageRole, asked_at, begins_item, is_answer_role, is_request_role};
+pub use row::{Arrow, MessagePlace, Row};
 pub use session::Session;
 pub use style::report_style;
 pub use two::Two;
 pub use verdict::{SpanOf, is_called_clean};
-pub use words::{BytesApart, Data, MoreWords, Seconds};

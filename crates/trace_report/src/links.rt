@@ -1,41 +1,22 @@
-//! The links of a report to what needs a look.
+//! The links of a report to what needs attention.
 use crate::tally::{MOST_LINKS, Targets};
+use crate::targets::Target;
+use direction::Dir;
 use text_parts::{Part, say};
 use trace_io::TextSink;
 use trace_text::Number;
 
-/// Where a link leads.
-#[derive(Clone, Copy, Debug)]
-pub(crate) enum Link {
-    /// To the item of a number.
-    Item,
-    /// To the row of a line.
-    Line,
-    /// To what stands at the end, of the tester (0) or the unit.
-    Side,
-}
-
-/// What needs a look for one reason, in these words, where something does: how many do, and links to the first.
+/// What needs attention for one reason, in these words, where something does: how many rows do, and links to the first.
 #[derive(Clone, Copy)]
-pub(crate) struct LookLine<'a> {
-    pub words: &'static str,
-    pub link: Link,
-    pub count: u64,
-    pub first: &'a Targets,
-}
+pub(crate) struct AttentionLine<'a>(pub &'static str, pub u64, pub &'a Targets);
 
-impl<'a> Part for LookLine<'a> {
-    ghost use Rattle.trace_report.specs.Links.{look_line};
+impl<'a> Part for AttentionLine<'a> {
+    ghost use Rattle.trace_report.specs.Links.{attention_line};
 
-    ghost text = { λ line. look_line line.words.now line.link line.count line.first.now.items };
+    ghost text = { λ line. attention_line line.0.now line.1 line.2.now.items };
 
     fn say<S: TextSink>(self, out: &mut S) {
-        let LookLine {
-            words,
-            link,
-            count,
-            first,
-        } = self;
+        let AttentionLine(words, count, first) = self;
         let targets = first.as_slice();
         if count > 0 {
             say(
@@ -46,7 +27,7 @@ impl<'a> Part for LookLine<'a> {
                     " <b>",
                     Number(count),
                     "</b>: ",
-                    Links { link, targets },
+                    Links(targets),
                     More(count),
                     "\n",
                 ),
@@ -55,74 +36,59 @@ impl<'a> Part for LookLine<'a> {
     }
 }
 
-/// Links with commas between.
+/// Links to these places, with commas between.
 #[derive(Clone, Copy)]
-struct Links<'a> {
-    link: Link,
-    targets: &'a [u64],
-}
+struct Links<'a>(&'a [Target]);
 
 impl<'a> Part for Links<'a> {
     ghost use Rattle.trace_report.specs.Links.{links_text};
 
-    ghost text = { λ links. links_text links.link links.targets.now };
+    ghost text = { λ links. links_text links.0.now };
 
     fn say<S: TextSink>(self, out: &mut S) {
-        let link = self.link;
-        if let Some((first, targets)) = self.targets.split_first() {
-            let to_first = LinkTo {
-                link,
-                target: *first,
-            };
-            say(out, (to_first, LinksBehind { link, targets }));
+        if let Some((first, targets)) = self.0.split_first() {
+            say(out, (LinkTo(*first), LinksBehind(targets)));
         }
     }
 }
 
-/// Links behind another one.
+/// Links to these places, each behind another link.
 #[derive(Clone, Copy)]
-struct LinksBehind<'a> {
-    link: Link,
-    targets: &'a [u64],
-}
+struct LinksBehind<'a>(&'a [Target]);
 
 impl<'a> Part for LinksBehind<'a> {
     ghost use Rattle.trace_report.specs.Links.{links_behind};
 
-    ghost text = { λ links. links_behind links.link links.targets.now };
+    ghost text = { λ links. links_behind links.0.now };
 
     fn say<S: TextSink>(self, out: &mut S) {
-        let link = self.link;
-        'targets: for target in self.targets {
-            let another = LinkTo {
-                link,
-                target: *target,
-            };
-            say(out, (", ", another));
+        'targets: for target in self.0 {
+            say(out, (", ", LinkTo(*target)));
         }
     }
 }
 
-/// A link.
+/// A link to a place: where it leads, and how it is called.
 #[derive(Clone, Copy)]
-struct LinkTo {
-    link: Link,
-    target: u64,
-}
+struct LinkTo(Target);
 
 impl Part for LinkTo {
     ghost use Rattle.trace_report.specs.Links.{link_text};
 
-    ghost text = { λ link. link_text link.link link.target };
+    ghost text = { λ link. link_text link.0 };
 
     fn say<S: TextSink>(self, out: &mut S) {
-        let LinkTo { link, target } = self;
-        let number = Number(target);
-        match link {
-            Link::Item => say(out, ("<a href=\"#i", number, "\">item ", number, "</a>")),
-            Link::Line => say(out, ("<a href=\"#l", number, "\">line ", number, "</a>")),
-            Link::Side if target == 0 => say(out, "<a href=\"#et\">of the tester</a>"),
-            Link::Side => say(out, "<a href=\"#eu\">of the unit</a>"),
+        match self.0 {
+            Target::Item(number) => {
+                let number = Number(number);
+                say(out, ("<a href=\"#i", number, "\">item ", number, "</a>"));
+            }
+            Target::Line(number) => {
+                let number = Number(number);
+                say(out, ("<a href=\"#l", number, "\">line ", number, "</a>"));
+            }
+            Target::Side(Dir::Tester) => say(out, "<a href=\"#et\">of the tester</a>"),
+            Target::Side(Dir::Unit) => say(out, "<a href=\"#eu\">of the unit</a>"),
         }
     }
 }

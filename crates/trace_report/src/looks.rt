@@ -2,18 +2,19 @@
 
 ghost use Rattle.std.specs.Prelude.{◌≡◌, ◌++◌, ℕ, List, Some, map};
 ghost use Rattle.std.specs.List.{list_any};
-ghost use Rattle.trace_report.specs.Looks.{begins, has_at, has_more_decimals, is_dated, is_table, is_told, lacks_stamp, look_of, look_told, row_of, signs, text_look};
+ghost use Rattle.trace_report.specs.Looks.{begins, has_at, has_more_decimals, is_dated, is_table, is_told, lacks_stamp, look_of, look_told, look_row, signs, text_look};
 
-/// What a log looks like that is refused in its first line, or by the bytes that it begins with.
+/// What a log looks like that is refused in its first line, or by the bytes that it begins with. One that first bytes tell
+/// stands in [`TOLD`], too: that none is missing there no proof says, since the definitions take that list from here.
 #[derive(Clone, Copy)]
 pub enum Look {
     /// A file that gzip has compressed.
     Gzip,
-    /// One that zstd has.
+    /// A file that zstd has compressed.
     Zstandard,
-    /// One that xz has.
+    /// A file that xz has compressed.
     Xz,
-    /// One that bzip2 has.
+    /// A file that bzip2 has compressed.
     Bzip2,
     /// An archive of zip.
     Zip,
@@ -33,7 +34,7 @@ pub enum Look {
     Trc,
     /// A capture in the form of libpcap.
     Pcap,
-    /// One in the form that followed it.
+    /// A capture in the form pcapng, which followed that of libpcap.
     Pcapng,
     /// A log whose stamps have a date.
     Date,
@@ -99,6 +100,8 @@ pub(crate) fn lacks_stamp(first: &[u8], line: u64, column: u32) -> bool
 fn has_more_decimals(first: &[u8], column: u32) -> bool
     ensures { result ≡ has_more_decimals first.now column }
 {
+    // The dot stands seven places before the refused byte, and columns count from 1: so it is the byte at the column less 8,
+    // and behind a bracket and a digit at least.
     column >= 10 && has_at(first, column as usize - 8, b'.')
 }
 
@@ -116,7 +119,7 @@ pub fn look_told(first: &[u8]) -> Option<Look>
 fn is_told(look: Look, first: &[u8]) -> bool
     ensures { result ≡ is_told first.now look }
 {
-    begins_with_one(first, row_of(look).first)
+    begins_with_one(first, look_row(look).first)
 }
 
 /// Whether bytes begin with one of these.
@@ -127,10 +130,10 @@ fn begins_with_one(bytes: &[u8], fronts: &[&[u8]]) -> bool
 }
 
 /// The table of looks.
-pub(crate) fn row_of(look: Look) -> LookRow
-    ensures first { map (λ first. first.now) result.first.now ≡ (row_of look).first }
-    ensures words { result.words.now ≡ (row_of look).words }
-    ensures command { result.command.now ≡ (row_of look).command }
+pub(crate) fn look_row(look: Look) -> LookRow
+    ensures first { map (λ first. first.now) result.first.now ≡ (look_row look).first }
+    ensures words { result.words.now ≡ (look_row look).words }
+    ensures command { result.command.now ≡ (look_row look).command }
 {
     let (first, words, command): (&[&[u8]], &str, &str) = match look {
         Look::Gzip => (
@@ -233,7 +236,7 @@ fn is_dated(first: &[u8]) -> bool
     has_at(first, 0, b'(') && has_at(first, 5, b'-')
 }
 
-/// Whether it is values with commas or semicolons between them.
+/// Whether the bytes are values with commas or semicolons between them, and no stamp stands in front.
 fn is_table(first: &[u8]) -> bool
     ensures { result ≡ is_table first.now }
 {

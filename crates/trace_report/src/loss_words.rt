@@ -1,9 +1,9 @@
 //! What is missing in a log, in words.
-ghost use Rattle.trace_report.specs.Rows.{layout_fault_words};
+ghost use Rattle.trace_report.specs.LostRows.{layout_fault_words};
 
 use direction::Dir;
 use isotp_pdu::PduFault;
-use isotp_receive::{Cause, Ended, Reason};
+use isotp_receive::{Cause, Ended, MESSAGE_LIMIT, Reason};
 use text_parts::{Part, say};
 use trace_io::TextSink;
 use trace_text::{DropReason, EndCause, Length, Number, Sender};
@@ -13,7 +13,7 @@ use trace_text::{DropReason, EndCause, Length, Number, Sender};
 pub struct DroppedWords(pub Dir, pub Reason);
 
 impl Part for DroppedWords {
-    ghost use Rattle.trace_report.specs.Rows.{dropped_words};
+    ghost use Rattle.trace_report.specs.LostRows.{dropped_words};
 
     ghost text = { λ words. dropped_words words.0 words.1 };
 
@@ -38,7 +38,7 @@ impl Part for DroppedWords {
 pub struct EndedWords(pub Ended);
 
 impl Part for EndedWords {
-    ghost use Rattle.trace_report.specs.Rows.{ended_words};
+    ghost use Rattle.trace_report.specs.LostRows.{ended_words};
 
     ghost text = { λ words. ended_words words.0 };
 
@@ -69,7 +69,7 @@ impl Part for EndedWords {
 pub struct UnfinishedWords(pub Dir, pub u64, pub u32);
 
 impl Part for UnfinishedWords {
-    ghost use Rattle.trace_report.specs.Rows.{unfinished_words};
+    ghost use Rattle.trace_report.specs.LostRows.{unfinished_words};
 
     ghost text = { λ words. unfinished_words words.0 words.1 words.2 };
 
@@ -91,7 +91,7 @@ impl Part for UnfinishedWords {
 struct WhyDroppedInWords(Reason);
 
 impl Part for WhyDroppedInWords {
-    ghost use Rattle.trace_report.specs.Rows.{reason_words};
+    ghost use Rattle.trace_report.specs.LostRows.{reason_words};
 
     ghost text = { λ why. reason_words why.0 };
 
@@ -107,12 +107,15 @@ impl Part for WhyDroppedInWords {
                 " <i>no message was under way that it goes on with</i>",
             ),
             Reason::NextLate | Reason::NextSequence { .. } | Reason::NextLength => {}
-            Reason::TooLong { .. } => say(out, " <i>more than the limit of 1048575</i>"),
+            Reason::TooLong { .. } => say(
+                out,
+                (" <i>more than the limit of ", Length(MESSAGE_LIMIT), "</i>"),
+            ),
         }
     }
 }
 
-/// The same of a frame that has no layout.
+/// Says why a frame has no layout, for a reader who knows no ISO 15765-2.
 fn say_layout_fault_words<S: TextSink>(fault: PduFault, out: &mut S)
     ensures { S.says out.old (layout_fault_words fault) out.new }
 {
@@ -154,7 +157,7 @@ struct PartOfMessage {
 }
 
 impl Part for PartOfMessage {
-    ghost use Rattle.trace_report.specs.Rows.{partial_text};
+    ghost use Rattle.trace_report.specs.LostRows.{partial_text};
 
     ghost text = { λ part. partial_text part.dir part.line part.len };
 
@@ -178,7 +181,7 @@ impl Part for PartOfMessage {
 struct WhyEndedInWords(Cause);
 
 impl Part for WhyEndedInWords {
-    ghost use Rattle.trace_report.specs.Rows.{cause_words};
+    ghost use Rattle.trace_report.specs.LostRows.{cause_words};
 
     ghost text = { λ why. cause_words why.0 };
 

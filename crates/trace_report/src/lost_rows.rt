@@ -1,10 +1,10 @@
 //! The rows of a report that tell what is missing: answers, frames, and messages that are not whole.
-ghost use Rattle.trace_report.specs.Rows.{dropped_row, ended_row, no_answer_row, unfinished_row};
+ghost use Rattle.trace_report.specs.LostRows.{dropped_row, ended_row, no_answer_row, unfinished_row};
 
 use crate::cells::{CellEnd, CellFront, Side};
+use crate::durations::Seconds;
 use crate::loss_words::{DroppedWords, EndedWords, UnfinishedWords};
 use crate::row::Arrow;
-use crate::words::Seconds;
 use direction::Dir;
 use isotp_receive::{Ended, Reason};
 use text_parts::{Part, When, say};
@@ -57,7 +57,7 @@ struct FrameFront {
 }
 
 impl Part for FrameFront {
-    ghost use Rattle.trace_report.specs.Rows.{frame_front};
+    ghost use Rattle.trace_report.specs.LostRows.{frame_front};
 
     ghost text = { λ front. frame_front front.linked front.origin front.place };
 

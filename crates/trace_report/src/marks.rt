@@ -3,7 +3,7 @@ ghost use Rattle.std.specs.Prelude.{◌≡◌, ◌∷◌, take, drop};
 ghost use Rattle.trace_report.specs.Marks.{before_text, behind_text, byte_ahead, bytes_ahead, count_before, count_behind, mark_first, marked_bytes, marked_data, marked_from, window_text};
 ghost use Rattle.trace_report.specs.Marks as Spec;
 
-use crate::words::{MOST_SHOWN, SHOWN_FIRST, say_bytes_behind};
+use crate::data::{MOST_SHOWN, SHOWN_FIRST, say_bytes_behind};
 use trace_io::TextSink;
 use trace_text::values::{say_byte, say_number, say_text};
 

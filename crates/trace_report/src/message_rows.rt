@@ -1,11 +1,11 @@
 //! The rows of a report that tell messages.
-ghost use Rattle.std.specs.Prelude.{◌≡◌};
-ghost use Rattle.trace_report.specs.Rows.{message_row};
-ghost use Rattle.trace_report.specs.Rows as Spec;
+ghost use Rattle.trace_report.specs.MessageRows.{message_row};
 
 use crate::cells::{CellEnd, CellFront};
-use crate::row::{Arrow, MessagePlace, MessageRole};
-use crate::words::{Data, Milliseconds, Seconds};
+use crate::data::Data;
+use crate::durations::{Milliseconds, Seconds};
+use crate::roles::{MessageRole, asked_at, begins_item};
+use crate::row::{Arrow, MessagePlace};
 use direction::Dir;
 use text_parts::{Either, Part, say};
 use trace_io::TextSink;
@@ -51,7 +51,7 @@ pub struct MessageFront {
 }
 
 impl Part for MessageFront {
-    ghost use Rattle.trace_report.specs.Rows.{message_front};
+    ghost use Rattle.trace_report.specs.MessageRows.{message_front};
 
     ghost text = { λ front. message_front front.linked front.origin front.role front.place };
 
@@ -82,9 +82,9 @@ impl Part for MessageFront {
     }
 }
 
-/// How a message looks, a class of the style. The other rows have some, too:
+/// The class of the style by which a message is shown. The other rows have some, too:
 ///
-/// | Class | Rows | Look |
+/// | Class | Rows | How they are shown |
 /// |---|---|---|
 /// | `q` | a request | the tester's colour |
 /// | `ok` | a positive answer | the unit's colour |
@@ -96,7 +96,7 @@ impl Part for MessageFront {
 struct RoleClass(MessageRole);
 
 impl Part for RoleClass {
-    ghost use Rattle.trace_report.specs.Rows.{role_class};
+    ghost use Rattle.trace_report.specs.MessageRows.{role_class};
 
     ghost text = { λ class. role_class class.0 };
 
@@ -112,17 +112,6 @@ impl Part for RoleClass {
     }
 }
 
-/// Whether a message begins an item.
-pub fn begins_item(role: MessageRole) -> bool
-    ensures { result ≡ Spec.begins_item role }
-{
-    match role {
-        MessageRole::Request | MessageRole::KeepAlive | MessageRole::Stray => true,
-        MessageRole::Positive { .. } | MessageRole::Negative { .. } | MessageRole::Pending { .. } =>
-            false,
-    }
-}
-
 /// The number of an item: the header of its row, to which links lead or not, or repeated.
 #[derive(Clone, Copy)]
 struct ItemCell {
@@ -132,7 +121,7 @@ struct ItemCell {
 }
 
 impl Part for ItemCell {
-    ghost use Rattle.trace_report.specs.Rows.{item_cell};
+    ghost use Rattle.trace_report.specs.MessageRows.{item_cell};
 
     ghost text = { λ cell. item_cell cell.linked cell.role cell.number };
 
@@ -153,7 +142,7 @@ impl Part for ItemCell {
 pub(crate) struct Lines(pub u64, pub u64);
 
 impl Part for Lines {
-    ghost use Rattle.trace_report.specs.Rows.{lines_text};
+    ghost use Rattle.trace_report.specs.MessageRows.{lines_text};
 
     ghost text = { λ lines. lines_text lines.0 lines.1 };
 
@@ -164,12 +153,12 @@ impl Part for Lines {
     }
 }
 
-/// The same, called so.
+/// The lines of the log from one to another, behind the word line or lines.
 #[derive(Clone, Copy)]
 pub struct NamedLines(pub u64, pub u64);
 
 impl Part for NamedLines {
-    ghost use Rattle.trace_report.specs.Rows.{named_lines};
+    ghost use Rattle.trace_report.specs.MessageRows.{named_lines};
 
     ghost text = { λ lines. named_lines lines.0 lines.1 };
 
@@ -189,7 +178,7 @@ impl Part for NamedLines {
 pub struct RoleWords<'a>(pub MessageRole, pub Dir, pub &'a [u8]);
 
 impl<'a> Part for RoleWords<'a> {
-    ghost use Rattle.trace_report.specs.Rows.{role_words};
+    ghost use Rattle.trace_report.specs.MessageRows.{role_words};
 
     ghost text = { λ words. role_words words.0 words.1 words.2.now };
 
@@ -216,25 +205,13 @@ impl<'a> Part for RoleWords<'a> {
     }
 }
 
-/// When the last frame of the request came to which a message replies, if it replies to one.
-pub fn asked_at(role: MessageRole) -> Option<u64>
-    ensures { result ≡ Spec.asked_at role }
-{
-    match role {
-        MessageRole::Positive { asked }
-        | MessageRole::Negative { asked }
-        | MessageRole::Pending { asked } => Some(asked),
-        MessageRole::Request | MessageRole::KeepAlive | MessageRole::Stray => None,
-    }
-}
-
 /// The note on a message of so many bytes: how many frames carry them, and how long after its request the first of them
 /// came, if it replies to one.
 #[derive(Clone, Copy)]
 pub struct Note(pub MessageRole, pub MessagePlace, pub u64);
 
 impl Part for Note {
-    ghost use Rattle.trace_report.specs.Rows.{note_text};
+    ghost use Rattle.trace_report.specs.MessageRows.{note_text};
 
     ghost text = { λ note. note_text note.0 note.1 note.2 };
 
@@ -266,7 +243,7 @@ impl Part for Note {
 pub struct FurtherNote(pub Option<u64>, pub u64);
 
 impl Part for FurtherNote {
-    ghost use Rattle.trace_report.specs.Rows.{further_note};
+    ghost use Rattle.trace_report.specs.MessageRows.{further_note};
 
     ghost text = { λ note. further_note note.0 note.1 };
 
@@ -283,7 +260,7 @@ impl Part for FurtherNote {
 pub(crate) struct After(pub u64, pub u64);
 
 impl Part for After {
-    ghost use Rattle.trace_report.specs.Rows.{after_text};
+    ghost use Rattle.trace_report.specs.MessageRows.{after_text};
 
     ghost text = { λ after. after_text after.0 after.1 };
 

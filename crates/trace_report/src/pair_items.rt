@@ -1,6 +1,6 @@
 //! The items of a page of two logs: those before the first difference, the difference, and those behind it.
 ghost use Rattle.std.specs.Prelude.{◌≡◌, ◌<◌, ◌+◌, ◌^◌, drop, false, option_map, take, true, IfSome, Some};
-ghost use Rattle.trace_report.specs.Held.{pairs_in};
+ghost use Rattle.trace_report.specs.Kept.{pairs_in};
 ghost use Rattle.trace_report.specs.ItemRows.{pair_rows};
 ghost use Rattle.trace_report.specs.PairPage.{contrast_side, difference_text, items_after, items_before, items_text, later_items, rows_to_difference, same_items};
 ghost use Rattle.trace_report.specs.Difference.{contrast_chart};

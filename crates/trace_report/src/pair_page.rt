@@ -2,7 +2,7 @@
 ghost use Rattle.std.specs.Prelude.{◌≡◌};
 ghost use Rattle.trace_run.specs.Printed.{Prints};
 ghost use Rattle.trace_io.specs.Counted.{IsLowCount};
-ghost use Rattle.trace_report.specs.Held.{pairs_in};
+ghost use Rattle.trace_report.specs.Kept.{pairs_in};
 ghost use Rattle.trace_report.specs.Contrast.{first_contrast};
 ghost use Rattle.trace_report.specs.PairPage.{both_names, held_page, letter_mark, lettered_name, pair_body, pair_front, pair_head, pair_header, pair_page, refused_pair, unread_page};
 ghost use Rattle.trace_report.specs.PairPage as Spec;

@@ -14,7 +14,7 @@ use direction::Dir;
 use isotp_receive::Event;
 use trace_canon::reception_starts::{FramePlace, ReceptionStarts, still_begun};
 
-/// Of the receptions that stand: where they began, and how many frames they took.
+/// Where the receptions began that stand, and how many frames they took.
 #[derive(Clone, Copy, Debug)]
 pub(crate) struct Places {
     pub begun: ReceptionStarts,

@@ -64,7 +64,7 @@ impl<'a> Part for StrictWords<'a> {
     }
 }
 
-/// What that means for the messages.
+/// What it means for the messages of a page that a recording is not called clean.
 #[derive(Clone, Copy)]
 struct MeaningWords<'a>(&'a Summary);
 

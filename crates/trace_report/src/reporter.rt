@@ -2,7 +2,8 @@
 ghost use Rattle.std.specs.Prelude.{◌≡◌, List, [], ◌∷◌, ◌++◌, Option};
 ghost use Rattle.isotp_receive.specs.declared.TheConstants.{MESSAGE_LIMIT};
 ghost use Rattle.isotp_receive.specs.Trace.{Entry};
-ghost use Rattle.trace_run.specs.Told.{RanLenient, answers_counts, command, glimpse_of, needs_none};
+ghost use Rattle.trace_run.specs.Script.{answers_counts, command, glimpse_of, needs_none};
+ghost use Rattle.trace_run.specs.Told.{RanLenient};
 ghost use Rattle.trace_io.specs.Counted.{IsLowCount};
 ghost use Rattle.trace_report.specs.Front.{page_title};
 ghost use Rattle.trace_report.specs.Page.{first_time, front_before, refused_text, report_script};
@@ -10,21 +11,21 @@ ghost use Rattle.trace_report.specs.proving.Following.{times_of};
 ghost use Rattle.trace_report.specs.proving.Pages.{title_of};
 ghost use Rattle.trace_log.specs.Devices.{HasLowCounts};
 
-use crate::blocks::BlockEnd;
+use crate::blocks::{BlockEnd, Blocks};
 use crate::cause::{RefusalCause, cause_of};
 use crate::chart::Chart;
 use crate::follower::Follower;
-use crate::front::{Front, Title};
+use crate::front::{Front, PageTitle};
 use crate::help::Help;
 use crate::refusal::StopLine;
 use crate::times::Times;
-use crate::verdict::{RefusedVerdict, VerdictSection};
+use crate::verdict::{Findings, RefusedVerdict, VerdictSection};
 use isotp_receive::Pair;
 use std::alloc::{AllocError, Global};
 use text_parts::{Part, say};
 use trace_io::{Source, Target, TextSink};
 use trace_log::{Config, Fault, Summary};
-use trace_run::{Glimpse, Machine, Seen, Stop, run_lenient};
+use trace_run::{Glimpse, Machine, NoAnswer, Seen, run_lenient};
 
 /// Reads a log and writes its session as a page of HTML, with this style and the name of the log: each row as its frame comes, and
 /// at the end the verdict, which the style shows first.
@@ -49,7 +50,7 @@ pub fn report<R: Source, W: Target>(
         config.now reader.old writer.old result reader.new writer.new }
 {
     let machine = Reporter {
-        title: Title {
+        title: PageTitle {
             style,
             name,
             tester: config.tester(),
@@ -66,8 +67,8 @@ pub fn report<R: Source, W: Target>(
 /// Says a page. It keeps no message, and no row.
 #[derive(Drop)]
 pub(crate) struct Reporter<'a> {
-    pub title: Title<'a>,
-    /// Of the frames so far, if there are any.
+    pub title: PageTitle<'a>,
+    /// The times of the first frame so far and of the last one, if there are frames.
     pub times: Option<Times>,
     pub follower: Follower,
     pub chart: Chart,
@@ -75,7 +76,7 @@ pub(crate) struct Reporter<'a> {
 
 impl<'a> Machine for Reporter<'a> {
     ghost use Rattle.isotp_receive.specs.declared.TheConstants.{MESSAGE_LIMIT};
-    ghost use Rattle.trace_run.specs.Told.{answers_counts};
+    ghost use Rattle.trace_run.specs.Script.{answers_counts};
     ghost use Rattle.trace_report.specs.Page.{refused_text, report_script};
     ghost use Rattle.trace_report.specs.proving.Following.{Reports};
     ghost use Rattle.trace_report.specs.proving.Pages.{title_of};
@@ -114,7 +115,7 @@ impl<'a> Machine for Reporter<'a> {
         pair: &Pair,
         summary: &Summary,
         out: &mut S,
-    ) -> Result<Summary, Stop> {
+    ) -> Result<Summary, NoAnswer> {
         let Reporter {
             title,
             times,
@@ -124,15 +125,24 @@ impl<'a> Machine for Reporter<'a> {
         let origin = say_front_before(&title, times, 0, out);
         chart.say_rows(origin, follower.end(pair), out);
         let closing = PageEnd {
-            chart: &chart,
-            summary,
-            times,
+            blocks: chart.blocks,
+            found: Findings {
+                tally: &chart.tally,
+                summary,
+                times,
+            },
         };
         say(out, closing);
         Ok(*summary)
     }
 
-    fn refused<S: TextSink>(self, summary: &Summary, why: Fault, source: Glimpse<'_>, out: &mut S) {
+    fn refused<S: TextSink>(
+        self,
+        summary: &Summary,
+        why: Fault,
+        glimpse: Glimpse<'_>,
+        out: &mut S,
+    ) {
         let Reporter {
             title,
             times,
@@ -142,10 +152,13 @@ impl<'a> Machine for Reporter<'a> {
         say_front_before(&title, times, 0, out);
         let closing = RefusedEnd {
             why,
-            cause: cause_of(why, title.most, source),
-            chart: &chart,
-            summary,
-            times,
+            cause: cause_of(why, title.most, glimpse),
+            blocks: chart.blocks,
+            found: Findings {
+                tally: &chart.tally,
+                summary,
+                times,
+            },
         };
         say(out, closing);
     }
@@ -153,7 +166,7 @@ impl<'a> Machine for Reporter<'a> {
 
 /// Says the front of the page, where no frame came before. Answers the time of the first frame, which is this where none did.
 fn say_front_before<S: TextSink>(
-    title: &Title<'_>,
+    title: &PageTitle<'_>,
     times: Option<Times>,
     micros: u64,
     out: &mut S,
@@ -171,66 +184,57 @@ fn say_front_before<S: TextSink>(
     }
 }
 
-/// What stands behind all rows.
+/// What stands behind all rows, which left these blocks.
 #[derive(Clone, Copy)]
 struct PageEnd<'a> {
-    chart: &'a Chart,
-    summary: &'a Summary,
-    times: Option<Times>,
+    blocks: Blocks,
+    found: Findings<'a>,
 }
 
 impl<'a> Part for PageEnd<'a> {
     ghost use Rattle.trace_report.specs.Page.{page_end};
     ghost use Rattle.trace_report.specs.proving.Lending.{first_of_times, last_of_times};
 
-    ghost text = { λ end. page_end end.chart.now.blocks end.chart.now.tally end.summary.now (first_of_times end.times) (last_of_times end.times) };
+    ghost text = { λ end. page_end end.blocks end.found.tally.now end.found.summary.now (first_of_times end.found.times) (last_of_times end.found.times) };
 
     fn say<S: TextSink>(self, out: &mut S) {
-        let verdict = VerdictSection {
-            tally: &self.chart.tally,
-            summary: self.summary,
-            times: self.times,
-        };
         say(
             out,
             (
-                BlockEnd(self.chart.blocks.count),
+                BlockEnd(self.blocks.count),
                 "</main>\n",
-                verdict,
+                VerdictSection(self.found),
                 Help,
             ),
         );
     }
 }
 
-/// The same of the page of a log that is refused.
+/// What stands behind all rows of a log that is refused.
 #[derive(Clone, Copy)]
 struct RefusedEnd<'a> {
     why: Fault,
     cause: Option<RefusalCause>,
-    chart: &'a Chart,
-    summary: &'a Summary,
-    times: Option<Times>,
+    blocks: Blocks,
+    found: Findings<'a>,
 }
 
 impl<'a> Part for RefusedEnd<'a> {
     ghost use Rattle.trace_report.specs.Page.{refused_end};
     ghost use Rattle.trace_report.specs.proving.Lending.{first_of_times, last_of_times};
 
-    ghost text = { λ end. refused_end end.why end.cause end.chart.now.blocks end.chart.now.tally end.summary.now (first_of_times end.times) (last_of_times end.times) };
+    ghost text = { λ end. refused_end end.why end.cause end.blocks end.found.tally.now end.found.summary.now (first_of_times end.found.times) (last_of_times end.found.times) };
 
     fn say<S: TextSink>(self, out: &mut S) {
         let verdict = RefusedVerdict {
             why: self.why,
             cause: self.cause,
-            tally: &self.chart.tally,
-            summary: self.summary,
-            times: self.times,
+            found: self.found,
         };
         say(
             out,
             (
-                BlockEnd(self.chart.blocks.count),
+                BlockEnd(self.blocks.count),
                 StopLine(self.why),
                 "</main>\n",
                 verdict,

@@ -1,19 +1,9 @@
 //! What a row of a report tells.
 
+use crate::roles::MessageRole;
 use direction::Dir;
 use isotp_receive::{Ended, Reason};
 use trace_canon::reception_starts::FramePlace;
-
-/// What a message is to its item. A reply has the time of the last frame of its request.
-#[derive(Clone, Copy, Debug)]
-pub enum MessageRole {
-    Request,
-    Positive { asked: u64 },
-    Negative { asked: u64 },
-    Pending { asked: u64 },
-    KeepAlive,
-    Stray,
-}
 
 /// Where a message stands: its item, its first frame and its last one, and how many carry its bytes.
 #[derive(Clone, Copy, Debug)]

@@ -3,10 +3,11 @@ ghost use Rattle.std.specs.Prelude.{◌≡◌};
 ghost use Rattle.trace_report.specs.Sorts as Spec;
 ghost use Rattle.trace_report.specs.proving.Pages.{row_of};
 
-use crate::row::{MessageRole, Row};
-use direction::Dir;
+use crate::roles::MessageRole;
+use crate::row::Row;
+use crate::targets::Target;
 
-/// What needs a look, and what else is counted.
+/// What needs attention, and what else is counted.
 #[derive(Clone, Copy, Debug)]
 pub(crate) enum Sort {
     Requests,
@@ -35,7 +36,7 @@ pub(crate) fn sort_of(row: Row<'_>) -> Sort
     }
 }
 
-/// The sort of a message.
+/// The sort of the row of a message of this role.
 fn sort_of_role(role: MessageRole) -> Sort
     ensures { result ≡ Spec.sort_of_role role }
 {
@@ -49,7 +50,32 @@ fn sort_of_role(role: MessageRole) -> Sort
     }
 }
 
-/// The sort of an item without an answer.
+/// Whether rows of this sort need attention: a page links to the first of them, and its filter hides each exchange without
+/// one.
+pub(crate) fn needs_attention(sort: Sort) -> bool
+    ensures { result ≡ Spec.needs_attention sort }
+{
+    match sort {
+        Sort::Negatives
+        | Sort::Strays
+        | Sort::Unanswered
+        | Sort::Dropped
+        | Sort::Ended
+        | Sort::Unfinished => true,
+        Sort::Requests | Sort::Positives | Sort::Pendings | Sort::KeepAlives | Sort::Silent => {
+            false
+        }
+    }
+}
+
+/// Whether a message of this role needs attention.
+pub(crate) fn message_needs_attention(role: MessageRole) -> bool
+    ensures { result ≡ Spec.message_needs_attention role }
+{
+    needs_attention(sort_of_role(role))
+}
+
+/// The sort of the row of an item without an answer, which asked for no positive one or did.
 fn sort_of_silence(silent: bool) -> Sort
     ensures { result ≡ Spec.sort_of_silence silent }
 {
@@ -60,25 +86,15 @@ fn sort_of_silence(silent: bool) -> Sort
     }
 }
 
-/// Where a link to a row leads: to the number of its item or to its line, or to its side.
-pub(crate) fn target_of(row: Row<'_>) -> u64
+/// Where a link to a row leads: to its item or to its line, or to what stands of its side.
+pub(crate) fn target_of(row: Row<'_>) -> Target
     ensures { result ≡ Spec.target_of (row_of row.entry) }
 {
     match row {
-        Row::Message { place, .. } => place.item,
-        Row::NoAnswer { number, .. } => number,
-        Row::Dropped { place, .. } => place.line,
-        Row::Ended { place, .. } => place.line,
-        Row::Unfinished { dir, .. } => side_number(dir),
-    }
-}
-
-/// The number by which a link names a side.
-fn side_number(dir: Dir) -> u64
-    ensures { result ≡ Spec.side_number dir }
-{
-    match dir {
-        Dir::Tester => 0,
-        Dir::Unit => 1,
+        Row::Message { place, .. } => Target::Item(place.item),
+        Row::NoAnswer { number, .. } => Target::Item(number),
+        Row::Dropped { place, .. } => Target::Line(place.line),
+        Row::Ended { place, .. } => Target::Line(place.line),
+        Row::Unfinished { dir, .. } => Target::Side(dir),
     }
 }

@@ -1,5 +1,5 @@
 //! What a report keeps of its rows for the verdict.
-ghost use Rattle.std.specs.Prelude.{◌≡◌, ◌<◌, ◌^◌, ◌-◌, ℕ, List, [], ◌∷◌, ◌++◌, length, take};
+ghost use Rattle.std.specs.Prelude.{◌≡◌, ◌<◌, ◌^◌, ◌-◌, List, [], ◌∷◌, ◌++◌, length, take};
 ghost use Rattle.trace_report.specs.Rows.{RowValue};
 ghost use Rattle.trace_report.specs.Sorts.{first_targets, most_links, tally_of};
 ghost use Rattle.trace_report.specs.proving.Pages.{row_of};
@@ -8,15 +8,16 @@ ghost use Rattle.trace_report.specs.proving.Tallying.{first_with};
 use crate::counts::SortCounts;
 use crate::row::Row;
 use crate::sorts::{Sort, sort_of, target_of};
+use crate::targets::Target;
 use arrayvec::ArrayVec;
 
-/// So many rows of a sort are linked to.
+/// So many rows of a sort are linked to at the most.
 pub(crate) const MOST_LINKS: u64 = 10;
 
-/// Where links to rows of a sort lead, to the first [`MOST_LINKS`] of them.
-pub(crate) type Targets = ArrayVec<u64, 10>;
+/// Where links to rows of a sort lead: to the first [`MOST_LINKS`] of them.
+pub(crate) type Targets = ArrayVec<Target, 10>;
 
-/// Of each sort that needs a look, where links to its first rows lead.
+/// Where links to the first rows lead of each sort that needs attention.
 #[derive(Debug, Drop)]
 pub(crate) struct FirstTargets {
     pub dropped: Targets,
@@ -43,7 +44,7 @@ impl FirstTargets {
     }
 
     /// Takes a row of this sort, to which a link leads there.
-    fn take(&mut self, sort: Sort, target: u64)
+    fn take(&mut self, sort: Sort, target: Target)
         ensures { self.new ≡ first_with sort target self.old }
     {
         match sort {
@@ -60,7 +61,7 @@ impl FirstTargets {
 }
 
 /// Keeps a target behind those before it, if there is room.
-fn keep(first: &mut Targets, target: u64)
+fn keep(first: &mut Targets, target: Target)
     ensures { first.new.items ≡ take most_links (first.old.items ++ target ∷ []) }
 {
     if !first.is_full() {

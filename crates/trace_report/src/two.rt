@@ -1,13 +1,13 @@
 //! Two sessions that are kept, and how they compare.
 ghost use Rattle.std.specs.Prelude.{◌≡◌, ◌<◌, ◌^◌, IfSome, Some, length, option_map, slice_get};
 ghost use Rattle.trace_report.specs.Contrast.{first_contrast};
-ghost use Rattle.trace_report.specs.Held.{comparison_by, comparison_in, pairs_in};
+ghost use Rattle.trace_report.specs.Kept.{comparison_by, comparison_in, pairs_in};
 ghost use Rattle.trace_report.specs.Items.{items_in, pairs_of};
 ghost use Rattle.trace_report.specs.proving.Lending.{contrast_at, contrast_found, pair_of};
 ghost use Rattle.trace_report.specs.proving.Rowing.{IsKnown};
 
 use crate::contrast::{Contrast, contrast_of};
-use crate::items::LentPair;
+use crate::items::ItemPair;
 use crate::kept_rows::KeptRows;
 use crate::session::Session;
 use std::marker::Model;
@@ -23,7 +23,7 @@ pub struct Two {
 
 impl Model for Two {
     ghost use Rattle.std.specs.Prelude.{◌≡◌};
-    ghost use Rattle.trace_report.specs.Held.{TwoValue, comparison_in};
+    ghost use Rattle.trace_report.specs.Kept.{TwoValue, comparison_in};
 
     ghost Value = { TwoValue };
 
@@ -37,7 +37,7 @@ impl Model for Two {
 #[derive(Clone, Copy)]
 pub(crate) struct Difference<'a> {
     pub before: usize,
-    pub pair: LentPair<'a>,
+    pub pair: ItemPair<'a>,
     pub how: Contrast,
 }
 
@@ -86,7 +86,7 @@ impl Two {
 
     /// What they have of the number at a place, counted from 0, if one of them has an item of it.
     #[inline(always)]
-    pub(crate) fn pair(&self, at: usize) -> Option<LentPair<'_>>
+    pub(crate) fn pair(&self, at: usize) -> Option<ItemPair<'_>>
         ensures { option_map pair_of result ≡ slice_get (pairs_in self.now) at }
     {
         pair_at(self.left.rows(), self.right.rows(), at)
@@ -129,13 +129,13 @@ fn numbers_of(left: &KeptRows, right: &KeptRows) -> usize
 
 /// What the sessions with these rows have of the number at a place, if one of them has an item of it.
 #[inline(always)]
-fn pair_at<'a>(left: &'a KeptRows, right: &'a KeptRows, at: usize) -> Option<LentPair<'a>>
+fn pair_at<'a>(left: &'a KeptRows, right: &'a KeptRows, at: usize) -> Option<ItemPair<'a>>
     ensures { option_map pair_of result ≡ slice_get (pairs_of (items_in left.now) (items_in right.now)) at }
 {
     match (left.item(at), right.item(at)) {
-        (Some(a), Some(b)) => Some(LentPair::Both(a, b)),
-        (Some(a), None) => Some(LentPair::OnlyLeft(a)),
-        (None, Some(b)) => Some(LentPair::OnlyRight(b)),
+        (Some(a), Some(b)) => Some(ItemPair::Both(a, b)),
+        (Some(a), None) => Some(ItemPair::OnlyLeft(a)),
+        (None, Some(b)) => Some(ItemPair::OnlyRight(b)),
         (None, None) => None,
     }
 }
@@ -170,7 +170,7 @@ fn difference_at<'a>(left: &'a KeptRows, right: &'a KeptRows, at: usize) -> Opti
 }
 
 /// How the items at a place differ, if they do.
-fn difference_of<'a>(at: usize, pair: LentPair<'a>) -> Option<Difference<'a>>
+fn difference_of<'a>(at: usize, pair: ItemPair<'a>) -> Option<Difference<'a>>
     ensures found { option_map contrast_found result ≡ contrast_at at (Some (pair_of pair.entry)) }
     ensures before { IfSome result (λ found. found.before ≡ at) }
 {

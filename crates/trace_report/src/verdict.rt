@@ -1,4 +1,4 @@
-//! The verdict of a report: its heading, whether each answer is positive, what needs a look, the counts, and the time
+//! The verdict of a report: its heading, whether each answer is positive, what needs attention, the counts, and the time
 //! that the log spans.
 ghost use Rattle.std.specs.Prelude.{◌≡◌};
 ghost use Rattle.trace_report.specs.Links as Links;
@@ -6,85 +6,66 @@ ghost use Rattle.trace_report.specs.Verdict as Spec;
 
 use crate::cause::RefusalCause;
 use crate::counts::{AnswersOf, Counts, SortCounts};
-use crate::links::{Link, LookLine};
+use crate::durations::Seconds;
+use crate::links::AttentionLine;
 use crate::reasons::UncleanReasons;
 use crate::refusal::RefusedHeading;
 use crate::tally::Tally;
 use crate::times::{Times, first_of, last_of};
-use crate::words::Seconds;
 use text_parts::{Either, Part, say};
 use trace_io::TextSink;
 use trace_log::{Fault, Summary};
 use trace_text::Stamp;
 
-/// The verdict of a log.
+/// What was found of a log: the tally of its rows, its counts, and the times of its first frame and its last one.
 #[derive(Clone, Copy)]
-pub(crate) struct VerdictSection<'a> {
+pub(crate) struct Findings<'a> {
     pub tally: &'a Tally,
     pub summary: &'a Summary,
     pub times: Option<Times>,
 }
+
+/// The verdict of a log of which this was found.
+#[derive(Clone, Copy)]
+pub(crate) struct VerdictSection<'a>(pub Findings<'a>);
 
 impl<'a> Part for VerdictSection<'a> {
     ghost use Rattle.trace_report.specs.Verdict.{verdict_text};
     ghost use Rattle.trace_report.specs.proving.Lending.{first_of_times, last_of_times};
 
-    ghost text = { λ verdict. verdict_text verdict.tally.now verdict.summary.now (first_of_times verdict.times) (last_of_times verdict.times) };
+    ghost text = { λ verdict. verdict_text verdict.0.tally.now verdict.0.summary.now (first_of_times verdict.0.times) (last_of_times verdict.0.times) };
 
     fn say<S: TextSink>(self, out: &mut S) {
-        let VerdictSection {
-            tally,
-            summary,
-            times,
-        } = self;
+        let found = self.0;
         say(
             out,
             (
-                Heading(summary),
-                AnswersOf(&tally.counts),
+                Heading(found.summary),
+                AnswersOf(&found.tally.counts),
                 "</p>\n",
-                Findings {
-                    tally,
-                    summary,
-                    times,
-                },
+                found,
             ),
         );
     }
 }
 
-/// The verdict of a log that is refused, with the cause, if one is known, by what the lines before say.
+/// The verdict of a log that is refused, with the cause, if one is known, by what was found of the lines before.
 #[derive(Clone, Copy)]
 pub(crate) struct RefusedVerdict<'a> {
     pub why: Fault,
     pub cause: Option<RefusalCause>,
-    pub tally: &'a Tally,
-    pub summary: &'a Summary,
-    pub times: Option<Times>,
+    pub found: Findings<'a>,
 }
 
 impl<'a> Part for RefusedVerdict<'a> {
     ghost use Rattle.trace_report.specs.Verdict.{refused_verdict};
     ghost use Rattle.trace_report.specs.proving.Lending.{first_of_times, last_of_times};
 
-    ghost text = { λ verdict. refused_verdict verdict.why verdict.cause verdict.tally.now verdict.summary.now (first_of_times verdict.times) (last_of_times verdict.times) };
+    ghost text = { λ verdict. refused_verdict verdict.why verdict.cause verdict.found.tally.now verdict.found.summary.now (first_of_times verdict.found.times) (last_of_times verdict.found.times) };
 
     fn say<S: TextSink>(self, out: &mut S) {
-        let findings = Findings {
-            tally: self.tally,
-            summary: self.summary,
-            times: self.times,
-        };
-        say(out, (RefusedHeading(self.why, self.cause), findings));
+        say(out, (RefusedHeading(self.why, self.cause), self.found));
     }
-}
-
-/// What was found of a log.
-#[derive(Clone, Copy)]
-struct Findings<'a> {
-    tally: &'a Tally,
-    summary: &'a Summary,
-    times: Option<Times>,
 }
 
 impl<'a> Part for Findings<'a> {
@@ -102,7 +83,7 @@ impl<'a> Part for Findings<'a> {
         say(
             out,
             (
-                Looks(tally),
+                Attention(tally),
                 Counts(&tally.counts, summary),
                 SpanOf {
                     frames: summary.frames,
@@ -115,71 +96,42 @@ impl<'a> Part for Findings<'a> {
     }
 }
 
-/// What needs a look, where something does, by its sort.
+/// What needs attention, where something does, by its sort.
 #[derive(Clone, Copy)]
-struct Looks<'a>(&'a Tally);
+struct Attention<'a>(&'a Tally);
 
-impl<'a> Part for Looks<'a> {
-    ghost use Rattle.trace_report.specs.Links.{look_text};
+impl<'a> Part for Attention<'a> {
+    ghost use Rattle.trace_report.specs.Links.{attention_text};
 
-    ghost text = { λ look. look_text look.0.now };
+    ghost text = { λ attention. attention_text attention.0.now };
 
     fn say<S: TextSink>(self, out: &mut S) {
         let counts = &self.0.counts;
         let first = &self.0.first;
-        if needs_no_look(counts) {
+        if needs_no_attention(counts) {
             return;
         }
-        let dropped = LookLine {
-            words: "dropped frames",
-            link: Link::Line,
-            count: counts.dropped,
-            first: &first.dropped,
-        };
-        let ended = LookLine {
-            words: "ended early",
-            link: Link::Line,
-            count: counts.ended,
-            first: &first.ended,
-        };
-        let unfinished = LookLine {
-            words: "unfinished",
-            link: Link::Side,
-            count: counts.unfinished,
-            first: &first.unfinished,
-        };
-        let negative = LookLine {
-            words: "negative answers",
-            link: Link::Item,
-            count: counts.negatives,
-            first: &first.negatives,
-        };
-        let unanswered = LookLine {
-            words: "without an answer",
-            link: Link::Item,
-            count: counts.unanswered,
-            first: &first.unanswered,
-        };
-        let strays = LookLine {
-            words: "strays",
-            link: Link::Item,
-            count: counts.strays,
-            first: &first.strays,
-        };
         say(
             out,
             (
                 "<ul class=\"look\">\n",
-                (dropped, ended, unfinished, negative, unanswered, strays),
+                (
+                    AttentionLine("dropped frames", counts.dropped, &first.dropped),
+                    AttentionLine("ended early", counts.ended, &first.ended),
+                    AttentionLine("unfinished", counts.unfinished, &first.unfinished),
+                    AttentionLine("negative answers", counts.negatives, &first.negatives),
+                    AttentionLine("without an answer", counts.unanswered, &first.unanswered),
+                    AttentionLine("strays", counts.strays, &first.strays),
+                ),
                 "</ul>\n",
             ),
         );
     }
 }
 
-/// Whether nothing needs a look.
-fn needs_no_look(counts: &SortCounts) -> bool
-    ensures { result ≡ Links.needs_no_look counts.now }
+/// Whether nothing needs attention.
+fn needs_no_attention(counts: &SortCounts) -> bool
+    ensures { result ≡ Links.needs_no_attention counts.now }
 {
     counts.dropped == 0
         && counts.ended == 0

@@ -14,7 +14,7 @@ carried_more false old said text held new is = record {
 }
 carried_more true old said text held new is = front_longer old said text new is
 
--- where that is something, so is all that was said
+-- where something is held with it, all that was said is something
 some_more : (said text held : List ℕ) → (0 < length held → 0 < length said) → 0 < length (held ++ text) → 0 < length (said ++ text)
 some_more said text [] is some = omega (arith, length-append said text)
 some_more said text (byte ∷ held) is some = omega (arith, is (omega arith), length-append said text)
@@ -24,7 +24,7 @@ module _ {W : Type 0} (target : Ghosts W) where
   pub wrote_all : (start now : W) (said : List ℕ) → Carries target start said false [] now → target.taken now ≡ target.taken start ++ said
   wrote_all start now said carries = written_all (target.taken start) said (target.taken now) [] carries.written refl
 
-  -- or a front of it
+  -- a front of what was said was written, whether writing failed or not
   pub wrote_front : (start now : W) (said : List ℕ) (failed : Bool) → Carries target start said failed [] now
       → HasFront (target.taken start) said (target.taken now)
   wrote_front start now said true carries = carries.written

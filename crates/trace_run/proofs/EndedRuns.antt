@@ -10,8 +10,8 @@ use Rattle.trace_io.specs.declared.device.Target.{Ghosts}
 use Rattle.trace_log.specs.declared.fault.Fault.{Fault}
 use Rattle.trace_log.specs.declared.fault.Fault.TheVariants as fault
 use Rattle.uds_exchange.specs.declared.judge.Judge.{Judge}
-use Rattle.trace_run.specs.declared.machine.Stop.{Stop}
-use Rattle.trace_run.specs.declared.machine.Stop.TheVariants as end_stop
+use Rattle.trace_run.specs.declared.machine.NoAnswer.{NoAnswer}
+use Rattle.trace_run.specs.declared.machine.NoAnswer.TheVariants as no_answer
 use Rattle.trace_log.specs.declared.summary.Summary.{Summary}
 use Rattle.trace_run.specs.proving.Carrying.{Carries, Says, Settles}
 use Rattle.trace_run.specs.proving.Telling.{Tells}
@@ -20,7 +20,8 @@ use Rattle.trace_log.specs.Feeding.{CountsRead}
 use Rattle.trace_log.specs.Failing.{FailedIf}
 use Rattle.trace_log.specs.Settings.{Settings}
 use Rattle.trace_log.specs.Summing.{summary_of}
-use Rattle.trace_run.specs.Told.{Answering, EndsWith, passing, Script, Refusal, told, whole_of_lines, AnswersTold}
+use Rattle.trace_run.specs.Script.{Answering, Script, RefusalText, told, whole_of_lines}
+use Rattle.trace_run.specs.Told.{EndsWith, passing, AnswersTold}
 use Rattle.trace_log.specs.Trace.{trace}
 use Rattle.std.specs.List.{AllByRecursion}
 use Rattle.trace_log.specs.proving.Announcing.{AnnouncesWithin}
@@ -30,7 +31,7 @@ use Rattle.trace_run.proofs.Carryings.{wrote_all, wrote_front}
 use Rattle.trace_run.proofs.StoppedLines.{all_pass, read_to_end}
 use Rattle.trace_run.proofs.ToldFronts.{IsOutcomeOf, IsReadOnly}
 
--- so the fault of the target is answered exactly where it failed
+-- the fault of the target is answered exactly where it failed
 pub fails_so : {A W : Type 0} (target : Ghosts W) (start new : W) (answer : Fault) (said : List ℕ) (failed : Bool) → Carries target start said failed [] new → IsOutcomeOf failed answer
     → FailedIf {A = A} fault.Write (Err answer) (target.failures start) (target.failures new)
 fails_so target start new answer said false carries apart = record { risen = λ is. (let same : answer ≡ fault.Write = cc in absurd (apart same)); same = λ _. carries.failures }
@@ -49,7 +50,7 @@ left_alone_so target start new result said false carries write other same =
 reads_other : {A : Type 0} (answer : Fault) (before after : ℕ) → after ≡ before → answer ≢ fault.Read → FailedIf {A = A} fault.Read (Err answer) before after
 reads_other answer before after same_count apart = record { risen = λ is. (let same : answer ≡ fault.Read = cc in absurd (apart same)); same = λ _. same_count }
 
--- and that of the source
+-- the fault of the source is answered exactly where it failed
 pub reads_so : {A : Type 0} (why : Fault) (answer : Fault) (before after : ℕ) → CountsRead why before after → IsReadOnly why answer
     → FailedIf {A = A} fault.Read (Err answer) before after
 reads_so fault.Read answer before after counts is = record { risen = λ _. counts; same = λ other. absurd (other (ap Err is)) }
@@ -64,7 +65,7 @@ reads_so fault.Memory answer before after counts apart = reads_other answer befo
 
 module _ {A W : Type 0} (target : Ghosts W) (script : Script) (answers : Answering A) (start new : W) (settings : Settings) where
   -- what it answers at the end of the log
-  pub told_at_the_end : (refusal : Refusal) (log : List ℕ) (given : ℕ) (meanings : List (Option Stamped)) (result : Result A Fault) → length log ≤ settings.max_bytes
+  pub told_at_the_end : (refusal : RefusalText) (log : List ℕ) (given : ℕ) (meanings : List (Option Stamped)) (result : Result A Fault) → length log ≤ settings.max_bytes
       → given ≡ length log → LogMeans log meanings → (script.strict ≡ true → AllByRecursion AnnouncesWithin (trace settings meanings))
       → EndsTelling target script answers start settings log meanings result new
       → AnswersTold script refusal answers MESSAGE_LIMIT settings log given result (target.taken start) (target.taken new)
@@ -73,7 +74,7 @@ module _ {A W : Type 0} (target : Ghosts W) (script : Script) (answers : Answeri
       each : EachPasses (passing script.strict MESSAGE_LIMIT settings) meanings
       each = all_pass script.strict settings meanings within
 
-      with_answer : (reply : Result A Stop) → EndsSaying target script answers start settings log meanings reply new
+      with_answer : (reply : Result A NoAnswer) → EndsSaying target script answers start settings log meanings reply new
           → EndsWith script answers MESSAGE_LIMIT settings log given reply (target.taken start) (target.taken new)
       with_answer reply ends = (
         omega (arith, all),
@@ -86,7 +87,7 @@ module _ {A W : Type 0} (target : Ghosts W) (script : Script) (answers : Answeri
       by : (result : Result A Fault) → EndsTelling target script answers start settings log meanings result new
           → AnswersTold script refusal answers MESSAGE_LIMIT settings log given result (target.taken start) (target.taken new)
       by (Ok value) ends = with_answer (Ok value) ends
-      by (Err fault.OutputLimit) ends = with_answer (Err end_stop.OutputLimit) ends
+      by (Err fault.OutputLimit) ends = with_answer (Err no_answer.OutputLimit) ends
       by (Err fault.Write) ends =
           let front = wrote_front target start new (whole_of_lines script MESSAGE_LIMIT settings log meanings) true ends in
           inl (
@@ -125,13 +126,13 @@ never_memory target script answers start new settings log meanings (Err fault.Lo
 never_memory target script answers start new settings log meanings (Err (fault.BadLine line column)) ends = λ is. absurd (cc is)
 never_memory target script answers start new settings log meanings (Err (fault.Oversize line announced)) ends = λ is. absurd (cc is)
 
--- there is one reason to stop at the end
-pub only_stop : (why : Stop) → why ≡ end_stop.OutputLimit
-only_stop end_stop.OutputLimit = refl
+-- there is one reason for no answer at the end
+pub only_output_limit : (why : NoAnswer) → why ≡ no_answer.OutputLimit
+only_output_limit no_answer.OutputLimit = refl
 
 -- all that is said at the end was said
 module _ {M W : Type 0} (stands : List Entry → M → Type 0) (target : Ghosts W) (script : Script) (start : W) (settings : Settings) (log : List ℕ) (meanings : List (Option Stamped)) where
-  -- and settled so
+  -- it is carried to the page and settled, or that failed
   pub carried_at_the_end : (machine : M) (judge : Judge) (failed failed_then : Bool) (held held_then : List ℕ) (old mid new : W) (settled : Bool) (summary : Summary)
       → Tells stands target script start (trace settings meanings) machine judge failed held old → summary ≡ summary_of MESSAGE_LIMIT settings log meanings
       → Says target failed held old (script.last (trace settings meanings) summary) failed_then held_then mid → Settles target failed_then held_then mid settled new

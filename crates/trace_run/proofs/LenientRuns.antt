@@ -7,21 +7,18 @@ use Rattle.trace_log.specs.Laws.{Certifies}
 use Rattle.trace_log.specs.Needing.{HasFrame, IsKeptForMessage, NeedsMemoryToReceive}
 use Rattle.trace_log.specs.Settings.{Settings}
 use Rattle.trace_log.specs.Summing.{summary_of}
-use Rattle.trace_run.specs.Told.{Script, Refusal, Answering, AnswersTold, IsUnreadFor, StopsNothingWithin, answers_counts}
+use Rattle.trace_run.specs.Script.{Script, RefusalText, Answering, answers_counts, lenient}
+use Rattle.trace_run.specs.Told.{AnswersTold, IsUnreadFor, StopsNothingWithin}
 use Rattle.trace_log.specs.Answers.{ReadsWhile}
 use Rattle.trace_log.specs.Refusal.{HasNoBadPlaceWithin}
 use Rattle.trace_log.specs.declared.fault.Fault.{Fault}
 use Rattle.trace_log.specs.declared.fault.Fault.TheVariants.{BadLine, Oversize, LogLimit, OutputLimit, Read, Write, Memory}
-use Rattle.trace_run.specs.declared.machine.Stop.TheVariants as stop
+use Rattle.trace_run.specs.declared.machine.NoAnswer.TheVariants as no_answer
 use Rattle.trace_log.specs.declared.summary.Summary.{Summary}
 use Rattle.trace_log.specs.Trace.{trace}
 use Rattle.trace_log.proofs.Promises.{lines_certify}
 
--- a script that tells this of each frame, and at the end
-abbrev pub lenient : (List Entry → Entry → List ℕ) → (List Entry → Summary → List ℕ) → Script
-lenient word last = record { strict = false; word = word; last = last }
-
-module _ (word : List Entry → Entry → List ℕ) (last : List Entry → Summary → List ℕ) (refusal : Refusal) where
+module _ (word : List Entry → Entry → List ℕ) (last : List Entry → Summary → List ℕ) (refusal : RefusalText) where
   -- where a fault tells why the log can't be read, that is so
   pub unread_for : (limit : ℕ) (settings : Settings) (log : List ℕ) (given : ℕ) (fault : Fault) (old new : List ℕ)
       → AnswersTold (lenient word last) refusal answers_counts limit settings log given (Err fault) old new → IsUnreadFor false limit settings log fault
@@ -43,8 +40,8 @@ module _ (word : List Entry → Entry → List ℕ) (last : List Entry → Summa
 
 -- the same of any script that is not strict, and of what is answered at the end, if that is never that the output is
 -- too long
-module _ {A : Type 0} (script : Script) (refusal : Refusal) (answers : Answering A) (is_lenient : script.strict ≡ false)
-    (has_answer : (T : List Entry) (summary : Summary) → answers T summary (Err stop.OutputLimit) → ⊥) where
+module _ {A : Type 0} (script : Script) (refusal : RefusalText) (answers : Answering A) (is_lenient : script.strict ≡ false)
+    (has_answer : (T : List Entry) (summary : Summary) → answers T summary (Err no_answer.OutputLimit) → ⊥) where
   unread : (settings : Settings) (log : List ℕ) (given : ℕ) (fault : Fault) (old new : List ℕ)
       → AnswersTold script refusal answers MESSAGE_LIMIT settings log given (Err fault) old new → IsUnreadFor false MESSAGE_LIMIT settings log fault
   unread settings log given (BadLine line column) old new (is, wrote) = subst (λ strict. IsUnreadFor strict MESSAGE_LIMIT settings log (BadLine line column)) is_lenient is

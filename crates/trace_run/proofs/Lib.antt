@@ -1,3 +1,4 @@
+pub mod Results
 pub mod WrittenFronts
 pub mod Runs
 pub mod Carryings

@@ -35,7 +35,7 @@ module _ {W : Type 0} (target : Ghosts W) (text : List ℕ) (old new : W) where
         some = tt;
       }
 
-  -- or a front of it
+  -- a front of it was written, and that failed
   pub printed_front : Carries target old text true [] new → Prints {A = Unit {0}} target text old (Err Write) new
   printed_front carries = record {
     written = wrote_front target old new text true carries;

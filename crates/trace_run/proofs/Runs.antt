@@ -34,7 +34,7 @@ pub record IsRunStart {M W : Type 0} (IsFresh : Telling M W → Type 0) (setting
   pub nothing : IsStart run.0.pair run.0.lines run.0.counts
   pub fresh : IsFresh run.0.telling
 
--- it starts with a receiver of the settings, over such a telling
+-- a run starts with a receiver of the settings, over such a telling
 pub starts_run : {M W : Type 0} (IsFresh : Telling M W → Type 0) (settings : Settings) (telling : Telling M W) (receiver : Receiver M W) (device : W)
     → IsReceiverStart settings telling receiver.config receiver.pair receiver.lines receiver.counts receiver.telling → IsFresh telling
     → IsRunStart IsFresh settings (receiver, device)
@@ -79,7 +79,7 @@ module _ {M W : Type 0} (took : TookEvents M W) where
   has_received settings start now begun meanings lines =
       subst (λ s. Receives s meanings now.0.pair now.0.lines now.0.counts) begun.config (lines.1 begun.nothing).0
 
-  -- and what its telling has taken
+  -- what the telling of the receiver has taken
   pub has_taken : {IsFresh : Telling M W → Type 0} (settings : Settings) (start now : Receiver M W × W) → IsRunStart IsFresh settings start → (meanings : List (Option Stamped))
       → TookLines start meanings now → took (start.0.telling, start.1) (trace settings meanings) (now.0.telling, now.1)
   has_taken settings start now begun meanings lines =

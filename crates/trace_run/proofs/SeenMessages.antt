@@ -6,19 +6,11 @@ use Rattle.isotp_receive.specs.declared.TheConstants.{MESSAGE_LIMIT}
 use Rattle.isotp_receive.specs.EventSeen.{seen_event}
 use Rattle.isotp_receive.specs.Trace.{Entry}
 use Rattle.isotp_receive.specs.Verdict.{EventValue, VerdictValue, message, began, stored, flowed, dropped, messages, told_message, verdict}
-use Rattle.uds_exchange.specs.Judging.{IsJudgmentOf, number_after, sent, step_after}
+use Rattle.uds_exchange.specs.Judging.{IsJudgmentOf, sent}
 use Rattle.uds_exchange.specs.declared.judge.Judged.{Judged}
 use Rattle.trace_log.proofs.Promises.{messages_more}
-use Rattle.trace_run.specs.Seen.{IsEventOf, IsSeen}
+use Rattle.trace_run.specs.Seen.{CompletesJudged, IsEventOf, IsSeen}
 use Rattle.trace_run.specs.declared.machine.Seen.{Seen}
-
--- The frame e after the frames T completed this message, of which that becomes.
-pub record CompletesJudged (T : List Entry) (e : Entry) (judged : Judged) : Type 0 where
-  pub next : messages MESSAGE_LIMIT (T ++ e ∷ []) ≡ messages MESSAGE_LIMIT T ++ sent judged ∷ []
-  pub dir : e.dir ≡ judged.dir
-  pub did : (verdict MESSAGE_LIMIT T e).verdict ≡ message judged.bytes.now
-  pub step : judged.step ≡ step_after (messages MESSAGE_LIMIT T) (sent judged)
-  pub item : judged.item_number ≡ number_after (messages MESSAGE_LIMIT T) (sent judged)
 
 -- a frame told no other message than it completed
 completed : (d : Dir) (did : VerdictValue) (m : Message) → told_message d did ≡ m ∷ [] → (d ≡ m.0) × (did ≡ message m.1)
@@ -51,7 +43,7 @@ completes_judged T e seen judged is some =
       item = by.2;
     }
 
--- and one that did not
+-- a frame that completed no message leaves the messages as they were
 pub completes_none : (T : List Entry) (e : Entry) (seen : Seen) → IsSeen T e seen → seen.message ≡ None → messages MESSAGE_LIMIT (T ++ e ∷ []) ≡ messages MESSAGE_LIMIT T
 completes_none T e seen is none =
     let M = messages MESSAGE_LIMIT T in

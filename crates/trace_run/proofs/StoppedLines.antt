@@ -6,7 +6,7 @@ use Rattle.isotp_receive.specs.Trace.{Entry}
 use Rattle.isotp_receive.specs.Verdict.{EventValue, verdict}
 use Rattle.isotp_receive.specs.declared.TheConstants.{MESSAGE_LIMIT}
 use Rattle.trace_log.specs.declared.fault.Fault.TheVariants as fault
-use Rattle.trace_run.specs.proving.Telling.{stops_for}
+use Rattle.trace_run.specs.proving.Telling.{oversize_for}
 use Rattle.trace_log.specs.Feeding.{Took, TakesFront}
 use Rattle.trace_log.specs.Settings.{Settings}
 use Rattle.trace_run.specs.Told.{passing, IsReadToEnd, IsUnreadFor, StopsNothingWithin}
@@ -23,13 +23,13 @@ use Rattle.trace_log.proofs.Promises.{each_within, reads_legal, reads_unrefused,
 use Rattle.trace_log.specs.Refusal.{EachPasses}
 
 -- a frame for which a run stops announces so much, and is not strict's own otherwise
-pub stopped_for : (strict : Bool) (T : List Entry) (e : Entry) (event : EventValue) (n : ℕ) → event ≡ verdict MESSAGE_LIMIT T e → stops_for strict event.verdict ≡ Some n
+pub stopped_for : (strict : Bool) (T : List Entry) (e : Entry) (event : EventValue) (n : ℕ) → event ≡ verdict MESSAGE_LIMIT T e → oversize_for strict event.verdict ≡ Some n
     → (strict ≡ true) × (oversize_in MESSAGE_LIMIT (layout_of e.frame) ≡ Some n)
 stopped_for true T e event n seen is = (refl, sym (too_long_is_announced MESSAGE_LIMIT T e) ∙ sym (ap (λ (x : EventValue). too_long_in x.verdict) seen) ∙ is)
 stopped_for false T e event n seen is = absurd (cc)
 
 -- one for which it does not announces no more than the limit, where the run is strict
-pub not_stopped_for : (strict : Bool) (T : List Entry) (e : Entry) (event : EventValue) → event ≡ verdict MESSAGE_LIMIT T e → stops_for strict event.verdict ≡ None
+pub not_stopped_for : (strict : Bool) (T : List Entry) (e : Entry) (event : EventValue) → event ≡ verdict MESSAGE_LIMIT T e → oversize_for strict event.verdict ≡ None
     → strict ≡ true → AnnouncesWithin e
 not_stopped_for true T e event seen is strict = sym (too_long_is_announced MESSAGE_LIMIT T e) ∙ sym (ap (λ (x : EventValue). too_long_in x.verdict) seen) ∙ is
 not_stopped_for false T e event seen is strict = absurd (cc)

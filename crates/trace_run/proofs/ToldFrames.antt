@@ -1,6 +1,6 @@
 -- What is told of one more frame, and what is then known of a telling.
-use Rattle.std.proofs.Common.{◌≡◌, ℕ, Bool, true, false, List, [], ◌∷◌, ◌++◌, ap, sym, subst, ◌∙◌, Result, Ok, Err, inr, append-nil, append_assoc}
-use Rattle.std.specs.Prelude.{not, OnOk, IfErr}
+use Rattle.std.proofs.Common.{◌≡◌, ℕ, Bool, true, false, List, [], ◌∷◌, ◌++◌, ap, sym, subst, ◌∙◌, inr, append-nil, append_assoc}
+use Rattle.std.specs.Prelude.{not}
 use Rattle.direction.specs.declared.Dir.{Dir}
 use Rattle.isotp_receive.specs.Trace.{Entry}
 use Rattle.isotp_receive.specs.Verdict.{EventValue, messages, told_message, verdict}
@@ -12,20 +12,9 @@ use Rattle.uds_exchange.specs.declared.judge.Judge.{Judge}
 use Rattle.trace_run.specs.proving.Carrying.{Carries, Says, Settles}
 use Rattle.trace_run.specs.proving.Telling.{StopsFor, Tells, StopsTelling}
 use Rattle.uds_exchange.specs.Judging.{IsJudgeOf}
-use Rattle.trace_run.specs.Told.{Script, told_after, told}
+use Rattle.trace_run.specs.Script.{Script, told_after, told}
 use Rattle.trace_log.specs.proving.Announcing.{AnnouncesWithin}
 use Rattle.trace_log.proofs.Promises.{each_more, messages_more}
-
--- ---- what is known of each trace, of an answer
-
-pub on_ok_of_each : {A E I : Type 0} (P Q R : I → Type 0) (r : Result A E) → ((i : I) → P i → Q i → OnOk r (R i)) → OnOk r ((i : I) → P i → Q i → R i)
-on_ok_of_each P Q R (Ok x) each = each
-on_ok_of_each P Q R (Err e) each = tt
-
-pub if_err_of_each : {A E I : Type 0} (P Q : I → Type 0) (R : I → E → Type 0) (r : Result A E)
-    → ((i : I) → P i → Q i → IfErr r (R i)) → IfErr r (λ e. (i : I) → P i → Q i → R i e)
-if_err_of_each P Q R (Ok x) each = tt
-if_err_of_each P Q R (Err e) each = each
 
 -- ---- what is told of one more frame
 

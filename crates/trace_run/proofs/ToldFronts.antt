@@ -13,7 +13,8 @@ use Rattle.trace_run.specs.proving.Ending.{EndsAs}
 use Rattle.trace_log.specs.LinesRead.{counts_last, AreGiven, AreLinesRead, AreReadBefore, WritesTextOfRead}
 use Rattle.trace_log.specs.Settings.{Settings}
 use Rattle.trace_log.specs.Summing.{summary_of}
-use Rattle.trace_run.specs.Told.{WritesFrontOfTold, HasToldSome, FailsToTell, passing, IsUnreadFor, WritesFrontOfWhole, Script, Refusal, told_after, told, told_of_lines, refusal_of_lines, told_and_refusal_of_lines, is_told, TellsEagerly}
+use Rattle.trace_run.specs.Script.{Script, RefusalText, told_after, told, told_of_lines, refusal_of_lines, told_and_refusal_of_lines}
+use Rattle.trace_run.specs.Told.{WritesFrontOfTold, HasToldSome, FailsToTell, passing, IsUnreadFor, WritesFrontOfWhole, is_told, TellsEagerly}
 use Rattle.trace_log.specs.Trace.{trace, trace_from}
 use Rattle.std.specs.List.{AllByRecursion}
 use Rattle.can_log.specs.Scanning.{Standing}
@@ -46,7 +47,7 @@ front_of_whole script limit settings log given why old new wrote =
       front = ap (λ x. x ++ end) wrote.front ∙ append_assoc wrote.written wrote.missing end;
     }
 
--- a front of it was written
+-- a front of what is told of lines that had come was written
 pub writes_front_of_told : (script : Script) (limit : ℕ) (settings : Settings) (log : List ℕ) (given : ℕ) (why : Fault) (meanings : List (Option Stamped)) (old new : List ℕ)
     → counts_last why ≡ true → HaveCome (passing script.strict limit settings) true (min given settings.max_bytes) log meanings → HasFront old (told_of_lines script settings meanings) new
     → WritesFrontOfTold script limit settings log given why old new
@@ -83,7 +84,7 @@ told_some script limit settings log given meanings come some =
     record { meanings = read.0; read = read.1; some = omega arith }
 
 -- only a front of the text of the lines that were read was written
-pub front_of_read : (script : Script) (refusal : Refusal) (limit : ℕ) (settings : Settings) (log : List ℕ) (given : ℕ) (why : Fault) (meanings : List (Option Stamped)) (old new : List ℕ)
+pub front_of_read : (script : Script) (refusal : RefusalText) (limit : ℕ) (settings : Settings) (log : List ℕ) (given : ℕ) (why : Fault) (meanings : List (Option Stamped)) (old new : List ℕ)
     → WritesTextOfRead (passing script.strict limit settings) (told_of_lines script settings) settings log given why [] (told_of_lines script settings meanings)
     → HasFront old (told_of_lines script settings meanings) new → 0 < length (told_of_lines script settings meanings)
     → FailsToTell script refusal limit settings log given old new
@@ -96,7 +97,7 @@ front_of_read script refusal limit settings log given why meanings old new read 
     )
 
 -- only a front of what is told of a log that is refused was written
-pub front_of_refused : (script : Script) (refusal : Refusal) (limit : ℕ) (settings : Settings) (log : List ℕ) (given : ℕ) (why : Fault) (meanings : List (Option Stamped)) (old new : List ℕ)
+pub front_of_refused : (script : Script) (refusal : RefusalText) (limit : ℕ) (settings : Settings) (log : List ℕ) (given : ℕ) (why : Fault) (meanings : List (Option Stamped)) (old new : List ℕ)
     → is_told why ≡ true → IsUnreadFor script.strict limit settings log why → AreReadBefore (passing script.strict limit settings) settings log given why meanings
     → HasFront old (told_and_refusal_of_lines script refusal limit settings why meanings) new
     → 0 < length (told_and_refusal_of_lines script refusal limit settings why meanings)

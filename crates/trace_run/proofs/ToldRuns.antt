@@ -13,13 +13,14 @@ use Rattle.trace_log.specs.declared.fault.Fault.{Fault}
 use Rattle.trace_log.specs.declared.fault.Fault.TheVariants as fault
 use Rattle.trace_run.specs.declared.receiver.Receiver.{Receiver}
 use Rattle.trace_run.specs.proving.Carrying.{Carries}
-use Rattle.trace_run.specs.proving.Telling.{IsTellingStart, Tells, StopsTelling, WroteTold}
+use Rattle.trace_run.specs.proving.Telling.{HasTold, HasToldNothing, HasStopped, HasToldAndWritten, HasWrittenAtLeast}
 use Rattle.trace_run.specs.proving.Ending.{EndsAs, SettlesAs, SettlesWith, RefusesTelling, GivesUp}
 use Rattle.trace_log.specs.Feeding.{FeedsLog, FeedsSome, WroteBefore, StopsWithin}
 use Rattle.uds_exchange.specs.Judging.{IsJudgeOf}
 use Rattle.trace_log.specs.LinesRead.{counts_last, AreLinesRead, AreReadBefore}
 use Rattle.trace_log.specs.Settings.{Settings}
-use Rattle.trace_run.specs.Told.{WritesFrontOfTold, HasToldSome, Answering, passing, IsUnreadFor, Script, Refusal, told, told_of_lines, refusal_of_lines, told_and_refusal_of_lines, is_told, WritesToldAndRefusal, AnswersTold, TellsEagerly}
+use Rattle.trace_run.specs.Script.{Answering, Script, RefusalText, told, told_of_lines, refusal_of_lines, told_and_refusal_of_lines}
+use Rattle.trace_run.specs.Told.{WritesFrontOfTold, HasToldSome, passing, IsUnreadFor, is_told, WritesToldAndRefusal, AnswersTold, TellsEagerly}
 use Rattle.trace_log.specs.Trace.{trace, trace_from}
 use Rattle.std.specs.List.{AllByRecursion}
 use Rattle.trace_log.specs.proving.Announcing.{AnnouncesWithin}
@@ -51,18 +52,15 @@ blank_page target start low = record {
 module _ {M W : Type 0} (stands : M → List Entry → M → Type 0) (scripts : M → Script) (needs : M → List Entry → Entry → Type 0) (target : Ghosts W) where
   -- events were told
   abbrev pub ToldEvents : TookEvents M W
-  ToldEvents s T t = IsTellingStart (stands s.0.machine [] s.0.machine) s.0.judge s.0.page.failed s.0.page.held → target.failures s.1 ≤ 2 ^ 62
-      → Tells (stands s.0.machine) target (scripts s.0.machine) s.1 T t.0.machine t.0.judge t.0.page.failed t.0.page.held t.1
+  ToldEvents s T t = HasToldNothing stands s.0 → target.failures s.1 ≤ 2 ^ 62 → HasTold stands scripts target s.1 s.0.machine T t.0 t.1
 
-  -- and written, or that failed
+  -- events were told and all of it is written, or writing failed
   abbrev pub SettledEvents : Bool → TookEvents M W
-  SettledEvents failed s T t = IsTellingStart (stands s.0.machine [] s.0.machine) s.0.judge s.0.page.failed s.0.page.held → target.failures s.1 ≤ 2 ^ 62
-      → Tells (stands s.0.machine) target (scripts s.0.machine) s.1 T t.0.machine t.0.judge failed [] t.1
+  SettledEvents failed s T t = HasToldNothing stands s.0 → target.failures s.1 ≤ 2 ^ 62 → HasToldAndWritten stands scripts target s.1 s.0.machine T t.0 failed t.1
 
   -- the run stopped at an event
   abbrev pub StoppedTelling : StoppedOnEvent M W
-  StoppedTelling s T e why t = IsTellingStart (stands s.0.machine [] s.0.machine) s.0.judge s.0.page.failed s.0.page.held → target.failures s.1 ≤ 2 ^ 62
-      → StopsTelling target (scripts s.0.machine) (needs s.0.machine) s.1 T e why t.0.page.failed t.0.page.held t.1
+  StoppedTelling s T e why t = HasToldNothing stands s.0 → target.failures s.1 ≤ 2 ^ 62 → HasStopped scripts needs target s.1 s.0.machine T e why t.0 t.1
 
   told_nothing : (start : Telling M W × W) → ToldEvents start [] start
   told_nothing start fresh low = record {
@@ -74,13 +72,9 @@ module _ {M W : Type 0} (stands : M → List Entry → M → Type 0) (scripts : 
         (subst (λ h. Carries target start.1 [] false h start.1) (sym fresh.blank) (blank_page target start.1 low));
   }
 
-  -- no event was told
-  abbrev pub HasToldNothing : Telling M W → Type 0
-  HasToldNothing telling = IsTellingStart (stands telling.machine [] telling.machine) telling.judge telling.page.failed telling.page.held
-
-  -- so it is with a machine that stands at its start
+  -- nothing was told of a machine that stands at its start
   pub told_none : (machine : M) (telling : Telling M W) → telling.machine ≡ machine → stands machine [] machine → IsJudgeOf [] telling.judge → telling.page.failed ≡ false
-      → telling.page.held ≡ [] → HasToldNothing telling
+      → telling.page.held ≡ [] → HasToldNothing stands telling
   told_none machine telling same at_start removed well blank =
       record { stands = subst (λ m. stands m [] m) (sym same) at_start; judged = removed; well = well; blank = blank }
 
@@ -90,10 +84,9 @@ module _ {M W : Type 0} (stands : M → List Entry → M → Type 0) (scripts : 
 
   -- what was told of events was written
   abbrev pub WroteEvents : TookEvents M W
-  WroteEvents s T t = IsTellingStart (stands s.0.machine [] s.0.machine) s.0.judge s.0.page.failed s.0.page.held → target.failures s.1 ≤ 2 ^ 62
-      → WroteTold target (scripts s.0.machine) s.1 T t.0.page.failed t.0.page.held t.1
+  WroteEvents s T t = HasToldNothing stands s.0 → target.failures s.1 ≤ 2 ^ 62 → HasWrittenAtLeast scripts target s.1 s.0.machine T t.0 t.1
 
-  -- and of lines
+  -- what was told of lines was written
   abbrev pub WroteLines : Receiver M W × W → List (Option Stamped) → Receiver M W × W → Type 0
   WroteLines s meanings t = IsStart s.0.pair s.0.lines s.0.counts → WroteEvents (s.0.telling, s.1) (trace s.0.config meanings) (t.0.telling, t.1)
 
@@ -120,10 +113,9 @@ module _ {M W : Type 0} (stands : M → List Entry → M → Type 0) (scripts : 
       FeedsSome (TookLines ToldEvents) (TookLines (SettledEvents false)) (TookLines (SettledEvents true)) (StoppedOnLine StoppedTelling) start {A = A} result now
 
   -- from such a start on
-  module _ (settings : Settings) (start now : Receiver M W × W) (begun : IsRunStart HasToldNothing settings start) (low : target.failures start.1 ≤ 2 ^ 62) where
+  module _ (settings : Settings) (start now : Receiver M W × W) (begun : IsRunStart (HasToldNothing stands) settings start) (low : target.failures start.1 ≤ 2 ^ 62) where
     pub gives : (meanings : List (Option Stamped)) → TookLines ToldEvents start meanings now
-        → Tells (stands start.0.telling.machine) target (scripts start.0.telling.machine) start.1 (trace settings meanings) now.0.telling.machine now.0.telling.judge
-        now.0.telling.page.failed now.0.telling.page.held now.1
+        → HasTold stands scripts target start.1 start.0.telling.machine (trace settings meanings) now.0.telling now.1
     gives meanings lines = has_taken ToldEvents settings start now begun meanings lines begun.fresh low
 
     -- what was written before the last piece, and what came after it
@@ -138,17 +130,17 @@ module _ {M W : Type 0} (stands : M → List Entry → M → Type 0) (scripts : 
         (wrote.wrote ∙ ap (λ T. target.taken start.1 ++ told ((scripts start.0.telling.machine).word) T) of_settings) (more wrote.mid wrote.said wrote.carried)
 
     settled : (failed : Bool) (meanings : List (Option Stamped)) → TookLines (SettledEvents failed) start meanings now
-        → Tells (stands start.0.telling.machine) target (scripts start.0.telling.machine) start.1 (trace settings meanings) now.0.telling.machine now.0.telling.judge failed [] now.1
+        → HasToldAndWritten stands scripts target start.1 start.0.telling.machine (trace settings meanings) now.0.telling failed now.1
     settled failed meanings lines = has_taken (SettledEvents failed) settings start now begun meanings lines begun.fresh low
 
     halts : (meanings : List (Option Stamped)) (what : Option Stamped) (why : Fault) → StoppedOnLine StoppedTelling start meanings what why now
-        → StopsOn settings (λ T e why. StopsTelling target (scripts start.0.telling.machine) (needs start.0.telling.machine) start.1 T e why now.0.telling.page.failed now.0.telling.page.held now.1) meanings what why
+        → StopsOn settings (λ T e why. HasStopped scripts needs target start.1 start.0.telling.machine T e why now.0.telling now.1) meanings what why
     halts meanings what why line =
         let stops = has_stopped StoppedTelling settings start now begun meanings what why line in
         (stops.0, stops.1, stops.2, stops.3, stops.4 begun.fresh low)
 
     -- where a refusal is told so
-    module _ (refusals : M → Refusal) (new : W) where
+    module _ (refusals : M → RefusalText) (new : W) where
       -- how the run ends on a refusal that is told, after these lines
       refuses : (why answer : Fault) (meanings : List (Option Stamped)) → TookLines ToldEvents start meanings now → RefusesTelling stands refusals target why now.0 now.1 answer new
           → SettlesWith (refusal_of_lines (refusals start.0.telling.machine) MESSAGE_LIMIT settings why meanings) why target now.0.telling.page.failed now.0.telling.page.held now.1 answer new
@@ -183,7 +175,7 @@ module _ {M W : Type 0} (stands : M → List Entry → M → Type 0) (scripts : 
           script : Script
           script = scripts start.0.telling.machine
 
-          refusal : Refusal
+          refusal : RefusalText
           refusal = refusals start.0.telling.machine
 
           text : List (Option Stamped) → List ℕ
@@ -323,7 +315,6 @@ module _ {M W : Type 0} (stands : M → List Entry → M → Type 0) (scripts : 
                 ))
               ]
 
-      -- what is known of the devices then
       -- a frame of the log needed memory, where it was refused
       pub needed : (log : List ℕ) (given : ℕ) (why : Fault) (answer : Fault) (m : ℕ) → m ≡ settings.max_bytes
           → Fed start m log given (Err why) now → GivesUp stands refusals target why now.0 now.1 answer new → answer ≡ fault.Memory
@@ -353,6 +344,7 @@ module _ {M W : Type 0} (stands : M → List Entry → M → Type 0) (scripts : 
           by fault.Read read up = absurd (cc (up.0, refused))
           by fault.Write read up = absurd (cc (up.0, refused))
 
+      -- what is known of the devices then
       pub known : (B : Type 0) (why : Fault) (answer : Fault) → FedSome start {A = B} (Err why) now
           → GivesUp stands refusals target why now.0 now.1 answer new
           → (said : List ℕ) × (failed : Bool) × Carries target start.1 said failed [] new × IsOutcomeOf failed answer × IsReadOnly why answer

@@ -1,3 +1,4 @@
+pub mod Script
 pub mod Told
 pub mod Seen
 pub mod Printed

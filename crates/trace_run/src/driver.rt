@@ -10,9 +10,10 @@ ghost use Rattle.trace_log.specs.proving.Receiving.{Receives};
 ghost use Rattle.trace_log.specs.Settings.{Settings};
 ghost use Rattle.trace_log.specs.Summing as Spec;
 ghost use Rattle.trace_run.specs.Seen.{glimpse_value};
-ghost use Rattle.trace_run.specs.Told.{Ran, RanLenient, command, glimpse_of};
+ghost use Rattle.trace_run.specs.Script.{command, glimpse_of};
+ghost use Rattle.trace_run.specs.Told.{Ran, RanLenient};
 ghost use Rattle.trace_log.specs.Trace.{trace};
-ghost use Rattle.trace_run.specs.declared.machine.Stop.TheVariants.{OutputLimit};
+ghost use Rattle.trace_run.specs.declared.machine.NoAnswer.TheVariants.{OutputLimit};
 ghost use Rattle.trace_log.specs.declared.summary.Summary.{Summary as SummaryValue};
 ghost use Rattle.trace_log.specs.Devices.{HasLowCounts};
 
@@ -32,69 +33,69 @@ pub fn run<M: Machine + Drop, R: Source, W: Target>(
     alloc: Global,
     config: &Config,
     machine: M,
-    reader: &mut R,
-    writer: &mut W,
+    source: &mut R,
+    target: &mut W,
 ) -> Result<M::Answer, Fault>
     requires machine { M.stands machine [] machine }
-    requires reader { HasLowCounts R.Source reader.old }
-    requires writer { IsLowCount (W.failures writer.old) }
+    requires source { HasLowCounts R.Source source.old }
+    requires target { IsLowCount (W.failures target.old) }
     ensures ran { Ran R.Source W.Target
-        (command (M.script machine) (M.refusal machine (glimpse_of R.Source reader.new))
+        (command (M.script machine) (M.refusal machine (glimpse_of R.Source source.new))
         (M.answers machine) (M.needs machine))
-        config.now reader.old writer.old result reader.new writer.new }
+        config.now source.old target.old result source.new target.new }
 {
     let pair = Pair::new(alloc);
     let mut receiver = Receiver::start(config, pair, Telling::start(machine));
-    match feed_lines(config.max_bytes(), reader, &mut receiver, writer) {
-        Ok(ends_in_line_feed) => finish(receiver, ends_in_line_feed, writer),
-        Err(fault) => Err(give_up(fault, Glimpse::of(reader), receiver, writer)),
+    match feed_lines(config.max_bytes(), source, &mut receiver, target) {
+        Ok(ends_in_line_feed) => finish(receiver, ends_in_line_feed, target),
+        Err(fault) => Err(give_up(fault, Glimpse::of(source), receiver, target)),
     }
 }
 
-/// The same of a machine that no announced length stops, and that has an answer at the end of each log.
+/// [`run`], of a machine that no announced length stops, and that has an answer at the end of each log: so much more is known.
 pub fn run_lenient<M: Machine + Drop, R: Source, W: Target>(
     alloc: Global,
     config: &Config,
     machine: M,
-    reader: &mut R,
-    writer: &mut W,
+    source: &mut R,
+    target: &mut W,
 ) -> Result<M::Answer, Fault>
     requires machine { M.stands machine [] machine }
     requires lenient { (M.script machine).strict ≡ false }
     requires has_answer { (T : List Entry) (summary : SummaryValue) → M.answers machine T summary (Err OutputLimit) → ⊥ }
-    requires reader { HasLowCounts R.Source reader.old }
-    requires writer { IsLowCount (W.failures writer.old) }
+    requires source { HasLowCounts R.Source source.old }
+    requires target { IsLowCount (W.failures target.old) }
     ensures ran { RanLenient R.Source W.Target
-        (command (M.script machine) (M.refusal machine (glimpse_of R.Source reader.new))
+        (command (M.script machine) (M.refusal machine (glimpse_of R.Source source.new))
         (M.answers machine) (M.needs machine))
-        config.now reader.old writer.old result reader.new writer.new }
+        config.now source.old target.old result source.new target.new }
 {
-    run(alloc, config, machine, reader, writer)
+    run(alloc, config, machine, source, target)
 }
 
-/// Ends a run on a fault, and answers what that is called: the machine is told of a line or a limit that refuses the log,
+/// Ends a run on a fault, and answers the fault to report, this one or that of writing: the machine is told of a line or a limit that refuses the log,
 /// and what was said is written. A fault of a device stands as it is, and nothing is written.
 fn give_up<M: Machine + Drop, W: Target>(
     fault: Fault,
-    source: Glimpse<'_>,
+    glimpse: Glimpse<'_>,
     receiver: Receiver<M, W>,
     target: &mut W,
 ) -> Fault
     ensures { GivesUp M.stands
-        (λ machine_start. M.refusal machine_start (glimpse_value source.entry))
+        (λ machine_start. M.refusal machine_start (glimpse_value glimpse.entry))
         W.Target fault receiver target.old result target.new }
 {
     match fault {
-        Fault::BadLine { .. } | Fault::LogLimit => refuse(fault, source, receiver, target),
+        Fault::BadLine { .. } | Fault::LogLimit => refuse(fault, glimpse, receiver, target),
         Fault::Oversize { .. } | Fault::OutputLimit | Fault::Memory => {
-            stop(fault, receiver, target)
+            end_untold(fault, receiver, target)
         }
         Fault::Read | Fault::Write => fault,
     }
 }
 
-/// Writes what was said before a fault of which nothing is said, and answers what that is called.
-fn stop<M: Machine + Drop, W: Target>(
+/// Writes what was said before a fault of which nothing is told, and answers that fault, or that of writing.
+fn end_untold<M: Machine + Drop, W: Target>(
     fault: Fault,
     receiver: Receiver<M, W>,
     target: &mut W,
@@ -106,15 +107,15 @@ fn stop<M: Machine + Drop, W: Target>(
     settle_before(fault, target, &mut page)
 }
 
-/// Writes what is said of a refusal, after the lines that were received, and answers what that is called.
+/// Writes what is said of a refusal, after the lines that were received, and answers why it is refused, or the fault of writing.
 fn refuse<M: Machine, W: Target>(
     why: Fault,
-    source: Glimpse<'_>,
+    glimpse: Glimpse<'_>,
     receiver: Receiver<M, W>,
     target: &mut W,
 ) -> Fault
     ensures { RefusesTelling M.stands
-        (λ machine_start. M.refusal machine_start (glimpse_value source.entry))
+        (λ machine_start. M.refusal machine_start (glimpse_value glimpse.entry))
         W.Target why receiver target.old result target.new }
 {
     let summary = receiver.summary(false);
@@ -124,11 +125,11 @@ fn refuse<M: Machine, W: Target>(
         mut page,
         ..
     } = telling;
-    tell_refusal(machine, target, &mut page, &summary, why, source);
+    tell_refusal(machine, target, &mut page, &summary, why, glimpse);
     settle_before(why, target, &mut page)
 }
 
-/// Writes what was said before a fault, and answers what that is called.
+/// Writes what was said before a fault, and answers that fault, or that of writing where this failed.
 fn settle_before<W: Target>(fault: Fault, target: &mut W, page: &mut Page) -> Fault
     ensures { SettlesPageAs fault W.Target page.old target.old result target.new }
 {
@@ -139,7 +140,8 @@ fn settle_before<W: Target>(fault: Fault, target: &mut W, page: &mut Page) -> Fa
     }
 }
 
-/// Writes what is said at the end, and answers. The log ended in a line feed, or not.
+/// Writes what is said at the end, and answers. The log ended in a line feed, or not. By `ends` all is told that a run
+/// tells; by `more` the target has what it had at any time before, and more behind it.
 fn finish<M: Machine, W: Target>(
     receiver: Receiver<M, W>,
     ends_in_line_feed: bool,

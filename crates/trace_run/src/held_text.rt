@@ -94,12 +94,12 @@ impl HeldText {
         ensures full { result ≡ false → self.new ≡ self.old }
     {
         let room = self.room();
-        let two = first.len() + second.len();
-        if two > room || third.len() > room - two {
+        let first_two = first.len() + second.len();
+        if first_two > room || third.len() > room - first_two {
             return false;
         }
         let first_at = self.len;
-        let third_at = first_at + two;
+        let third_at = first_at + first_two;
         lay(&mut self.bytes, first_at, first);
         lay(&mut self.bytes, first_at + first.len(), second);
         lay(&mut self.bytes, third_at, third);
@@ -122,26 +122,26 @@ impl HeldText {
 /// Fills a page, which has no room for the text, with the front of it, writes that, and begins the next one with what is
 /// left. A text that no page has room for is written at once, behind what the page holds.
 pub(crate) fn gather<W: Target>(
-    writer: &mut W,
+    target: &mut W,
     held: &mut HeldText,
     text: &[u8],
 ) -> Result<(), DeviceFault>
-    requires { W.failures writer.old ≤ 2 ^ 62 }
+    requires { W.failures target.old ≤ 2 ^ 62 }
     ensures failures { MatchResult result
-        (λ _. W.failures writer.new ≡ W.failures writer.old) (λ _. W.failures writer.new ≡ W.failures writer.old + 1) }
-    ensures no_empty_write { W.had_empty_write writer.new ≡ W.had_empty_write writer.old }
-    ensures flushes { W.flushes writer.new ≡ W.flushes writer.old }
-    ensures took { Took (W.taken writer.old) (W.taken writer.new) (W.contents writer.old) (W.contents writer.new) }
-    ensures taken { HasGathered result (W.taken writer.old) (held.old ++ text.now) (W.taken writer.new) held.new }
+        (λ _. W.failures target.new ≡ W.failures target.old) (λ _. W.failures target.new ≡ W.failures target.old + 1) }
+    ensures no_empty_write { W.had_empty_write target.new ≡ W.had_empty_write target.old }
+    ensures flushes { W.flushes target.new ≡ W.flushes target.old }
+    ensures took { Took (W.taken target.old) (W.taken target.new) (W.contents target.old) (W.contents target.new) }
+    ensures taken { HasGathered result (W.taken target.old) (held.old ++ text.now) (W.taken target.new) held.new }
 {
     if text.len() > PAGE_LENGTH {
-        write_all(writer, held.as_slice())?;
+        write_all(target, held.as_slice())?;
         held.clear();
-        return write_all(writer, text);
+        return write_all(target, text);
     }
     let (front, rest) = text.split_at(text.len().min(held.room()));
     held.append(front);
-    write_all(writer, held.as_slice())?;
+    write_all(target, held.as_slice())?;
     held.clear();
     held.append(rest);
     Ok(())
@@ -169,7 +169,9 @@ fn copy(from: &[u8], to: &mut [u8])
     }
 }
 
-/// Lays a text over the bytes from `at` on. Sixteen bytes are laid by one store, whatever memory they are in.
+/// Lays a text over the bytes from `at` on. This is for a text whose length is mostly known when it is compiled, so that no
+/// test of it is left; for one whose length varies there is `copy`. Sixteen bytes are laid by one store, whatever memory
+/// they are in.
 #[inline(always)]
 fn lay(bytes: &mut [u8], at: usize, text: &[u8])
     requires { at + length text.now ≤ length bytes.old }

@@ -5,8 +5,8 @@ ghost use Rattle.isotp_receive.specs.Capacities.{KeepsWithin};
 ghost use Rattle.isotp_receive.specs.StandingReception.{receptions_after};
 ghost use Rattle.isotp_receive.specs.Trace.{Entry};
 ghost use Rattle.trace_run.specs.Seen.{IsSeen, glimpse_value};
-ghost use Rattle.trace_run.specs.Told.{GlimpseValue, Refusal, Script, tells_no_refusal};
-ghost use Rattle.trace_run.specs.declared.machine.Stop.{Stop as StopValue};
+ghost use Rattle.trace_run.specs.Script.{GlimpseValue, RefusalText, Script, tells_no_refusal};
+ghost use Rattle.trace_run.specs.declared.machine.NoAnswer.{NoAnswer as NoAnswerValue};
 ghost use Rattle.trace_log.specs.declared.fault.Fault.TheVariants.{OutputLimit};
 ghost use Rattle.trace_log.specs.declared.summary.Summary.{Summary as SummaryValue};
 
@@ -19,17 +19,17 @@ use uds_exchange::Judged;
 
 /// Why a machine has no answer at the end of a log.
 #[derive(Clone, Copy, Debug)]
-pub enum Stop {
+pub enum NoAnswer {
     /// What it would tell is longer than the limit.
     OutputLimit,
 }
 
-impl From<Stop> for Fault {
+impl From<NoAnswer> for Fault {
     ghost from_gives = { λ _ fault. fault ≡ OutputLimit };
 
-    fn from(stop: Stop) -> Fault {
-        match stop {
-            Stop::OutputLimit => Fault::OutputLimit,
+    fn from(reason: NoAnswer) -> Fault {
+        match reason {
+            NoAnswer::OutputLimit => Fault::OutputLimit,
         }
     }
 }
@@ -41,7 +41,9 @@ pub struct Seen<'a> {
     pub line: u64,
     /// Its time in microseconds.
     pub micros: u64,
+    /// Its direction: which side sent it.
     pub dir: Dir,
+    /// What it did to the receptions.
     pub event: Event<'a>,
     /// The message that it completed, if it completed one, with what becomes of it.
     pub message: Option<Judged<'a>>,
@@ -59,7 +61,7 @@ pub struct Glimpse<'a> {
 impl<'a> Glimpse<'a> {
     ghost use Rattle.std.specs.Prelude.{◌≡◌};
     ghost use Rattle.trace_run.specs.Seen.{glimpse_value};
-    ghost use Rattle.trace_run.specs.Told.{glimpse_of};
+    ghost use Rattle.trace_run.specs.Script.{glimpse_of};
 
     /// What is now seen of a source.
     pub fn of<R: Source>(source: &'a R) -> Glimpse<'a>
@@ -85,10 +87,10 @@ pub trait Machine {
     ghost script: { Self → Script };
 
     /// What it says where the log is refused, by what it was at the start, and by what is then seen of the source.
-    ghost refusal: { Self → GlimpseValue → Refusal } = { λ _ _. tells_no_refusal };
+    ghost refusal: { Self → GlimpseValue → RefusalText } = { λ _ _. tells_no_refusal };
 
     /// What it may answer at the end of a trace with these counts, by what it was at the start.
-    ghost answers: { Self → List Entry → SummaryValue → Result Self.Answer StopValue → Type 0 };
+    ghost answers: { Self → List Entry → SummaryValue → Result Self.Answer NoAnswerValue → Type 0 };
 
     /// For which frame it may be refused memory, after a trace.
     ghost needs: { Self → List Entry → Entry → Type 0 };
@@ -114,7 +116,7 @@ pub trait Machine {
         pair: &Pair,
         summary: &Summary,
         out: &mut S,
-    ) -> Result<Self::Answer, Stop>
+    ) -> Result<Self::Answer, NoAnswer>
         ensures says { (machine_start : Self) (T : List Entry) → stands machine_start T self
             → pair.now.receptions ≡ receptions_after MESSAGE_LIMIT T → KeepsWithin MESSAGE_LIMIT T pair.now
             → S.says out.old ((script machine_start).last T summary.now) out.new }
@@ -124,7 +126,7 @@ pub trait Machine {
 
     /// Takes why the log is refused, where a line or the limit of the log refuses it, the counts of the lines before, and
     /// what is seen of the source. No event and no end follows. The counts are those of a log that ends in no line feed.
-    fn refused<S: TextSink>(self, summary: &Summary, why: Fault, source: Glimpse<'_>, out: &mut S)
+    fn refused<S: TextSink>(self, summary: &Summary, why: Fault, glimpse: Glimpse<'_>, out: &mut S)
         ensures says { (machine_start : Self) (T : List Entry) → stands machine_start T self
-            → S.says out.old (refusal machine_start (glimpse_value source.entry) T summary.now why) out.new };
+            → S.says out.old (refusal machine_start (glimpse_value glimpse.entry) T summary.now why) out.new };
 }

@@ -2,7 +2,8 @@
 use crate::held_text::{HeldText, gather};
 use trace_io::{MOST_FAILURES, Target, TextSink, write_all};
 
-/// Text that is still to be written, and whether writing has failed: nothing is written from then on.
+/// Text that is still to be written, and whether writing has failed: nothing is written from then on. It is a block of
+/// memory, whatever text stands on it, and no page of HTML.
 #[derive(Drop)]
 pub(crate) struct Page {
     pub held: HeldText,
@@ -42,6 +43,7 @@ impl Page {
         requires { 0 < length text.now }
         ensures { SaysToPage W.Target self.old target.old text.now self.new target.new }
     {
+        // No run comes here with more failures: each begins at no more, and ends with its first.
         if self.failed || target.failures() > MOST_FAILURES {
             return;
         }

@@ -22,7 +22,7 @@ pub fn print<P: Part, W: Target>(part: P, target: &mut W) -> Result<(), Fault>
     }
 }
 
-/// Says it to a page.
+/// Says the text of a part to a page.
 fn put<P: Part, W: Target>(part: P, target: &mut W, page: &mut Page)
     ensures { SaysToPage W.Target page.old target.old (P.text part) page.new target.new }
 {

@@ -7,7 +7,6 @@ ghost use Rattle.trace_log.specs.Summing.{counted_more};
 ghost use Rattle.trace_log.specs.Feeding.{IsOfTaker};
 
 use crate::machine::Machine;
-use crate::summing::sum_up;
 use crate::telling::{FrameEvent, Telling};
 use can_log::{Stamped, Wanted};
 use direction::Dir;
@@ -26,16 +25,10 @@ pub(crate) struct Receiver<M, W> {
 }
 
 impl<M, W> Receiver<M, W> {
-    ghost use Rattle.std.specs.Prelude.{◌≡◌, ℕ, List, Option};
-    ghost use Rattle.can_log.specs.declared.frame.Stamped.{Stamped as StampedValue};
+    ghost use Rattle.std.specs.Prelude.{◌≡◌};
     ghost use Rattle.isotp_receive.specs.Capacities.{new_pair};
     ghost use Rattle.isotp_receive.specs.declared.TheConstants.{MESSAGE_LIMIT};
-    ghost use Rattle.trace_log.specs.Messages.{messages_of_lines};
-    ghost use Rattle.trace_log.specs.Settings.{Settings};
-    ghost use Rattle.trace_log.specs.Summing.{summary_of};
-    ghost use Rattle.trace_log.specs.Summing as Spec;
-    ghost use Rattle.trace_log.specs.proving.Receiving.{IsReceiverStart, Receives};
-    ghost use Rattle.uds_exchange.specs.Judging.{IsJudgeOf};
+    ghost use Rattle.trace_log.specs.proving.Receiving.{IsReceiverStart};
 
     /// Before the first line, with a pair that has received no frame and keeps no memory.
     pub(crate) fn start(config: &Config, pair: Pair, telling: Telling<M, W>) -> Receiver<M, W>
@@ -50,23 +43,6 @@ impl<M, W> Receiver<M, W> {
             telling,
         }
     }
-
-    /// The summary of a log that was received to its end, and ended in a line feed or not.
-    pub(crate) fn summary(&self, ends_in_line_feed: bool) -> Summary
-        ensures { (settings : Settings) (log : List ℕ) (meanings : List (Option StampedValue))
-            → Receives settings meanings self.now.pair self.now.lines self.now.counts
-            → ends_in_line_feed ≡ Spec.ends_in_line_feed log
-            → IsJudgeOf (messages_of_lines MESSAGE_LIMIT settings meanings) self.now.telling.judge
-            → result ≡ summary_of MESSAGE_LIMIT settings log meanings }
-    {
-        sum_up(
-            &self.pair,
-            self.lines,
-            self.counts,
-            &self.telling.judge,
-            ends_in_line_feed,
-        )
-    }
 }
 
 impl<M: Machine, W: Target> LineTaker for Receiver<M, W> {
@@ -76,19 +52,22 @@ impl<M: Machine, W: Target> LineTaker for Receiver<M, W> {
     ghost use Rattle.trace_log.specs.Settings.{direction_of};
     ghost use Rattle.trace_log.specs.Trace.{trace};
     ghost use Rattle.std.specs.Prelude.{◌≤◌, ◌^◌, true, false};
-    ghost use Rattle.trace_run.specs.proving.Telling.{HasReceived, HasStopped, HasTold, HasToldNothing, HasWritten, HasWrittenAtLeast};
+    ghost use Rattle.trace_run.specs.proving.Telling.{HasReceived, HasStopped, HasTold, HasToldNothing, HasToldAndWritten, HasWrittenAtLeast};
     ghost use Rattle.trace_log.specs.proving.Receiving.{entry_in, IsStart};
 
     type Device = W;
 
+    // `s` and `t` are the receiver with its target, before lines were taken and after: `.0` is the receiver, `.1` the target.
+    // `meanings` are those of the lines between, `what` that of the line on which it stopped, and `first` those of the first
+    // lines, whose text is written. In `wants`, `s` is the receiver alone, and `first` and `second` are identifiers.
     ghost took = { λ s meanings t. HasReceived M.stands W.Target s.0 s.1 meanings t.0
         (HasTold M.stands M.script W.Target s.1 s.0.telling.machine (trace s.0.config meanings) t.0.telling t.1) };
 
     ghost rested = { λ s meanings t. HasReceived M.stands W.Target s.0 s.1 meanings t.0
-        (HasWritten M.stands M.script W.Target s.1 s.0.telling.machine (trace s.0.config meanings) t.0.telling false t.1) };
+        (HasToldAndWritten M.stands M.script W.Target s.1 s.0.telling.machine (trace s.0.config meanings) t.0.telling false t.1) };
 
     ghost broke = { λ s meanings t. HasReceived M.stands W.Target s.0 s.1 meanings t.0
-        (HasWritten M.stands M.script W.Target s.1 s.0.telling.machine (trace s.0.config meanings) t.0.telling true t.1) };
+        (HasToldAndWritten M.stands M.script W.Target s.1 s.0.telling.machine (trace s.0.config meanings) t.0.telling true t.1) };
 
     ghost stopped = { λ s meanings what fault t. IsStart s.0.pair s.0.lines s.0.counts
         → (stamped : StampedValue) × (d : DirValue) × (what ≡ Some stamped) × (Some d ≡ direction_of s.0.config stamped.frame.id)
@@ -143,7 +122,7 @@ impl<M: Machine, W: Target> Receiver<M, W> {
     /// several frames.
     fn receive(
         &mut self,
-        device: &mut W,
+        target: &mut W,
         line: u64,
         dir: Dir,
         stamped: &Stamped,
@@ -156,7 +135,7 @@ impl<M: Machine, W: Target> Receiver<M, W> {
         ensures counts { OnOk result ((T : List Entry) → self.old.pair.receptions ≡ receptions_after MESSAGE_LIMIT T
             → self.new.counts ≡ counted_more dir (verdict MESSAGE_LIMIT T (entry_at line stamped.now dir)) self.old.counts) }
         ensures told { (T : List Entry) → self.old.pair.receptions ≡ receptions_after MESSAGE_LIMIT T → length T < 2 ^ 62
-            → TellsFrame M.stands M.script M.needs W.Target T (entry_at line stamped.now dir) self.old.telling device.old result self.new.telling device.new }
+            → TellsFrame M.stands M.script M.needs W.Target T (entry_at line stamped.now dir) self.old.telling target.old result self.new.telling target.new }
     {
         match self.pair.accept(line, stamped.micros, dir, &stamped.frame) {
             Ok(event) => {
@@ -166,7 +145,7 @@ impl<M: Machine, W: Target> Receiver<M, W> {
                     dir,
                     event,
                 };
-                hand_on(&mut self.counts, &mut self.telling, device, frame)
+                hand_on(&mut self.counts, &mut self.telling, target, frame)
             }
             Err(_refused) => Err(Fault::Memory),
         }

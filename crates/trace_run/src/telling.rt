@@ -11,9 +11,9 @@ ghost use Rattle.isotp_receive.specs.Verdict.{told_message};
 ghost use Rattle.uds_exchange.specs.Judging.{HasCounted, IsJudgeOf, IsJudgmentOf};
 ghost use Rattle.trace_run.specs.Seen.{IsSeen, glimpse_value};
 ghost use Rattle.trace_run.specs.proving.Carrying.{SaysToPage};
-ghost use Rattle.trace_run.specs.proving.Telling.{stops_for};
+ghost use Rattle.trace_run.specs.proving.Telling.{oversize_for};
 
-use crate::machine::{Glimpse, Machine, Seen, Stop};
+use crate::machine::{Glimpse, Machine, NoAnswer, Seen};
 use crate::page::{Page, PageSink};
 use direction::Dir;
 use isotp_receive::{Event, Pair, Reason, Verdict};
@@ -23,7 +23,7 @@ use trace_io::Target;
 use trace_log::{Fault, Summary};
 use uds_exchange::{Judge, Judged};
 
-/// What a frame did, with its line, its time in microseconds and its direction.
+/// What a frame did, with its line, its time in microseconds and its direction: a [`Seen`] before its message is judged.
 #[derive(Clone, Copy)]
 pub(crate) struct FrameEvent<'a> {
     pub line: u64,
@@ -65,18 +65,18 @@ impl<M, W> Telling<M, W> {
 impl<M: Machine, W: Target> Telling<M, W> {
     ghost use Rattle.std.specs.Prelude.{◌≡◌, List, IfErr, true, false};
     ghost use Rattle.isotp_receive.specs.Trace.{Entry};
-    ghost use Rattle.trace_run.specs.proving.Telling.{HasTold, HasWritten, HasWrittenAtLeast, IsFrameEvent, TellsFrame};
+    ghost use Rattle.trace_run.specs.proving.Telling.{HasTold, HasToldAndWritten, HasWrittenAtLeast, IsFrameEvent, TellsFrame};
     ghost use Rattle.trace_log.specs.Feeding.{IsOfTaker};
 
     /// Writes what is due, before more is read. Answers whether it could.
     pub(crate) fn settle(&mut self, target: &mut W) -> bool
         ensures well { result ≡ true → (target_start : W) (machine_start : M) (T : List Entry)
             → HasTold M.stands M.script W.Target target_start machine_start T self.old target.old
-            → HasWritten M.stands M.script W.Target target_start machine_start T self.new false target.new
+            → HasToldAndWritten M.stands M.script W.Target target_start machine_start T self.new false target.new
             × HasTold M.stands M.script W.Target target_start machine_start T self.new target.new }
         ensures wrong { result ≡ false → (target_start : W) (machine_start : M) (T : List Entry)
             → HasTold M.stands M.script W.Target target_start machine_start T self.old target.old
-            → HasWritten M.stands M.script W.Target target_start machine_start T self.new true target.new }
+            → HasToldAndWritten M.stands M.script W.Target target_start machine_start T self.new true target.new }
         ensures sure { result ≡ true → (target_start : W) (machine_start : M) (T : List Entry)
             → HasTold M.stands M.script W.Target target_start machine_start T self.old target.old
             → HasWrittenAtLeast M.script W.Target target_start machine_start T self.new target.new }
@@ -101,7 +101,7 @@ impl<M: Machine, W: Target> Telling<M, W> {
             event,
         } = frame;
         let message = judged_message(&mut self.judge, dir, event.verdict);
-        match stops_for(self.machine.is_strict(), event.verdict) {
+        match oversize_for(self.machine.is_strict(), event.verdict) {
             Some(announced) => Err(Fault::Oversize { line, announced }),
             None => {
                 let seen = Seen {
@@ -136,8 +136,8 @@ fn judged_message<'a>(judge: &mut Judge, dir: Dir, verdict: Verdict<'a>) -> Opti
 
 /// The length that a frame announced, where a run stops for that.
 #[inline(always)]
-fn stops_for(strict: bool, verdict: Verdict<'_>) -> Option<u32>
-    ensures { result ≡ stops_for strict (seen_verdict verdict.entry) }
+fn oversize_for(strict: bool, verdict: Verdict<'_>) -> Option<u32>
+    ensures { result ≡ oversize_for strict (seen_verdict verdict.entry) }
 {
     if !strict {
         return None;
@@ -148,7 +148,8 @@ fn stops_for(strict: bool, verdict: Verdict<'_>) -> Option<u32>
     }
 }
 
-/// The length that a dropped frame announced, where it was dropped for that.
+/// The length that a dropped frame announced, where it was dropped for that. It asks the reason alone; its definition stands
+/// beside `Reason`, in `isotp_receive`.
 fn announced_by(reason: Reason) -> Option<u32>
     ensures { result ≡ announced_by reason }
 {
@@ -191,7 +192,7 @@ pub(crate) fn tell_end<M: Machine, W: Target>(
     page: &mut Page,
     pair: &Pair,
     summary: &Summary,
-) -> Result<M::Answer, Stop>
+) -> Result<M::Answer, NoAnswer>
     ensures says { (machine_start : M) (T : List Entry) → M.stands machine_start T machine
         → pair.now.receptions ≡ receptions_after MESSAGE_LIMIT T → KeepsWithin MESSAGE_LIMIT T pair.now
         → SaysToPage W.Target page.old target.old ((M.script machine_start).last T summary.now) page.new target.new }
@@ -210,12 +211,12 @@ pub(crate) fn tell_refusal<M: Machine, W: Target>(
     page: &mut Page,
     summary: &Summary,
     why: Fault,
-    source: Glimpse<'_>,
+    glimpse: Glimpse<'_>,
 )
     ensures says { (machine_start : M) (T : List Entry) → M.stands machine_start T machine
         → SaysToPage W.Target page.old target.old
-        (M.refusal machine_start (glimpse_value source.entry) T summary.now why) page.new target.new }
+        (M.refusal machine_start (glimpse_value glimpse.entry) T summary.now why) page.new target.new }
 {
     let mut out = PageSink { target, page };
-    machine.refused(summary, why, source, &mut out);
+    machine.refused(summary, why, glimpse, &mut out);
 }

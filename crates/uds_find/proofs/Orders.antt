@@ -1,4 +1,4 @@
--- The orders that the types derive are those of the definitions.
+-- The orders of the types, that of `CreditLine` by hand and the others derived, are those of the definitions.
 use Rattle.std.proofs.Common.{◌≡◌, ℕ, Bool, true, false, List, refl, sym, ap, subst, rules, is_eq, Ordering}
 use Rattle.std.proofs.lemmas.Bool.{and_from, and_parts, eqb-true}
 use Rattle.std.proofs.lemmas.Map.Keys.{IsDistinct-from_sorted}

@@ -19,13 +19,13 @@ is_about service (Some (Answers answered)) = answered == service
 abbrev pub speaks_of : ℕ → FrameValue → Bool
 speaks_of service frame = is_about service (mention_of frame)
 
--- the asker, of what a frame of this identifier says
+-- who asks by what a frame of this sender says, if it asks
 abbrev pub asker_of_mention : Option Mention → Id → Option Id
-asker_of_mention (Some (Asks service)) asker = Some asker
-asker_of_mention (Some (Answers service)) asker = None
-asker_of_mention None asker = None
+asker_of_mention (Some (Asks service)) sender = Some sender
+asker_of_mention (Some (Answers service)) sender = None
+asker_of_mention None sender = None
 
--- the asker, of a frame, if there is one: its identifier, where it asks
+-- who asks by a frame, if there is one: its identifier, where it asks
 abbrev pub asker_of_frame : Option FrameValue → Option Id
 asker_of_frame None = None
 asker_of_frame (Some frame) = asker_of_mention (mention_of frame) frame.id

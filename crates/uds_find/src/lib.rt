@@ -8,7 +8,9 @@
 //! 7E0#0322F190          asks for service 22
 //! 7E8#101462F190574241  answers it: credited to 7E0
 //! 7E0#300000            says nothing
-//! 7E8#2131413345304645  says nothing       =>  1 7E0 7E8
+//! 7E8#2131413345304645  says nothing
+//!
+//! CreditLine { credits: 1, tester: "7E0", unit: "7E8" }
 //! ```
 #![tactic(auto)]
 

@@ -33,7 +33,7 @@ pub fn mention_of(frame: &Frame) -> Option<Mention>
     }
 }
 
-/// Whether a bus carries the identifier of a frame.
+/// Whether a bus carries the identifier of a frame. `can_log` has a definition of it, and no call.
 fn is_can_identifier(id: Id) -> bool
     ensures { result ≡ Spec.is_can_identifier id }
 {

@@ -18,7 +18,7 @@ pub struct IdPair {
 }
 
 /// A pair by the texts of its identifiers, and how many credits it has. Lines are ordered by the most credits, and then by
-/// these texts.
+/// these texts, as a reader of the list orders them.
 #[derive(Debug, Drop, PartialEq, Eq)]
 pub struct CreditLine {
     pub credits: u64,

@@ -12,11 +12,12 @@ use Rattle.trace_log.specs.Summing.{is_clean, summary_of}
 use Rattle.trace_canon.specs.declared.collector.Session.{Session}
 use Rattle.trace_log.specs.declared.fault.CompareFault.{CompareFault}
 use Rattle.trace_log.specs.declared.fault.Fault.{Fault}
-use Rattle.trace_run.specs.declared.machine.Stop.{Stop}
+use Rattle.trace_run.specs.declared.machine.NoAnswer.{NoAnswer}
 use Rattle.trace_log.specs.declared.summary.Summary.{Summary}
 use Rattle.trace_log.proofs.Promises.{clean_log_is_recording, clean_summary_is_certificate, summary_certifies}
-use Rattle.trace_run.specs.Told.{AnswersTold, GlimpseValue, IsReadToEnd, Refusal, Script, answers_counts, tells_no_refusal}
-use Rattle.trace_report.specs.Held as Holds
+use Rattle.trace_run.specs.Script.{GlimpseValue, RefusalText, Script, answers_counts, tells_no_refusal}
+use Rattle.trace_run.specs.Told.{AnswersTold, IsReadToEnd}
+use Rattle.trace_report.specs.Kept as Keeps
 use Rattle.trace_report.specs.Session.{SessionValue}
 use Rattle.udsnorm.specs.Commands.{Engine, normalises, writes, finds, runs, runs_in_style, EngineAnswers, PairEngineAnswers, answers_of, engine_of}
 use Rattle.udsnorm.specs.Ending.{status_of_run_of_two}
@@ -44,7 +45,7 @@ of_clean settings log summary = clean_log_is_recording MESSAGE_LIMIT settings lo
 
 -- those of a log whose lines were told
 of_told : (settings : Settings) (log : List ℕ) (meanings : List (Option Stamped)) (summary : Summary) → LogMeans log meanings
-    → ◌≡◌ {A = Result Summary Stop} (Ok summary) (Ok (summary_of MESSAGE_LIMIT settings log meanings)) → is_clean summary ≡ true → IsCertified MESSAGE_LIMIT settings log
+    → ◌≡◌ {A = Result Summary NoAnswer} (Ok summary) (Ok (summary_of MESSAGE_LIMIT settings log meanings)) → is_clean summary ≡ true → IsCertified MESSAGE_LIMIT settings log
 of_told settings log meanings summary means counted =
     let same : summary_of MESSAGE_LIMIT settings log meanings ≡ summary = cc counted in
     of_clean settings log summary (subst (Certifies MESSAGE_LIMIT settings log) same (of_lines settings log meanings means))
@@ -55,7 +56,7 @@ of_read true settings log meanings read = read.means
 of_read false settings log meanings read = read.1
 
 -- those of a log over which a machine ran, whatever it said
-of_script : (script : Script) (refusal : Refusal) (settings : Settings) (log : List ℕ) (given : ℕ) (summary : Summary) (old new : List ℕ)
+of_script : (script : Script) (refusal : RefusalText) (settings : Settings) (log : List ℕ) (given : ℕ) (summary : Summary) (old new : List ℕ)
     → AnswersTold script refusal answers_counts MESSAGE_LIMIT settings log given (Ok summary) old new → is_clean summary ≡ true → IsCertified MESSAGE_LIMIT settings log
 of_script script refusal settings log given summary old new (all, meanings, read, counted, wrote) =
     of_told settings log meanings summary (of_read script.strict settings log meanings read) counted
@@ -88,7 +89,7 @@ is_certified settings log session gives clean =
     clean_log_is_recording MESSAGE_LIMIT settings log session.summary (of_accepted settings log gives.accepted session.summary gives.outcome gives.counted) clean
 
 -- a log that is held is clean
-of_held : (settings : Settings) (log : List ℕ) (session : SessionValue) → Holds.HoldsOne MESSAGE_LIMIT settings log (Ok session) → is_clean session.summary ≡ true → IsCertified MESSAGE_LIMIT settings log
+of_held : (settings : Settings) (log : List ℕ) (session : SessionValue) → Keeps.KeepsOne MESSAGE_LIMIT settings log (Ok session) → is_clean session.summary ≡ true → IsCertified MESSAGE_LIMIT settings log
 of_held settings log session (meanings, read, is) = of_told settings log meanings session.summary read.1 (ap (λ (s : SessionValue). Ok s.summary) is)
 
 -- what is certified of two logs by the answer of a job over them

@@ -15,7 +15,7 @@ use Rattle.udsnorm.specs.Asked.{Did, DidAsked, DidWords, IsDone, IsDoneBy, ToldW
 use Rattle.udsnorm.specs.Opening.{Saying, opened, two_files}
 use Rattle.udsnorm.specs.Ending.{flushes, has_unclean, is_unclean, status_of_run_of_two}
 use Rattle.trace_report.specs.Page.{nothing_seen}
-use Rattle.trace_run.specs.Told.{GlimpseValue, glimpse_of}
+use Rattle.trace_run.specs.Script.{GlimpseValue, glimpse_of}
 use Rattle.udsnorm.specs.Commands.{EngineAnswers, PairEngineAnswers}
 use Rattle.udsnorm.specs.declared.commands.Job.TheVariants as job
 use Rattle.udsnorm.specs.declared.pair_jobs.PairJob.TheVariants as pair_job

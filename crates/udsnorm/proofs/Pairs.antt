@@ -21,7 +21,7 @@ use Rattle.trace_log.specs.declared.fault.Fault.TheVariants as fault
 use Rattle.trace_io.specs.Written.{HasFront}
 use Rattle.trace_io.specs.declared.device.Source.{Ghosts as SourceGhosts}
 use Rattle.trace_io.specs.declared.device.Target.{Ghosts as TargetGhosts}
-use Rattle.trace_report.specs.Held.{HoldsTwo, TwoValue}
+use Rattle.trace_report.specs.Kept.{KeepsTwo, TwoValue}
 use Rattle.trace_pair.specs.Page.{pair_page}
 use Rattle.trace_pair.specs.Titles.{title_for}
 use Rattle.udsnorm.specs.Commands.{ComparesPair, PagesPair, TextOfCompared, has_text, pair_of}
@@ -29,7 +29,7 @@ use Rattle.udsnorm.specs.Ending.{has_unclean, status_of_comparison, status_of_ru
 use Rattle.udsnorm.specs.Status.{status_of}
 use Rattle.udsnorm.specs.Telling.{WroteText}
 use Rattle.udsnorm.specs.proving.Flushed.{FlushedIf}
-use Rattle.trace_run.specs.Told.{GlimpseValue}
+use Rattle.trace_run.specs.Script.{GlimpseValue}
 use Rattle.udsnorm.specs.proving.Pairs.{IsAnswered, answer_held, answer_of, cause_in, text_of_answer}
 use Rattle.udsnorm.specs.declared.pair_jobs.PairAnswer.{PairAnswer}
 use Rattle.udsnorm.specs.declared.pair_jobs.PairJob.{PairJob}
@@ -93,7 +93,7 @@ read_told source why max_bytes answer told before after is read =
     subst (λ (a : Result PairAnswer CompareFault). ReadFrom source why max_bytes a before after) (sym is) (read_held source why max_bytes answer before after read)
 
 -- two logs that are held, without what they say, and their page
-pub pages_pair : (style left_name right_name : List ℕ) (left_seen right_seen : GlimpseValue) (strict : Bool) (limit : ℕ) (settings : Settings) (one other : List ℕ) (answer : Result TwoValue CompareFault) → HoldsTwo limit settings one other answer
+pub pages_pair : (style left_name right_name : List ℕ) (left_seen right_seen : GlimpseValue) (strict : Bool) (limit : ℕ) (settings : Settings) (one other : List ℕ) (answer : Result TwoValue CompareFault) → KeepsTwo limit settings one other answer
     → PagesPair left_name right_name left_seen right_seen strict limit settings one other (answer_held answer)
     (pair_page (title_for style left_name right_name settings) answer (cause_in answer settings.max_bytes left_seen right_seen))
 pages_pair style left_name right_name left_seen right_seen strict limit settings one other (Ok held) holds = (style, held, holds, refl, refl)

@@ -11,7 +11,7 @@ use Rattle.trace_log.specs.Settings.{Settings}
 use Rattle.trace_log.specs.declared.summary.Summary.{Summary}
 use Rattle.trace_io.specs.Stream.{Agrees, Took}
 use Rattle.udsnorm.specs.Ending.{ComesTo, EndsAs, flushes, is_unclean, status_of_run}
-use Rattle.trace_run.specs.Told.{GlimpseValue}
+use Rattle.trace_run.specs.Script.{GlimpseValue}
 use Rattle.udsnorm.specs.Commands.{EngineAnswers}
 use Rattle.udsnorm.specs.Status.{status_of}
 use Rattle.udsnorm.specs.declared.commands.Job.{Job}

@@ -1,7 +1,7 @@
 -- The commands of the program: the options and files of each, as the parser takes them, the task that it asks for, and
 -- what the engine answers and reads that does its job. A command is one entry of `command_entries`, and its job a case
 -- of `engine_of`; or, where it is over two logs, of `left_file`, `right_file`, `has_text` and `engine_of_pair`.
-use Rattle.std.specs.Prelude.{◌≡◌, ⊤, ◌⊎◌, ◌-◌, ℕ, length, Bool, true, false, not, List, [], ◌∷◌, ◌++◌, map, Some, None, Option, Result, Ok, Err, codes, bytes_eq, if◌then◌else◌}
+use Rattle.std.specs.Prelude.{◌≡◌, ⊤, ◌⊎◌, ℕ, Bool, true, false, not, List, [], ◌∷◌, ◌++◌, map, Some, None, Option, Result, Ok, Err, codes, bytes_eq, if◌then◌else◌}
 use Rattle.clap.specs.Faults.{fault_of}
 use Rattle.clap.specs.Kinds.{Kinds}
 use Rattle.clap.specs.Simple.{App, Shape, new_rule, new_shape, subcommand_of}
@@ -21,10 +21,10 @@ use Rattle.trace_log.specs.Needing.{HasFrame, IsKeptForMessage, NeedsMemoryToRec
 use Rattle.trace_canon.specs.MemoryNeeded.{CompletesKept, NeedsMemoryToCollect, NeedsMemoryToOrder}
 use Rattle.trace_log.specs.Refusal.{HasNoBadPlaceWithin, IsNotRefusedWithin}
 use Rattle.trace_log.specs.Settings.{Settings}
-use Rattle.trace_run.specs.Told.{GlimpseValue, Script, Refusal, AnswersTold, RanLenient, TellsEagerly, answers_counts, command, needs_none, tells_no_refusal}
+use Rattle.trace_run.specs.Script.{GlimpseValue, Script, RefusalText, answers_counts, command, needs_none, tells_no_refusal}
+use Rattle.trace_run.specs.Told.{AnswersTold, RanLenient, TellsEagerly}
 use Rattle.trace_canon.specs.WatchScript.{watching_script}
 use Rattle.trace_canon.specs.declared.comparing.Compared.{Compared}
-use Rattle.trace_canon.specs.declared.comparison_text.ComparisonStyle.{ComparisonStyle}
 use Rattle.trace_log.specs.declared.fault.CompareFault.{CompareFault}
 use Rattle.trace_log.specs.declared.fault.Fault.{Fault}
 use Rattle.trace_log.specs.declared.fault.Fault.TheVariants.{Memory, Read, Write}
@@ -36,7 +36,7 @@ use Rattle.trace_io.specs.declared.device.Source.{Ghosts as SourceGhosts}
 use Rattle.trace_io.specs.declared.device.Target.{Ghosts as TargetGhosts}
 use Rattle.trace_difference.specs.Written.{difference_text}
 use Rattle.trace_report.specs.Front.{page_title}
-use Rattle.trace_report.specs.Held.{HasOwnFrame, HoldsTwo, TwoValue, comparison_in}
+use Rattle.trace_report.specs.Kept.{HasOwnFrame, KeepsTwo, TwoValue, comparison_in}
 use Rattle.trace_report.specs.Page.{refused_text, report_script}
 use Rattle.trace_pair.specs.Page.{cause_of_pair, page_of, pair_page}
 use Rattle.trace_pair.specs.Titles.{title_for}
@@ -149,7 +149,7 @@ pub data Engine : Type 1 where
   writes : TextOfItems → Engine
   finds : Notation → Engine
   runs : (ℕ → Script) → (ℕ → List Entry → Entry → Type 0) → Engine
-  runs_in_style : (List ℕ → Settings → ℕ → Script) → (List ℕ → Settings → ℕ → Refusal) → Engine
+  runs_in_style : (List ℕ → Settings → ℕ → Script) → (List ℕ → Settings → ℕ → RefusalText) → Engine
 
 -- what it answers, and what it then writes
 abbrev pub answers_of : Engine → ℕ → Settings → List ℕ → ℕ → Result Summary Fault → List ℕ → List ℕ → Type 0
@@ -292,10 +292,10 @@ pair_held held = record { comparison = comparison_in held; left = held.left.summ
 -- both sources
 abbrev pub PagesPair : List ℕ → List ℕ → GlimpseValue → GlimpseValue → Bool → ℕ → Settings → List ℕ → List ℕ → Result PairAnswer CompareFault → List ℕ → Type 0
 PagesPair left_name right_name left_seen right_seen strict limit settings one other (Ok pair) text =
-    (style : List ℕ) × (held : TwoValue) × HoldsTwo limit settings one other (Ok held) × (pair ≡ pair_held held)
+    (style : List ℕ) × (held : TwoValue) × KeepsTwo limit settings one other (Ok held) × (pair ≡ pair_held held)
     × (text ≡ page_of (title_for style left_name right_name settings) held.left held.right)
 PagesPair left_name right_name left_seen right_seen strict limit settings one other (Err fault) text =
-    (style : List ℕ) × HoldsTwo limit settings one other (Err fault)
+    (style : List ℕ) × KeepsTwo limit settings one other (Err fault)
     × (text ≡ pair_page (title_for style left_name right_name settings) (Err fault) (cause_of_pair fault settings.max_bytes left_seen right_seen))
 
 -- the job has a text of this answer: a comparison of logs of which each is clean that has to be; a page of all logs but

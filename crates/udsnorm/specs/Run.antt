@@ -1,5 +1,5 @@
 -- What a run over logs answers, what it takes from its input, and what its output takes.
-use Rattle.std.specs.Prelude.{◌≡◌, ◌≢◌, ℕ, ◌+◌, ◌-◌, ◌⊎◌, Bool, List, length, true, false, Option, Result, Err}
+use Rattle.std.specs.Prelude.{◌≡◌, ◌≢◌, ℕ, ◌+◌, ◌⊎◌, Bool, List, true, false, Option, Result, Err}
 use Rattle.trace_log.specs.Settings.{Settings}
 use Rattle.trace_log.specs.Devices.{AgreesWith, bytes_given, ReadFrom}
 use Rattle.trace_log.specs.Failing.{FailedIf}
@@ -9,7 +9,7 @@ use Rattle.trace_log.specs.declared.fault.Fault.{Fault}
 use Rattle.trace_log.specs.declared.fault.Fault.TheVariants.{Memory, Read, Write}
 use Rattle.trace_log.specs.declared.summary.Summary.{Summary}
 use Rattle.trace_io.specs.Stream.{Took}
-use Rattle.trace_run.specs.Told.{glimpse_of}
+use Rattle.trace_run.specs.Script.{glimpse_of}
 use Rattle.trace_io.specs.declared.device.Source.{Ghosts as SourceGhosts}
 use Rattle.trace_io.specs.declared.device.Target.{Ghosts as TargetGhosts}
 use Rattle.udsnorm.specs.Commands.{EngineAnswers, EngineNeeds, EngineReads, EngineTellsEagerly, PairEngineAnswers, PairEngineNeedsForLeft, PairEngineNeedsForRight, PairEngineReads, has_text}

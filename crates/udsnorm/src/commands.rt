@@ -5,7 +5,7 @@ ghost use Rattle.std.specs.Prelude.{◌≡◌, codes};
 ghost use Rattle.isotp_receive.specs.declared.TheConstants.{MESSAGE_LIMIT};
 ghost use Rattle.trace_io.specs.Counted.{IsLowCount};
 ghost use Rattle.clap.specs.Words.{first_of, found_of, rows_of};
-ghost use Rattle.trace_run.specs.Told.{glimpse_of};
+ghost use Rattle.trace_run.specs.Script.{glimpse_of};
 ghost use Rattle.udsnorm.specs.Commands.{RanAny, RanBy, engine_of, report_task, task_named};
 ghost use Rattle.trace_log.specs.Devices.{HasLowCounts};
 

@@ -14,7 +14,7 @@ ghost use Rattle.udsnorm.specs.Ending.{has_unclean};
 ghost use Rattle.udsnorm.specs.Telling.{WroteText};
 ghost use Rattle.udsnorm.specs.proving.Pairs.{IsAnswered, answer_held, answer_of, cause_in, text_of_answer};
 ghost use Rattle.trace_report.specs.Causes as Causes;
-ghost use Rattle.trace_run.specs.Told.{glimpse_of};
+ghost use Rattle.trace_run.specs.Script.{glimpse_of};
 
 use crate::commands::{LEFT, LOG, OTHER, RIGHT};
 use crate::tell::is_refusal;

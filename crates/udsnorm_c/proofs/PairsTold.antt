@@ -15,7 +15,7 @@ use Rattle.trace_log.specs.Summing.{is_clean, summary_of}
 use Rattle.trace_log.specs.Trace.{trace}
 use Rattle.trace_log.specs.declared.fault.CompareFault.{CompareFault}
 use Rattle.trace_log.specs.declared.summary.Summary.{Summary}
-use Rattle.trace_report.specs.Held.{HoldsOne, HoldsTwo, TwoValue, comparison_in}
+use Rattle.trace_report.specs.Kept.{KeepsOne, KeepsTwo, TwoValue, comparison_in}
 use Rattle.trace_report.specs.Laws.{AgreesWithCompare}
 use Rattle.trace_report.specs.Session.{SessionValue, session_of}
 use Rattle.trace_text.specs.declared.notation.Notation.{Notation}
@@ -45,7 +45,7 @@ ComparedSo settings left right answer =
 -- what is said of two logs that are held
 abbrev HeldSo : Settings → List ℕ → List ℕ → UdsnormAnswer → Type 0
 HeldSo settings left right answer =
-    (held : TwoValue) × HoldsTwo MESSAGE_LIMIT settings left right (Ok held) × SaysOfTwo settings left right (comparison_in held) answer
+    (held : TwoValue) × KeepsTwo MESSAGE_LIMIT settings left right (Ok held) × SaysOfTwo settings left right (comparison_in held) answer
 
 compared_under : (settings : Settings) (left right : List ℕ) (answer : UdsnormAnswer) (result : Result CountedComparison CompareFault)
     → ComparesWithCounts MESSAGE_LIMIT settings left right result → answer ≡ comparison_answer result
@@ -102,7 +102,7 @@ difference_told tester unit max_bytes style left_name right_name left right old 
 difference_told tester unit max_bytes style left_name right_name left right old new answer (Err fault, configures, (same, says)) =
     inl (so_has answer (refusal_of fault) says (of_refusal fault))
 
-of_held : (settings : Settings) (log : List ℕ) (session : SessionValue) → HoldsOne MESSAGE_LIMIT settings log (Ok session) → AreCountsOf settings log session.summary
+of_held : (settings : Settings) (log : List ℕ) (session : SessionValue) → KeepsOne MESSAGE_LIMIT settings log (Ok session) → AreCountsOf settings log session.summary
 of_held settings log session (meanings, read, is) = (meanings, read.1, ap (λ (s : SessionValue). s.summary) is)
 
 held_under : (settings : Settings) (left_name right_name left right old new : List ℕ) (answer : UdsnormAnswer)
@@ -192,7 +192,7 @@ pair_page_agrees agrees tester unit max_bytes left_name right_name left right ol
 
 -- an accepted log can be held
 held_log : (settings : Settings) (log : List ℕ) (items : List ItemValue) (summary : Summary) → IsAcceptedWith MESSAGE_LIMIT settings log items summary
-    → (session : SessionValue) × HoldsOne MESSAGE_LIMIT settings log (Ok session)
+    → (session : SessionValue) × KeepsOne MESSAGE_LIMIT settings log (Ok session)
 held_log settings log items summary is =
     let meanings = is.outcome.0 in
     (session_of MESSAGE_LIMIT (trace settings meanings) (summary_of MESSAGE_LIMIT settings log meanings), (meanings, (is.outcome.1.short, is.outcome.1.means), refl))

@@ -143,7 +143,7 @@ pub extern "C" fn udsnorm_find(
 {
     *answer = match config_of(USUAL_TESTER, USUAL_UNIT, limit) {
         Ok(config) => match notation_of(style) {
-            Some(notation) => put(in_memory::pair_lines(alloc, &config, notation, log), out),
+            Some(notation) => put(in_memory::credit_lines(alloc, &config, notation, log), out),
             None => no_style(),
         },
         Err(fault) => refusal_of(fault),

@@ -3,7 +3,7 @@ use Rattle.std.specs.Prelude.{◌≡◌, ⊥, Result, Ok, Err}
 use Rattle.trace_log.specs.declared.fault.CompareFault.{CompareFault}
 use Rattle.trace_log.specs.declared.fault.CompareFault.TheVariants.{Right}
 use Rattle.trace_log.specs.declared.fault.Fault.TheVariants.{Memory}
-use Rattle.trace_report.specs.Held.{TwoValue}
+use Rattle.trace_report.specs.Kept.{TwoValue}
 
 -- it is the same, but where memory is refused for that
 abbrev pub IsSetBeside : Result TwoValue CompareFault → Result TwoValue CompareFault → Type 0

@@ -15,7 +15,7 @@ use Rattle.trace_canon.specs.declared.reception_starts.FramePlace.{FramePlace}
 use Rattle.trace_canon.specs.proving.ReceptionStarts.{IsBegunAt}
 use Rattle.trace_report.specs.Blocks.{blocks_of}
 use Rattle.trace_report.specs.Events.{asked_in, is_request_step, ends_nothing, rows_of}
-use Rattle.trace_report.specs.Front.{PageTitle}
+use Rattle.trace_report.specs.Front.{PageTitleValue}
 use Rattle.trace_report.specs.Page.{last_time}
 use Rattle.trace_report.specs.Rows.{RowValue}
 use Rattle.trace_report.specs.Rows as row
@@ -39,7 +39,7 @@ counted_by true flowed taken = taken
 counted_by true (dropped reason) taken = taken
 counted_by false did taken = taken
 
--- the count of d after a frame of `sender`
+-- how many consecutive frames the reception of d took, after what became of a frame of `sender`
 abbrev pub taken_after : Dir → Dir → VerdictValue → ℕ → ℕ
 taken_after d sender did taken = counted_by (same_direction d sender) did taken
 
@@ -47,7 +47,7 @@ taken_after d sender did taken = counted_by (same_direction d sender) did taken
 abbrev pub IsTaken : Dir → List Entry → ℕ → Type 0
 IsTaken d T taken = IfSome (stands MESSAGE_LIMIT d T) (λ (standing : StandingReception). taken ≡ standing.taken)
 
--- these counts are of the frames T
+-- these counts of consecutive frames are known after the frames T
 pub record CountFrames (T : List Entry) (counts : FrameCounts) : Type 0 where
   pub tester : IsTaken Tester T counts.tester
   pub unit : IsTaken Unit T counts.unit
@@ -78,7 +78,7 @@ pub record KnowsMessages (M : List Message) (asked : ℕ) (follower : Follower) 
   pub silent : IsSilent M follower.silent
   pub asked_then : follower.asked ≡ asked
 
--- it is known with one more message, which a frame in this place completed
+-- what is known after these messages is known with one more, which a frame in this place completed
 abbrev pub MeetsMessage : List Message → Message → FramePlace → ℕ → Follower → Type 0
 MeetsMessage M sent here asked follower =
     KnowsMessages (M ++ sent ∷ []) (if is_request_step (step_after M sent) then here.micros else asked) follower
@@ -88,16 +88,16 @@ pub record Follows (T : List Entry) (follower : Follower) : Type 0 where
   pub met : KnowsMessages (messages MESSAGE_LIMIT T) (asked_in MESSAGE_LIMIT T) follower
   pub places : KnowsPlaces T follower.places
 
--- a row that may be there
+-- the row that is there, if one is
 abbrev pub row_if : Option Row → List RowValue
 row_if None = []
 row_if (Some row) = row_of row ∷ []
 
--- the rows of a frame, or of the end
+-- the new rows that a frame adds, or the end of a log
 abbrev pub rows_in : NewRows → List RowValue
 rows_in rows = row_if rows.first ++ row_if rows.second ++ row_if rows.third
 
--- the row of a frame here of which this became
+-- the row of a frame in this place of which this became: one of a dropped frame
 abbrev pub dropped_by : FramePlace → Dir → Bool → VerdictValue → List RowValue
 dropped_by here d linked (message bytes) = []
 dropped_by here d linked began = []
@@ -105,7 +105,7 @@ dropped_by here d linked stored = []
 dropped_by here d linked flowed = []
 dropped_by here d linked (dropped reason) = row.dropped here d linked reason ∷ []
 
--- the row of a frame here, if it was dropped
+-- the row of a frame in this place, if it was dropped
 abbrev pub dropped_rows : FramePlace → Dir → EventValue → List RowValue
 dropped_rows here d event = dropped_by here d (ends_nothing event.ended) event.verdict
 
@@ -114,18 +114,18 @@ abbrev pub unfinished_if : Dir → Option (ℕ × ℕ) → List RowValue
 unfinished_if d None = []
 unfinished_if d (Some begun) = row.unfinished d begun.0 begun.1 ∷ []
 
--- these rows were said
+-- the chart is said up to these rows
 pub record IsChartOf (rows : List RowValue) (chart : Chart) : Type 0 where
   pub blocks : chart.blocks ≡ blocks_of rows
   pub tally : chart.tally ≡ tally_of rows
 
--- the times of the first frame and the last one, if there are frames
+-- the times of the first frame of a trace and of its last one, if it has frames
 abbrev pub times_of : List Entry → Option Times
 times_of [] = None
 times_of (e ∷ rest) = Some (record { first = e.micros; last = last_time e.micros rest })
 
 -- the page is said up to the rows of the frames T
-pub record Reports (title : PageTitle) (T : List Entry) (reporter : Reporter) : Type 0 where
+pub record Reports (title : PageTitleValue) (T : List Entry) (reporter : Reporter) : Type 0 where
   pub few : length T ≤ 2 ^ 62
   pub same : title_of reporter.title ≡ title
   pub times : reporter.times ≡ times_of T

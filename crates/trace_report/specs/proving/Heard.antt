@@ -2,15 +2,15 @@
 use Rattle.std.specs.Prelude.{◌≡◌, ◌≤◌, ◌^◌, false, List, [], length, Ok, Err}
 use Rattle.isotp_receive.specs.declared.TheConstants.{MESSAGE_LIMIT}
 use Rattle.isotp_receive.specs.Trace.{Entry}
-use Rattle.trace_run.specs.Told.{Script, Answering}
-use Rattle.trace_run.specs.declared.machine.Stop.TheVariants.{OutputLimit}
+use Rattle.trace_run.specs.Script.{Script, Answering}
+use Rattle.trace_run.specs.declared.machine.NoAnswer.TheVariants.{OutputLimit}
 use Rattle.trace_log.specs.declared.summary.Summary.{Summary}
 use Rattle.trace_report.specs.Events.{end_rows, rows_of}
 use Rattle.trace_report.specs.declared.keeper.Heard.{Heard}
 use Rattle.trace_report.specs.declared.keeper.Keeper.{Keeper}
 use Rattle.trace_report.specs.proving.Following.{Follows, rows_in, times_of}
 
--- nothing is said
+-- the script that tells nothing
 abbrev pub quiet_script : Script
 quiet_script = record { strict = false; word = λ T e. []; last = λ T summary. [] }
 
@@ -21,14 +21,14 @@ pub record Keeps (T : List Entry) (keeper : Keeper) : Type 0 where
   pub follows : Follows T keeper.follower
   pub rows : keeper.rows ≡ rows_of MESSAGE_LIMIT T
 
--- this was heard of a trace with these counts
+-- this was heard of a log that means this trace and has these counts
 pub record IsHeardOf (T : List Entry) (summary : Summary) (heard : Heard) : Type 0 where
   pub rows : heard.rows ≡ rows_of MESSAGE_LIMIT T
   pub last : rows_in heard.last ≡ end_rows MESSAGE_LIMIT T
   pub counted : heard.summary ≡ summary
   pub times : heard.times ≡ times_of T
 
--- that is answered
+-- what was heard is answered, and no fault of what is written
 abbrev pub answers_heard : Answering Heard
 answers_heard T summary (Ok heard) = IsHeardOf T summary heard
 answers_heard T summary (Err OutputLimit) = ⊥

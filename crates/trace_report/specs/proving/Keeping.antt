@@ -2,19 +2,19 @@
 use Rattle.std.specs.Prelude.{◌≡◌, ℕ, ◌+◌, zero, suc, ⊤, Bool, true, false, List, [], ◌∷◌, ◌++◌, length, map, Option, Some, None, option_map, slice_get, if◌then◌else◌}
 use Rattle.uds_exchange.specs.Blocks.{IsInside, bytes_at}
 use Rattle.trace_report.specs.Items as Items
-use Rattle.trace_report.specs.Items.{RowMessage, PlacedItem, items_in, message_in}
+use Rattle.trace_report.specs.Items.{RowMessageValue, PlacedItemValue, items_in, message_in}
 use Rattle.trace_report.specs.Rows.{RowValue, message, no_answer, dropped, ended, unfinished}
 use Rattle.trace_report.specs.Sorts.{counts_in}
 use Rattle.trace_report.specs.declared.counts.SortCounts.{SortCounts}
 use Rattle.trace_report.specs.declared.item_places.ItemPlace.{ItemPlace}
 use Rattle.trace_report.specs.declared.kept_rows.KeptRow.{KeptRow}
 use Rattle.trace_report.specs.declared.kept_rows.KeptRow.TheVariants as kept
-use Rattle.trace_report.specs.declared.row.MessageRole.{MessageRole}
-use Rattle.trace_report.specs.declared.row.MessageRole.TheVariants as role
+use Rattle.trace_report.specs.declared.roles.MessageRole.{MessageRole}
+use Rattle.trace_report.specs.declared.roles.MessageRole.TheVariants as role
 
 -- Rows.
 
--- a row that is kept, by the blocks in which bytes lie
+-- a kept row as it was, by the blocks in which bytes lie
 abbrev pub row_at : List (List ℕ) → KeptRow → RowValue
 row_at blocks (kept.Message sent) = message sent.role sent.dir sent.place (bytes_at blocks sent.bytes)
 row_at blocks (kept.NoAnswer number silent) = no_answer number silent
@@ -22,7 +22,7 @@ row_at blocks (kept.Dropped place d linked why) = dropped place d linked why
 row_at blocks (kept.Ended place end) = ended place end
 row_at blocks (kept.Unfinished d line len) = unfinished d line len
 
--- rows that are
+-- kept rows as they were, by the blocks in which bytes lie
 abbrev pub rows_at : List (List ℕ) → List KeptRow → List RowValue
 rows_at blocks rows = map (row_at blocks) rows
 
@@ -34,7 +34,7 @@ IsLaid blocks (kept.Dropped place d linked why) = ⊤
 IsLaid blocks (kept.Ended place end) = ⊤
 IsLaid blocks (kept.Unfinished d line len) = ⊤
 
--- those of all do
+-- the bytes of each of these rows lie in a block, if it has bytes
 abbrev pub AreLaid : List (List ℕ) → List KeptRow → Type 0
 AreLaid blocks [] = ⊤
 AreLaid blocks (row ∷ rest) = IsLaid blocks row × AreLaid blocks rest
@@ -43,13 +43,13 @@ AreLaid blocks (row ∷ rest) = IsLaid blocks row × AreLaid blocks rest
 
 -- What a row is to items: it begins an exchange, answers one, begins another item, or is nothing to them.
 pub data RowPart : Type 0 where
-  asks : RowMessage → RowPart
-  answers : RowMessage → RowPart
-  begins : RowMessage → RowPart
+  asks : RowMessageValue → RowPart
+  answers : RowMessageValue → RowPart
+  begins : RowMessageValue → RowPart
   nothing : RowPart
 
--- a message by its role
-abbrev pub part_by : MessageRole → RowMessage → RowPart
+-- what a row is to items that tells a message of this role
+abbrev pub part_by : MessageRole → RowMessageValue → RowPart
 part_by role.Request sent = asks sent
 part_by (role.Positive asked) sent = answers sent
 part_by (role.Negative asked) sent = answers sent
@@ -57,7 +57,7 @@ part_by (role.Pending asked) sent = nothing
 part_by role.KeepAlive sent = begins sent
 part_by role.Stray sent = begins sent
 
--- a row
+-- what a row is to items
 abbrev pub part_of : RowValue → RowPart
 part_of (message is d place bytes) = part_by is (record { role = is; dir = d; place = place; bytes = bytes })
 part_of (no_answer number silent) = nothing
@@ -65,7 +65,7 @@ part_of (dropped place d linked why) = nothing
 part_of (ended place end) = nothing
 part_of (unfinished d line len) = nothing
 
--- none of these asks or answers
+-- none of these rows asks or answers, so a request before them waits
 abbrev pub awaits : List RowPart → Bool
 awaits [] = true
 awaits (asks sent ∷ rest) = false
@@ -73,17 +73,17 @@ awaits (answers sent ∷ rest) = false
 awaits (begins sent ∷ rest) = awaits rest
 awaits (nothing ∷ rest) = awaits rest
 
--- the place of an item behind one more
+-- the place of an item, where one more item stands before it
 abbrev pub place_later : Option ℕ → Option ℕ
 place_later None = None
 place_later (Some number) = Some (suc number)
 
--- of a request, or of one behind it
+-- the place of the request that waits: this one, or one behind it
 abbrev pub place_by : Bool → Option ℕ → Option ℕ
 place_by true later = Some 0
 place_by false later = place_later later
 
--- the place, among items, of the request that waits
+-- the place, among items, of the request that waits after these rows, by what they are to items
 abbrev pub waiting_of : List RowPart → Option ℕ
 waiting_of [] = None
 waiting_of (asks sent ∷ rest) = place_by (awaits rest) (waiting_of rest)
@@ -91,40 +91,41 @@ waiting_of (answers sent ∷ rest) = waiting_of rest
 waiting_of (begins sent ∷ rest) = place_later (waiting_of rest)
 waiting_of (nothing ∷ rest) = waiting_of rest
 
--- by rows
+-- the place, among items, of the request that waits after these rows
 abbrev pub waiting_in : List RowValue → Option ℕ
 waiting_in rows = waiting_of (map part_of rows)
 
 -- Where items stand.
 
 -- the message of a row, if there is one
-abbrev pub message_if : Option RowValue → Option RowMessage
+abbrev pub message_if : Option RowValue → Option RowMessageValue
 message_if None = None
 message_if (Some row) = message_in row
 
--- of the row at a place
-abbrev pub message_at : List RowValue → ℕ → Option RowMessage
+-- the message of the row at this place, if there is one
+abbrev pub message_at : List RowValue → ℕ → Option RowMessageValue
 message_at rows at = message_if (slice_get rows at)
 
--- the item that these messages are
-abbrev pub item_by : RowMessage → Option RowMessage → PlacedItem
+-- the item that this message begins and that has this answer, if it has one
+abbrev pub item_by : RowMessageValue → Option RowMessageValue → PlacedItemValue
 item_by begin answer = record { begin = begin; answer = answer }
 
 -- the item that begins with this message, and whose answer stands there, if it has one
-abbrev pub item_with : List RowValue → RowMessage → Option ℕ → Option PlacedItem
+abbrev pub item_with : List RowValue → RowMessageValue → Option ℕ → Option PlacedItemValue
 item_with rows begin None = Some (item_by begin None)
-item_with rows begin (Some at) = option_map (λ (reply : RowMessage). item_by begin (Some reply)) (message_at rows at)
+item_with rows begin (Some at) = option_map (λ (reply : RowMessageValue). item_by begin (Some reply)) (message_at rows at)
 
-abbrev pub item_if : List RowValue → Option RowMessage → Option ℕ → Option PlacedItem
+-- the item that begins with this message, if there is one, and whose answer stands there, if it has one
+abbrev pub item_if : List RowValue → Option RowMessageValue → Option ℕ → Option PlacedItemValue
 item_if rows None answer = None
 item_if rows (Some begin) answer = item_with rows begin answer
 
--- the item that stands there
-abbrev pub placed_at : List RowValue → ItemPlace → Option PlacedItem
+-- the item that stands in this place among the rows
+abbrev pub placed_at : List RowValue → ItemPlace → Option PlacedItemValue
 placed_at rows item = item_if rows (message_at rows item.begin) item.answer
 
--- these items stand in these places
-abbrev pub ArePlaced : List RowValue → List ItemPlace → List PlacedItem → Type 0
+-- these items stand in these places among the rows
+abbrev pub ArePlaced : List RowValue → List ItemPlace → List PlacedItemValue → Type 0
 ArePlaced rows [] [] = ⊤
 ArePlaced rows [] (item ∷ items) = ⊥
 ArePlaced rows (place ∷ places) [] = ⊥
@@ -139,6 +140,7 @@ begin_places before (row ∷ rows) = if Items.begins row then before ∷ begin_p
 abbrev pub begun_at : RowValue → ℕ → List ℕ
 begun_at row at = if Items.begins row then at ∷ [] else []
 
+-- the place of the row with which an item begins
 abbrev pub begin_of : ItemPlace → ℕ
 begin_of item = item.begin
 
@@ -147,7 +149,7 @@ abbrev pub place_or : ℕ → Option ℕ → ℕ
 place_or end None = end
 place_or end (Some at) = at
 
--- the rows are kept, what they tell of items, and how many there are of each sort
+-- the rows are kept, with what they tell of items, and how many there are of each sort
 pub record AreKept (blocks : List (List ℕ)) (rows : List KeptRow) (places : List ItemPlace) (waiting : Option ℕ) (counts : SortCounts) : Type 0 where
   pub laid : AreLaid blocks rows
   pub placed : ArePlaced (rows_at blocks rows) places (items_in (rows_at blocks rows))
@@ -157,32 +159,33 @@ pub record AreKept (blocks : List (List ℕ)) (rows : List KeptRow) (places : Li
 
 -- One more row.
 
--- the place of an item with its answer
+-- the place of an item whose answer stands in the row at this place
 abbrev pub answered_at : ItemPlace → ℕ → ItemPlace
 answered_at item at = record { begin = item.begin; answer = Some at }
 
--- the places of items, of which the one of this number has an answer
+-- the places of items, of which the one of this number has its answer in the row at this place
 abbrev pub place_answered : List ItemPlace → ℕ → ℕ → List ItemPlace
 place_answered [] number at = []
 place_answered (item ∷ rest) zero at = answered_at item at ∷ rest
 place_answered (item ∷ rest) (suc number) at = item ∷ place_answered rest number at
 
--- where one waits
+-- the places of items, of which the one that waits, if one does, has its answer in the row at this place
 abbrev pub places_answered : List ItemPlace → Option ℕ → ℕ → List ItemPlace
 places_answered places None at = places
 places_answered places (Some number) at = place_answered places number at
 
--- the same of items
-abbrev pub item_answered : List PlacedItem → ℕ → RowMessage → List PlacedItem
+-- these items, of which the one of this number has this answer
+abbrev pub item_answered : List PlacedItemValue → ℕ → RowMessageValue → List PlacedItemValue
 item_answered [] number reply = []
 item_answered (item ∷ rest) zero reply = item_by item.begin (Some reply) ∷ rest
 item_answered (item ∷ rest) (suc number) reply = item ∷ item_answered rest number reply
 
-abbrev pub items_answered : List PlacedItem → Option ℕ → RowMessage → List PlacedItem
+-- these items, of which the one that waits, if one does, has this answer
+abbrev pub items_answered : List PlacedItemValue → Option ℕ → RowMessageValue → List PlacedItemValue
 items_answered items None reply = items
 items_answered items (Some number) reply = item_answered items number reply
 
--- one item more
+-- the places of items with one more, which begins in the row at this place
 abbrev pub places_begun : List ItemPlace → ℕ → List ItemPlace
 places_begun places at = places ++ record { begin = at; answer = None } ∷ []
 
@@ -195,7 +198,7 @@ places_by (role.Pending asked) places waiting at = places
 places_by role.KeepAlive places waiting at = places_begun places at
 places_by role.Stray places waiting at = places_begun places at
 
--- and which of them waits then
+-- the item that waits after a message of this role
 abbrev pub waiting_by : MessageRole → List ItemPlace → Option ℕ → Option ℕ
 waiting_by role.Request places waiting = Some (length places)
 waiting_by (role.Positive asked) places waiting = None
@@ -204,7 +207,7 @@ waiting_by (role.Pending asked) places waiting = waiting
 waiting_by role.KeepAlive places waiting = waiting
 waiting_by role.Stray places waiting = waiting
 
--- with this row
+-- the places of items with this row, which stands at this place
 abbrev pub places_next : RowValue → List ItemPlace → Option ℕ → ℕ → List ItemPlace
 places_next (message is d place bytes) places waiting at = places_by is places waiting at
 places_next (no_answer number silent) places waiting at = places
@@ -212,6 +215,7 @@ places_next (dropped place d linked why) places waiting at = places
 places_next (ended place end) places waiting at = places
 places_next (unfinished d line len) places waiting at = places
 
+-- the item that waits after this row
 abbrev pub waiting_next : RowValue → List ItemPlace → Option ℕ → Option ℕ
 waiting_next (message is d place bytes) places waiting = waiting_by is places waiting
 waiting_next (no_answer number silent) places waiting = waiting

@@ -1,15 +1,15 @@
 -- Devices of proof: what the code holds of a page, without where its bytes lie in memory.
-use Rattle.trace_report.specs.Front.{PageTitle}
+use Rattle.trace_report.specs.Front.{PageTitleValue}
 use Rattle.trace_report.specs.Rows.{RowValue, message, no_answer, dropped, ended, unfinished}
-use Rattle.trace_report.specs.declared.front.Title.{Title}
+use Rattle.trace_report.specs.declared.front.PageTitle.{PageTitle}
 use Rattle.trace_report.specs.declared.row.Row.{Row}
 use Rattle.trace_report.specs.declared.row.Row.TheVariants as row
 
--- what a page is made for
-abbrev pub title_of : Title → PageTitle
+-- what a page is made for, as it is
+abbrev pub title_of : PageTitle → PageTitleValue
 title_of title = record { style = title.style.now; name = title.name.now; tester = title.tester; unit = title.unit; most = title.most }
 
--- a row
+-- what a row of the chart tells, as it is
 abbrev pub row_of : Row → RowValue
 row_of (row.Message is d place lent) = message is d place lent.now
 row_of (row.NoAnswer number silent) = no_answer number silent

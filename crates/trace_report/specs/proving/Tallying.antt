@@ -1,5 +1,5 @@
 -- Devices of proof: what the verdict of a report is made of, with one more row of a sort.
-use Rattle.std.specs.Prelude.{ℕ, [], ◌∷◌, ◌++◌, take}
+use Rattle.std.specs.Prelude.{[], ◌∷◌, ◌++◌, take}
 use Rattle.arrayvec.specs.ArrayVec.{ArrayVec}
 use Rattle.uds_exchange.specs.Judging.{one_more}
 use Rattle.trace_report.specs.Sorts.{most_links}
@@ -7,8 +7,9 @@ use Rattle.trace_report.specs.declared.counts.SortCounts.{SortCounts}
 use Rattle.trace_report.specs.declared.sorts.Sort.{Sort}
 use Rattle.trace_report.specs.declared.sorts.Sort.TheVariants as sort
 use Rattle.trace_report.specs.declared.tally.FirstTargets.{FirstTargets}
+use Rattle.trace_report.specs.declared.targets.Target.{Target}
 
--- the counts
+-- how many rows there are of each sort, with one more of this sort
 abbrev pub counts_with : Sort → SortCounts → SortCounts
 counts_with sort.Requests counts = record counts { requests = one_more counts.requests }
 counts_with sort.Positives counts = record counts { positives = one_more counts.positives }
@@ -22,12 +23,12 @@ counts_with sort.Dropped counts = record counts { dropped = one_more counts.drop
 counts_with sort.Ended counts = record counts { ended = one_more counts.ended }
 counts_with sort.Unfinished counts = record counts { unfinished = one_more counts.unfinished }
 
--- the first targets of a sort, with one more
-abbrev pub kept : ArrayVec ℕ → ℕ → ArrayVec ℕ
+-- the places that are kept of a sort, with one more: the first ten
+abbrev pub kept : ArrayVec Target → Target → ArrayVec Target
 kept first target = record { items = take most_links (first.items ++ target ∷ []) }
 
--- those of each sort that needs a look
-abbrev pub first_with : Sort → ℕ → FirstTargets → FirstTargets
+-- the places that are kept of each sort that needs attention, with the row of this sort to which a link leads there
+abbrev pub first_with : Sort → Target → FirstTargets → FirstTargets
 first_with sort.Dropped target first = record first { dropped = kept first.dropped target }
 first_with sort.Ended target first = record first { ended = kept first.ended target }
 first_with sort.Unfinished target first = record first { unfinished = kept first.unfinished target }

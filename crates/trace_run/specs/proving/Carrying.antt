@@ -34,7 +34,7 @@ abbrev pub Says : {W : Type 0} → Ghosts W → Bool → List ℕ → W → List
 Says {W = W} target failed held old text failed_now held_now new =
     (start : W) (said : List ℕ) → Carries target start said failed held old → Carries target start (said ++ text) failed_now held_now new
 
--- whatever was said before, it is written now, where that is so
+-- whatever was said before is written now, or that failed, as is answered
 abbrev pub Settles : {W : Type 0} → Ghosts W → Bool → List ℕ → W → Bool → W → Type 0
 Settles {W = W} target failed held old result new =
     (start : W) (said : List ℕ) → Carries target start said failed held old → Carries target start said (not result) [] new
@@ -44,18 +44,18 @@ abbrev pub SaysNoMore : {W : Type 0} → Ghosts W → Bool → List ℕ → W �
 SaysNoMore {W = W} target failed held old failed_now held_now new =
     (start : W) (said : List ℕ) → Carries target start said failed held old → Carries target start said failed_now held_now new
 
--- the same of a page: this text was said to it
+-- whatever was said to a page before, this text was said to it after it
 abbrev pub SaysToPage : {W : Type 0} → Ghosts W → Page → W → List ℕ → Page → W → Type 0
 SaysToPage target page old text page_now new = Says target page.failed page.held old text page_now.failed page_now.held new
 
--- what was said to it is written, where that is so
+-- whatever was said to a page before is written now, or that failed, as is answered
 abbrev pub SettlesPage : {W : Type 0} → Ghosts W → Page → W → Bool → W → Type 0
 SettlesPage target page old result new = Settles target page.failed page.held old result new
 
--- no more was said to it
+-- whatever was said to a page before, no more was said to it
 abbrev pub SaysNoMoreToPage : {W : Type 0} → Ghosts W → Page → W → Page → W → Type 0
 SaysNoMoreToPage target page old page_now new = SaysNoMore target page.failed page.held old page_now.failed page_now.held new
 
--- since this start, this was said to it
+-- since this start, this was said to a page, which may hold some of it
 abbrev pub CarriesPage : {W : Type 0} → Ghosts W → W → List ℕ → Page → W → Type 0
 CarriesPage target start said page now = Carries target start said page.failed page.held now

@@ -3,11 +3,11 @@ use Rattle.std.proofs.Common.{ℕ, Bool, List, [], ◌++◌, sym, subst, append-
 use Rattle.trace_io.specs.declared.device.Target.{Ghosts}
 use Rattle.trace_run.specs.proving.Carrying.{Carries, Says}
 
--- nothing
+-- nothing is said where the page and its target stay as they are
 pub says_nothing : {W : Type 0} (target : Ghosts W) (failed : Bool) (held : List ℕ) (now : W) → Says target failed held now [] failed held now
 says_nothing target failed held now start said carries = subst (λ text. Carries target start text failed held now) (sym (append-nil said)) carries
 
--- one text, and then another
+-- one text is said, and then another: that is the two as one text
 pub says_onward : {W : Type 0} (target : Ghosts W) (failed failed_then failed_now : Bool) (held held_then held_now : List ℕ) (old mid new : W) (a b : List ℕ)
     → Says target failed held old a failed_then held_then mid → Says target failed_then held_then mid b failed_now held_now new
     → Says target failed held old (a ++ b) failed_now held_now new

@@ -15,17 +15,17 @@ use Rattle.uds_exchange.specs.declared.judge.Judge.{Judge}
 use Rattle.trace_log.specs.proving.Announcing.{AnnouncesWithin}
 use Rattle.trace_log.specs.proving.Receiving.{Receives, IsStart}
 use Rattle.trace_log.specs.Needing.{IsKeptForMessage}
-use Rattle.trace_run.specs.Told.{Script, told}
+use Rattle.trace_run.specs.Script.{Script, told}
 use Rattle.trace_run.specs.Seen.{IsEventOf}
 use Rattle.trace_run.specs.declared.telling.FrameEvent.{FrameEvent}
 use Rattle.trace_run.specs.declared.telling.Telling.{Telling}
 use Rattle.trace_log.specs.declared.fault.Fault.TheVariants as fault
 use Rattle.trace_run.specs.proving.Carrying.{Carries}
 
--- the length for which a run stops at a frame that did this
-abbrev pub stops_for : Bool → VerdictValue → Option ℕ
-stops_for true did = too_long_in did
-stops_for false did = None
+-- the announced length for which a run stops at a frame that did this, where it is strict
+abbrev pub oversize_for : Bool → VerdictValue → Option ℕ
+oversize_for true did = too_long_in did
+oversize_for false did = None
 
 -- why a run stopped at the frame e
 abbrev pub StopsFor : Bool → (List Entry → Entry → Type 0) → List Entry → Entry → Fault → Type 0
@@ -72,9 +72,9 @@ abbrev pub HasTold : {M W : Type 0} → (M → List Entry → M → Type 0) → 
 HasTold stands scripts target target_start machine_start T telling now =
     Tells (stands machine_start) target (scripts machine_start) target_start T telling.machine telling.judge telling.page.failed telling.page.held now
 
--- and all that was told is written; or writing failed
-abbrev pub HasWritten : {M W : Type 0} → (M → List Entry → M → Type 0) → (M → Script) → Ghosts W → W → M → List Entry → Telling M W → Bool → W → Type 0
-HasWritten stands scripts target target_start machine_start T telling failed now =
+-- the frames of the trace were told, and all that was told of them is written, or writing failed
+abbrev pub HasToldAndWritten : {M W : Type 0} → (M → List Entry → M → Type 0) → (M → Script) → Ghosts W → W → M → List Entry → Telling M W → Bool → W → Type 0
+HasToldAndWritten stands scripts target target_start machine_start T telling failed now =
     Tells (stands machine_start) target (scripts machine_start) target_start T telling.machine telling.judge failed [] now
 
 -- since the target was this at least what is told of this trace was written

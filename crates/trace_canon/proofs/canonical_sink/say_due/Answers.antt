@@ -19,13 +19,13 @@ returns-in-Ok-clause-says g c = λ M stands judged.
       subst (λ o. g.S.TextSink.says c.args.out.now (text_from c.args.config.now c.args.progress.now (all_frames MESSAGE_LIMIT due.0)) o) (sym out_is) all.said,
     )
 
-pub returns-in-Err-clause-held : goal.returns-in-Err-clause-held
-returns-in-Err-clause-held g c = λ M stands judged.
+pub returns-in-Err-clause-needs : goal.returns-in-Err-clause-needs
+returns-in-Err-clause-needs g c = λ M stands judged.
     stops_for_memory (SaysOne g.S.TextSink.says g.met.S.TextSink.nothing g.met.S.TextSink.onward) M (sent c.args.message) _ c.take.new.sink c.in-Err._fault (c.in-Err.ensures.stops M stands judged)
     (λ is. c.take.ensures.needs (c.in-Err.is ∙ ap Err is) M stands judged)
 
-pub returns-in-Err-clause-refused : goal.returns-in-Err-clause-refused
-returns-in-Err-clause-refused g c =
+pub returns-in-Err-clause-err : goal.returns-in-Err-clause-err
+returns-in-Err-clause-err g c =
     let S = g.S.TextSink in
     let same = stays_where_it_stops (SaysOne S.says g.met.S.TextSink.nothing g.met.S.TextSink.onward) _ c.take.new.sink c.in-Err._fault
     (λ is. (c.take.ensures.memory (c.in-Err.is ∙ ap Err is)).1) (λ is. (c.take.ensures.failed_only (c.in-Err.is ∙ ap Err is)).2)

@@ -5,7 +5,7 @@ use Rattle.can_log.specs.Canonical.{canonical_line, canonical_length}
 use Rattle.direction.specs.declared.Dir.{Dir}
 use Rattle.trace_log.specs.Settings.{id_of}
 use Rattle.trace_canon.specs.proving.Saying.{SaysFront}
-use Rattle.trace_canon.specs.proving.Writing.{behind, line_at}
+use Rattle.trace_canon.specs.proving.Writing.{after_line, line_at}
 use Rattle.trace_canon.proofs.SaidFrames.{line_said, line_stops}
 use Rattle.trace_canon.proofs.canonical_sink.say_frame.Goals as goal
 
@@ -34,6 +34,6 @@ returns-clause-says g c = λ later.
     let here : c.clock.result.now ≡ c.args.progress.now.lines = c.clock.ensures ∙ ap (λ p. p.lines) admitted.1 in
     let is : canonical_line c.clock.result.now c.id_of-id.result c.args.frame.now ≡ line = (λ i. canonical_line (here i) (c.id_of-id.ensures.value i) c.args.frame.now) in
     let said = subst (λ text. g.S.TextSink.says c.args.out.now text c.say_line.new.out) is c.say_line.ensures in
-    let passed : c.pass.new.self ≡ behind c.args.progress.now line = c.pass.ensures line (omega arith) ∙ ap (λ p. behind p line) admitted.1 in
+    let passed : c.after_line.new.self ≡ after_line c.args.progress.now line = c.after_line.ensures line (omega arith) ∙ ap (λ p. after_line p line) admitted.1 in
     subst (λ p. SaysFront g.S.TextSink.says settings c.args.progress.now c.args.out.now (frame ∷ later) p c.say_line.new.out later) (sym passed)
     (line_said g.S.TextSink.says g.met.S.TextSink.nothing g.met.S.TextSink.onward settings c.args.progress.now c.args.out.now c.say_line.new.out frame later line (λ i. line) room said)

@@ -6,7 +6,7 @@ use Rattle.direction.specs.declared.Dir.{Dir}
 use Rattle.isotp_segment.specs.CanonicalFrames.{IsFullNext}
 use Rattle.trace_log.specs.Settings.{id_of}
 use Rattle.trace_canon.specs.proving.Saying.{SaysFront}
-use Rattle.trace_canon.specs.proving.Writing.{behind, line_at}
+use Rattle.trace_canon.specs.proving.Writing.{after_line, line_at}
 use Rattle.trace_canon.proofs.SaidFrames.{none_said, more_said, line_said, line_stops}
 use Rattle.trace_canon.proofs.canonical_sink.say_stretch.Goals as goal
 
@@ -54,11 +54,11 @@ stretch-preserved g c =
     let room : length line ≤ c.stretch.progress.room = (let within = admitted.0 in omega arith) in
     let one = line_said g.S.TextSink.says g.met.S.TextSink.nothing g.met.S.TextSink.onward settings c.stretch.progress c.stretch.out c.put_three.new.self frame
     c.next_full.new.self line (λ i. line) room said in
-    let passed : c.pass.new.self ≡ behind c.stretch.progress line = c.pass.ensures line (omega arith) ∙ ap (λ p. behind p line) admitted.1 in
+    let passed : c.after_line.new.self ≡ after_line c.stretch.progress line = c.after_line.ensures line (omega arith) ∙ ap (λ p. after_line p line) admitted.1 in
     let so_far = c.stretch.invariant.fewer in
     let step = ap length c.in-Some.ensures.some in
     record {
-      says = more_said g.S.TextSink.says g.met.S.TextSink.nothing g.met.S.TextSink.onward settings c.args.progress.now c.stretch.progress c.stretch.progress c.pass.new.self
+      says = more_said g.S.TextSink.says g.met.S.TextSink.nothing g.met.S.TextSink.onward settings c.args.progress.now c.stretch.progress c.stretch.progress c.after_line.new.self
           c.args.out.now c.stretch.out c.put_three.new.self c.args.frames c.stretch.rest (frame ∷ c.next_full.new.self) c.next_full.new.self c.stretch.invariant.says
           c.in-Some.ensures.some refl
           (subst (λ p. SaysFront g.S.TextSink.says settings c.stretch.progress c.stretch.out (frame ∷ c.next_full.new.self) p c.put_three.new.self c.next_full.new.self) (sym passed) one);

@@ -2,7 +2,7 @@
 use Rattle.isotp_receive.specs.declared.TheConstants.{MESSAGE_LIMIT}
 use Rattle.trace_canon.specs.ExplainScript.{explain_script}
 use Rattle.trace_run.proofs.Promises.{certifies}
-use Rattle.trace_run.specs.Told.{tells_no_refusal}
+use Rattle.trace_run.specs.Script.{tells_no_refusal}
 use Rattle.trace_canon.proofs.explainer.explain.Goals as goal
 
 pub returns-clause-certificate : goal.returns-clause-certificate

@@ -7,7 +7,7 @@ use Rattle.trace_canon.proofs.finding.find.Goals as goal
 pub returns : goal.returns
 returns g c = record {
   ran = record {
-    answer = λ log agrees. (c.in_ok-found.found.pairs.items, c.in_ok-found.ensures.ran.answer log agrees, c.in_ok-print.ensures.written);
+    answer = λ log agrees. (c.in_ok-found.found.credit_lines.items, c.in_ok-found.ensures.ran.answer log agrees, c.in_ok-print.ensures.written);
     unwritten = search rules;
     near = search rules;
     memory = search rules;
@@ -31,7 +31,7 @@ returns-in_err-found g c = rw (handed_on c.from_residual.result _ c.from_residua
 pub returns-in_err-print : goal.returns-in_err-print
 returns-in_err-print g c = rw (handed_on c.from_residual-in_err-print.result _ c.from_residual-in_err-print.ensures.1, c.in_err-print.ensures.only) (record {
   ran = record {
-    answer = λ log agrees. (tt, (c.in_ok-found.found.pairs.items, c.in_ok-found.found.summary, c.in_ok-found.ensures.ran.answer log agrees, c.in_err-print.ensures.some, c.in_err-print.ensures.written));
+    answer = λ log agrees. (tt, (c.in_ok-found.found.credit_lines.items, c.in_ok-found.found.summary, c.in_ok-found.ensures.ran.answer log agrees, c.in_err-print.ensures.some, c.in_err-print.ensures.written));
     unwritten = λ other. absurd (other refl);
     near = search rules;
     memory = search rules;

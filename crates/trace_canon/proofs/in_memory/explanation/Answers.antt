@@ -3,7 +3,7 @@ use Rattle.std.proofs.Common.{ap, sym, ◌∙◌}
 use Rattle.isotp_receive.specs.declared.TheConstants.{MESSAGE_LIMIT}
 use Rattle.trace_canon.specs.ExplainScript.{explain_script}
 use Rattle.trace_canon.specs.InMemory.{NeedsMemoryForExplanation}
-use Rattle.trace_run.specs.Told.{tells_no_refusal}
+use Rattle.trace_run.specs.Script.{tells_no_refusal}
 use Rattle.trace_canon.proofs.InMemories.{agrees_in_memory, gathered, taken_is_held, told_in_memory}
 use Rattle.trace_canon.proofs.in_memory.explanation.Goals as goal
 

@@ -3,7 +3,7 @@ use Rattle.std.proofs.Common.{inl, ap, sym, ◌∙◌}
 use Rattle.isotp_receive.specs.declared.TheConstants.{MESSAGE_LIMIT}
 use Rattle.trace_canon.specs.InMemory.{NeedsMemoryForPlacing}
 use Rattle.trace_canon.specs.MessageLines.{placing_script}
-use Rattle.trace_run.specs.Told.{tells_no_refusal}
+use Rattle.trace_run.specs.Script.{tells_no_refusal}
 use Rattle.trace_canon.proofs.InMemories.{agrees_in_memory, gathered, placed_in_memory, taken_is_held, told_in_memory}
 use Rattle.trace_canon.proofs.in_memory.message_lines.Goals as goal
 

@@ -1,4 +1,4 @@
-use Rattle.std.proofs.Common.{◌-◌, ◌≤◌, take, drop}
+use Rattle.std.proofs.Common.{◌-◌, take, drop}
 use Rattle.text_parts.proofs.Promises.{IsLeft}
 use Rattle.trace_pair.specs.ColumnLines.{cells_behind}
 use Rattle.trace_pair.proofs.column_cells.say_cells_behind.Given as goal

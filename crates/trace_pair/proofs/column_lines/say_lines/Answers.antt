@@ -1,4 +1,4 @@
-use Rattle.std.proofs.Common.{◌≡◌, ◌+◌, ◌-◌, ℕ, arith, ap, refl}
+use Rattle.std.proofs.Common.{◌≡◌, ◌+◌, ◌-◌, ℕ, arith, ap}
 use Rattle.std.specs.List.{flat_map, range_with_len}
 use Rattle.text_parts.proofs.Promises.{none-said, said-whole, same-rest, say-more}
 use Rattle.trace_pair.specs.ColumnLines.{line_text}

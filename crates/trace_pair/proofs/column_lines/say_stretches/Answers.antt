@@ -1,6 +1,6 @@
-use Rattle.std.proofs.Common.{◌≡◌, ◌-◌, ◌∙◌, arith, ap, sym, refl}
+use Rattle.std.proofs.Common.{◌-◌, ◌∙◌, arith, sym, refl}
 use Rattle.text_parts.proofs.Promises.{none-said}
-use Rattle.byte_columns.specs.Lines.{folded_from, line_count}
+use Rattle.byte_columns.specs.Lines.{line_count}
 use Rattle.trace_pair.specs.ColumnLines.{stretch_text}
 use Rattle.trace_pair.proofs.Stretches.{turn-end, turn-folded, turn-shown}
 use Rattle.trace_pair.proofs.column_lines.say_stretches.Goals as goal

@@ -1,4 +1,4 @@
-use Rattle.std.proofs.Common.{◌≡◌, ℕ, ◌+◌, ◌-◌, arith, ap₂, refl}
+use Rattle.std.proofs.Common.{◌≡◌, ℕ, ◌+◌, ◌-◌, arith, ap₂}
 use Rattle.text_parts.proofs.Promises.{none-said}
 use Rattle.trace_pair.specs.ItemTables.{same_rows}
 use Rattle.trace_pair.proofs.Tables.{turn-same, turn-same-end}

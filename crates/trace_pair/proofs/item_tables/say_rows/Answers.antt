@@ -1,7 +1,6 @@
-use Rattle.std.proofs.Common.{◌+◌, ◌∙◌, arith, drop, get_or, refl}
-use Rattle.std.proofs.lemmas.List.{drop_all, drop_more, take_rest}
-use Rattle.text_parts.proofs.Promises.{none-said}
-use Rattle.trace_pair.proofs.Tables.{turn-row, turn-rows-end}
+use Rattle.std.proofs.Common.{◌+◌, ◌∙◌, drop, get_or}
+use Rattle.std.proofs.lemmas.List.{drop_more, take_rest}
+use Rattle.trace_pair.proofs.Tables.{turn-row}
 use Rattle.trace_pair.proofs.item_tables.say_rows.Goals as goal
 
 pub rows-preserved : goal.rows-preserved

@@ -1,5 +1,5 @@
 use Rattle.std.proofs.Common.{◌+◌, ◌-◌, ◌++◌, option_map, take, drop, arith, ap, sym, subst, ◌∙◌}
-use Rattle.trace_report.specs.Held.{pairs_in}
+use Rattle.trace_report.specs.Kept.{pairs_in}
 use Rattle.trace_report.specs.ItemRows.{pair_rows}
 use Rattle.trace_report.specs.proving.Lending.{pair_of}
 use Rattle.trace_report.specs.proving.Rowing.{IsKnown, row_if}

@@ -1,5 +1,5 @@
 use Rattle.std.proofs.Common.{◌+◌, ◌-◌, take, drop}
-use Rattle.trace_report.specs.Held.{pairs_in}
+use Rattle.trace_report.specs.Kept.{pairs_in}
 use Rattle.trace_report.specs.ItemRows.{pair_rows}
 use Rattle.trace_report.proofs.SaidParts.{SaidUpTo}
 use Rattle.trace_report.proofs.item_rows.say_pair_rows.Given as goal

@@ -1,7 +1,7 @@
 -- Each letter is that of its byte.
 use Rattle.std.proofs.Common.{ap}
 use Rattle.std.proofs.lemmas.Simd.{pick_l_whole}
-use Rattle.trace_report.specs.Words.{letters}
+use Rattle.trace_report.specs.Letters.{letters}
 use Rattle.trace_report.proofs.letters.eight_letters.Goals as goal
 
 pub returns : goal.returns

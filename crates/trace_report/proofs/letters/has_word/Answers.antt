@@ -1,7 +1,7 @@
 -- No four in a row go over a byte that is no mark.
 use Rattle.std.proofs.Common.{ap, sym, ◌∙◌}
 use Rattle.std.proofs.lemmas.List.{take_rest}
-use Rattle.trace_report.specs.Words.{has_word}
+use Rattle.trace_report.specs.Letters.{has_word}
 use Rattle.trace_report.proofs.WordPlaces.{behind_fourth, behind_third, none_of_few}
 use Rattle.trace_report.proofs.letters.has_word.Goals as goal
 

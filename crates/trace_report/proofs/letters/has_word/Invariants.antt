@@ -1,6 +1,6 @@
 -- A word stands in all bytes exactly where one stands in the rest.
 use Rattle.std.proofs.Common.{◌≡◌, length}
-use Rattle.trace_report.specs.Words.{has_word}
+use Rattle.trace_report.specs.Letters.{has_word}
 use Rattle.trace_report.proofs.letters.has_word.Given as goal
 
 abbrev pub invariant-places : goal.invariant-places

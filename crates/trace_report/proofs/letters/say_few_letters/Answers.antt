@@ -1,6 +1,6 @@
 -- Each byte adds its letter.
 use Rattle.std.proofs.Common.{refl, sym, subst}
-use Rattle.trace_report.specs.Words.{letter_text}
+use Rattle.trace_report.specs.Letters.{letter_text}
 use Rattle.trace_text.proofs.Promises.{one_more_text}
 use Rattle.trace_report.proofs.letters.say_few_letters.Goals as goal
 

@@ -1,5 +1,5 @@
 use Rattle.std.proofs.Common.{◌≡◌, ◌+◌, drop, arith, subst}
-use Rattle.trace_report.specs.Held.{pairs_in}
+use Rattle.trace_report.specs.Kept.{pairs_in}
 use Rattle.trace_report.specs.PairPage.{items_after}
 use Rattle.trace_report.proofs.pair_items.say_different_items.Goals as goal
 

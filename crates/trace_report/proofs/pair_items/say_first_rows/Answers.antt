@@ -1,5 +1,5 @@
 use Rattle.std.proofs.Common.{◌≡◌, false, ◌-◌, take, arith, subst}
-use Rattle.trace_report.specs.Held.{pairs_in}
+use Rattle.trace_report.specs.Kept.{pairs_in}
 use Rattle.trace_report.specs.ItemRows.{pair_rows}
 use Rattle.trace_report.proofs.pair_items.say_first_rows.Goals as goal
 

@@ -1,5 +1,5 @@
 use Rattle.std.proofs.Common.{◌+◌, arith, subst}
-use Rattle.trace_report.specs.Held.{pairs_in}
+use Rattle.trace_report.specs.Kept.{pairs_in}
 use Rattle.trace_report.proofs.PairTexts.{some-after}
 use Rattle.trace_report.proofs.pair_items.say_items_after.Goals as goal
 

@@ -1,6 +1,6 @@
 use Rattle.std.proofs.Common.{true, ◌+◌, ◌-◌, take, drop, ap, subst, ◌∙◌}
 use Rattle.std.proofs.lemmas.List.{take_rest}
-use Rattle.trace_report.specs.Held.{pairs_in}
+use Rattle.trace_report.specs.Kept.{pairs_in}
 use Rattle.trace_report.specs.ItemRows.{pair_rows}
 use Rattle.trace_report.proofs.pair_items.say_later_rows.Goals as goal
 

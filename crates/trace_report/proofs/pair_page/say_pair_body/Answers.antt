@@ -1,5 +1,5 @@
 use Rattle.std.proofs.Common.{Bool, ℕ, length, option_map, subst}
-use Rattle.trace_report.specs.Held.{pairs_in}
+use Rattle.trace_report.specs.Kept.{pairs_in}
 use Rattle.trace_report.specs.PairPage.{pair_body, pair_title_of, verdict_by}
 use Rattle.trace_report.specs.proving.Lending.{contrast_found}
 use Rattle.trace_report.proofs.pair_page.say_pair_body.Goals as goal

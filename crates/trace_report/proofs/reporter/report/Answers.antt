@@ -1,8 +1,9 @@
 -- The run is by the script of the page, whose title is made of what the call is handed.
 use Rattle.std.proofs.Common.{◌≡◌, subst}
 use Rattle.isotp_receive.specs.declared.TheConstants.{MESSAGE_LIMIT}
-use Rattle.trace_run.specs.Told.{RanLenient, answers_counts, command, glimpse_of, needs_none}
-use Rattle.trace_report.specs.Front.{PageTitle, page_title}
+use Rattle.trace_run.specs.Script.{answers_counts, command, glimpse_of, needs_none}
+use Rattle.trace_run.specs.Told.{RanLenient}
+use Rattle.trace_report.specs.Front.{PageTitleValue, page_title}
 use Rattle.trace_report.specs.Page.{refused_text, report_script}
 use Rattle.trace_report.proofs.reporter.report.Goals as goal
 
@@ -13,6 +14,6 @@ returns g c =
     let title : record { style = style; name = name; tester = c.tester.result; unit = c.unit.result; most = c.max_bytes.result } ≡ page_title style name c.args.config.now =
     (λ i. record { style = style; name = name; tester = c.tester.ensures i; unit = c.unit.ensures i; most = c.max_bytes.ensures.value i }) in
     record {
-      ran = subst (λ (title : PageTitle). RanLenient g.R.Source g.W.Target (command (report_script title MESSAGE_LIMIT) (refused_text title MESSAGE_LIMIT (glimpse_of g.R.Source c.run_lenient.new.reader)) answers_counts needs_none)
-          c.args.config.now c.args.reader.now c.args.writer.now c.run_lenient.result c.run_lenient.new.reader c.run_lenient.new.writer) title c.run_lenient.ensures.ran;
+      ran = subst (λ (title : PageTitleValue). RanLenient g.R.Source g.W.Target (command (report_script title MESSAGE_LIMIT) (refused_text title MESSAGE_LIMIT (glimpse_of g.R.Source c.run_lenient.new.source)) answers_counts needs_none)
+          c.args.config.now c.args.reader.now c.args.writer.now c.run_lenient.result c.run_lenient.new.source c.run_lenient.new.target) title c.run_lenient.ensures.ran;
     }

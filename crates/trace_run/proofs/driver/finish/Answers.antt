@@ -1,12 +1,12 @@
 -- What was said at the end was settled, or writing failed: by what is carried to the page and what the machine answers.
 use Rattle.std.proofs.Common.{not, [], subst, Ok, Err}
 use Rattle.isotp_receive.specs.declared.TheConstants.{MESSAGE_LIMIT}
-use Rattle.trace_run.specs.declared.machine.Stop.TheVariants.{OutputLimit}
+use Rattle.trace_run.specs.declared.machine.NoAnswer.TheVariants.{OutputLimit}
 use Rattle.trace_run.specs.proving.Carrying.{Carries}
-use Rattle.trace_run.specs.Told.{whole_of_lines}
+use Rattle.trace_run.specs.Script.{whole_of_lines}
 use Rattle.trace_log.specs.Trace.{trace}
 use Rattle.trace_log.proofs.Promises.{handed_on}
-use Rattle.trace_run.proofs.EndedRuns.{carried_at_the_end, only_stop}
+use Rattle.trace_run.proofs.EndedRuns.{carried_at_the_end, only_output_limit}
 use Rattle.trace_run.proofs.ToldFronts.{only_more}
 use Rattle.trace_run.proofs.driver.finish.Goals as goal
 
@@ -40,7 +40,7 @@ returns-in_err-answer-clause-ends g c = λ start first settings log meanings rec
     let counted = c.summary-summary.ensures settings log meanings received feed tells.judged in
     rw (handed_on c.from_residual.result _ c.from_residual.ensures.1) (
       subst (λ s. M.answers first (trace settings meanings) s (Err OutputLimit)) counted
-          (subst (λ stop. M.answers first (trace settings meanings) c.summary-summary.result (Err stop)) (only_stop c.in_err-answer.field-0.0)
+          (subst (λ reason. M.answers first (trace settings meanings) c.summary-summary.result (Err reason)) (only_output_limit c.in_err-answer.field-0.0)
           (c.in_err-answer.ensures.answered first (trace settings meanings) tells.machine_stands received.pair_is)),
       subst (λ b. Carries W start (whole_of_lines script MESSAGE_LIMIT settings log meanings) (not b) [] c.settle.new.target) c.if-not-settle.false
           (carried_at_the_end (M.stands first) W script start settings log meanings _ _ _ _ _ _ _ _ _ c.settle.result c.summary-summary.result tells counted

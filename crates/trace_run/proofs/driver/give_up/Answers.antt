@@ -3,13 +3,13 @@ use Rattle.std.proofs.Common.{inl, inr, sym, subst}
 use Rattle.trace_log.specs.declared.fault.Fault.{Fault}
 use Rattle.trace_run.specs.proving.Ending.{GivesUp, RefusesTelling}
 use Rattle.trace_run.specs.Seen.{glimpse_value}
-use Rattle.trace_run.specs.Told.{Refusal}
+use Rattle.trace_run.specs.Script.{RefusalText}
 use Rattle.trace_run.proofs.driver.give_up.Goals as goal
 
 pub returns-in-BadLine : goal.returns-in-BadLine
 returns-in-BadLine g c =
     let M = g.M.Machine in
-    let refusals : g.row.M.Denot → Refusal = λ start. M.refusal start (glimpse_value c.args.source) in
+    let refusals : g.row.M.Denot → RefusalText = λ start. M.refusal start (glimpse_value c.args.glimpse) in
     let gives_up = λ (why : Fault). GivesUp M.stands refusals g.W.Target why c.args.receiver c.args.target.now c.refuse.result c.refuse.new.target in
     let refuses = λ (why : Fault). RefusesTelling M.stands refusals g.W.Target why c.args.receiver c.args.target.now c.refuse.result c.refuse.new.target in
     elim c.in-BadLine.is [

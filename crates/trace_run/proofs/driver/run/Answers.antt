@@ -10,11 +10,13 @@ use Rattle.isotp_receive.specs.declared.TheConstants.{MESSAGE_LIMIT}
 use Rattle.trace_run.specs.declared.telling.Telling.{Telling}
 use Rattle.trace_run.specs.declared.receiver.Receiver.{Receiver}
 use Rattle.trace_run.specs.proving.Ending.{EndsTelling, GivesUp}
-use Rattle.trace_run.specs.Told.{GlimpseValue, Script, StopsNothingWithin, AnswersTold, TellsEagerly, glimpse_of}
+use Rattle.trace_run.specs.proving.Telling.{HasToldNothing}
+use Rattle.trace_run.specs.Script.{GlimpseValue, Script, glimpse_of}
+use Rattle.trace_run.specs.Told.{StopsNothingWithin, AnswersTold, TellsEagerly}
 use Rattle.trace_log.specs.Answers.{ReadsWhile}
 use Rattle.trace_log.specs.Feeding.{TakesFront}
 use Rattle.trace_run.proofs.Runs.{TookLines, IsRunStart, starts_run, has_received}
-use Rattle.trace_run.proofs.ToldRuns.{needed, eagerly, more_given_up, wrote_no_line, ToldEvents, HasToldNothing, told_none, takes_nothing, gives, told_of_fault, known}
+use Rattle.trace_run.proofs.ToldRuns.{needed, eagerly, more_given_up, wrote_no_line, ToldEvents, told_none, takes_nothing, gives, told_of_fault, known}
 use Rattle.trace_run.proofs.EndedRuns.{never_memory, fails_so, left_alone_so, reads_so, known_then, told_at_the_end}
 use Rattle.trace_run.proofs.StoppedLines.{reads_near}
 use Rattle.trace_log.proofs.Promises.{some_log, when_ok}
@@ -24,11 +26,11 @@ use Rattle.trace_run.proofs.driver.run.Goals as goal
 
 -- the run before its first line
 abbrev start : (g : Over) → After-start-receiver g → Receiver g.row.M.Denot g.row.W.Denot × g.row.W.Denot
-start g c = (c.start-receiver.result, c.args.writer.now)
+start g c = (c.start-receiver.result, c.args.target.now)
 
-begun : (g : Over) (c : After-start-receiver g) → IsRunStart (HasToldNothing g.M.Machine.stands g.M.Machine.script g.M.Machine.needs g.W.Target) c.args.config.now (start g c)
+begun : (g : Over) (c : After-start-receiver g) → IsRunStart (HasToldNothing g.M.Machine.stands) c.args.config.now (start g c)
 begun g c =
-    starts_run (HasToldNothing g.M.Machine.stands g.M.Machine.script g.M.Machine.needs g.W.Target) c.args.config.now c.start.result c.start-receiver.result c.args.writer.now c.start-receiver.ensures
+    starts_run (HasToldNothing g.M.Machine.stands) c.args.config.now c.start.result c.start-receiver.result c.args.target.now c.start-receiver.ensures
     (told_none g.M.Machine.stands g.M.Machine.script g.M.Machine.needs g.W.Target c.args.machine c.start.result c.start.ensures.machine c.requires.machine c.start.ensures.judged c.start.ensures.well
     c.start.ensures.blank)
 
@@ -45,14 +47,14 @@ near g c log given failures failures_now reads =
     let M = g.M.Machine in
     subst (λ (script : Script). ReadsWhile (StopsNothingWithin script.strict MESSAGE_LIMIT c.args.config.now log) given failures failures_now) (same_script g c)
     (reads_near c.args.config.now log (M.script c.start-receiver.result.telling.machine).strict
-    (λ meanings now taken. (gives M.stands M.script M.needs g.W.Target c.args.config.now (start g c) now (begun g c) c.requires.writer meanings taken).within) reads)
+    (λ meanings now taken. (gives M.stands M.script M.needs g.W.Target c.args.config.now (start g c) now (begun g c) c.requires.target meanings taken).within) reads)
 
 -- how the run ended on a fault, by what was seen of its source
 gives_up : (g : Over) (c : After-give_up g)
     → GivesUp g.M.Machine.stands (λ m. g.M.Machine.refusal m (glimpse_of g.R.Source c.feed_lines.new.reader)) g.W.Target c.in-Err.fault c.feed_lines.new.taker c.feed_lines.new.device c.give_up.result c.give_up.new.target
 gives_up g c =
     let M = g.M.Machine in
-    subst (λ (source : GlimpseValue). GivesUp M.stands (λ m. M.refusal m source) g.W.Target c.in-Err.fault c.feed_lines.new.taker c.feed_lines.new.device c.give_up.result c.give_up.new.target)
+    subst (λ (glimpse : GlimpseValue). GivesUp M.stands (λ m. M.refusal m glimpse) g.W.Target c.in-Err.fault c.feed_lines.new.taker c.feed_lines.new.device c.give_up.result c.give_up.new.target)
     c.of.ensures c.give_up.ensures
 
 pub returns-in-Err : goal.returns-in-Err
@@ -62,32 +64,32 @@ returns-in-Err g c =
     let settings = c.args.config.now in
     let at = (goal.at.returns-in-Err g c).After-start-receiver in
     let now : Receiver g.row.M.Denot g.row.W.Denot × g.row.W.Denot = (c.feed_lines.new.taker, c.feed_lines.new.device) in
-    let source = glimpse_of g.R.Source c.feed_lines.new.reader in
-    let refusals = λ (m : g.row.M.Denot). M.refusal m source in
+    let glimpse = glimpse_of g.R.Source c.feed_lines.new.reader in
+    let refusals = λ (m : g.row.M.Denot). M.refusal m glimpse in
     let given_up = gives_up g c in
     let none = takes_nothing M.stands M.script M.needs W (start g at) in
     let known_of =
-    known M.stands M.script M.needs W settings (start g at) now (begun g at) c.requires.writer refusals c.give_up.new.target Bool c.in-Err.fault c.give_up.result
+    known M.stands M.script M.needs W settings (start g at) now (begun g at) c.requires.target refusals c.give_up.new.target Bool c.in-Err.fault c.give_up.result
     (c.in-Err.ensures.takes (start g at) none) given_up in
     record {
       ran = record {
         answer = λ log agrees.
-            subst (λ m. AnswersTold (M.script m) (M.refusal m source) (M.answers m) MESSAGE_LIMIT settings log (length (g.R.Source.given c.feed_lines.new.reader) - length (g.R.Source.given c.args.reader.now)) (Err c.give_up.result)
-            (W.taken c.args.writer.now) (W.taken c.give_up.new.target)) (same_machine g at)
-            (told_of_fault M.stands M.script M.needs W settings (start g at) now (begun g at) c.requires.writer refusals c.give_up.new.target (M.answers c.start-receiver.result.telling.machine) log
-            (length (g.R.Source.given c.feed_lines.new.reader) - length (g.R.Source.given c.args.reader.now)) c.in-Err.fault c.give_up.result c.max_bytes.result c.max_bytes.ensures.value
+            subst (λ m. AnswersTold (M.script m) (M.refusal m glimpse) (M.answers m) MESSAGE_LIMIT settings log (length (g.R.Source.given c.feed_lines.new.reader) - length (g.R.Source.given c.args.source.now)) (Err c.give_up.result)
+            (W.taken c.args.target.now) (W.taken c.give_up.new.target)) (same_machine g at)
+            (told_of_fault M.stands M.script M.needs W settings (start g at) now (begun g at) c.requires.target refusals c.give_up.new.target (M.answers c.start-receiver.result.telling.machine) log
+            (length (g.R.Source.given c.feed_lines.new.reader) - length (g.R.Source.given c.args.source.now)) c.in-Err.fault c.give_up.result c.max_bytes.result c.max_bytes.ensures.value
             (c.in-Err.ensures.lines log agrees (start g at) none) given_up);
         eager = λ log agrees.
-            subst (λ (script : Script). TellsEagerly script MESSAGE_LIMIT settings log (length (g.R.Source.given c.feed_lines.new.reader) - length (g.R.Source.given c.args.reader.now))
-            (W.taken c.args.writer.now) (W.taken c.give_up.new.target)) (same_script g at)
-            (eagerly M.stands M.script M.needs W settings (start g at) now (begun g at) c.requires.writer log (length (g.R.Source.given c.feed_lines.new.reader) - length (g.R.Source.given c.args.reader.now))
+            subst (λ (script : Script). TellsEagerly script MESSAGE_LIMIT settings log (length (g.R.Source.given c.feed_lines.new.reader) - length (g.R.Source.given c.args.source.now))
+            (W.taken c.args.target.now) (W.taken c.give_up.new.target)) (same_script g at)
+            (eagerly M.stands M.script M.needs W settings (start g at) now (begun g at) c.requires.target log (length (g.R.Source.given c.feed_lines.new.reader) - length (g.R.Source.given c.args.source.now))
             (c.in-Err.ensures.eager log agrees (start g at) none (wrote_no_line M.stands M.script M.needs W (start g at))) c.give_up.new.target
-            (more_given_up M.stands M.script M.needs W settings (start g at) now (begun g at) c.requires.writer refusals c.give_up.new.target Bool c.in-Err.fault c.give_up.result
+            (more_given_up M.stands M.script M.needs W settings (start g at) now (begun g at) c.requires.target refusals c.give_up.new.target Bool c.in-Err.fault c.give_up.result
             (c.in-Err.ensures.takes (start g at) none) given_up));
         memory = λ log agrees refused.
             subst (λ m. HasFrame (λ T e. IsKeptForMessage MESSAGE_LIMIT T e ⊎ M.needs m T e) settings log) (same_machine g at)
-            (needed M.stands M.script M.needs W settings (start g at) now (begun g at) c.requires.writer refusals c.give_up.new.target log
-            (length (g.R.Source.given c.feed_lines.new.reader) - length (g.R.Source.given c.args.reader.now)) c.in-Err.fault c.give_up.result c.max_bytes.result c.max_bytes.ensures.value
+            (needed M.stands M.script M.needs W settings (start g at) now (begun g at) c.requires.target refusals c.give_up.new.target log
+            (length (g.R.Source.given c.feed_lines.new.reader) - length (g.R.Source.given c.args.source.now)) c.in-Err.fault c.give_up.result c.max_bytes.result c.max_bytes.ensures.value
             (c.in-Err.ensures.lines log agrees (start g at) none) given_up (cc refused));
         near = λ log agrees. near g at log _ _ _ (c.in-Err.ensures.near log agrees (start g at) none);
         configured = c.max_bytes.ensures.settings;
@@ -104,37 +106,37 @@ returns-in-Err g c =
           took = known_of.2.took;
           no_empty_write = known_of.2.no_empty_write;
           flushes = known_of.2.flushes;
-          left_alone = left_alone_so W c.args.writer.now c.give_up.new.target (Err c.give_up.result) known_of.0 known_of.1 known_of.2
-              (fails_so W c.args.writer.now c.give_up.new.target c.give_up.result known_of.0 known_of.1 known_of.2 known_of.3);
-          failed = fails_so W c.args.writer.now c.give_up.new.target c.give_up.result known_of.0 known_of.1 known_of.2 known_of.3;
+          left_alone = left_alone_so W c.args.target.now c.give_up.new.target (Err c.give_up.result) known_of.0 known_of.1 known_of.2
+              (fails_so W c.args.target.now c.give_up.new.target c.give_up.result known_of.0 known_of.1 known_of.2 known_of.3);
+          failed = fails_so W c.args.target.now c.give_up.new.target c.give_up.result known_of.0 known_of.1 known_of.2 known_of.3;
         };
       };
     }
 
 -- how the run ends, after lines that mean this
 ends : (g : Over) (c : After-finish g) (log : List ℕ) (meanings : List (Option Stamped)) → c.in-Ok.ends_in_line_feed ≡ ends_in_line_feed log
-    → TookLines (ToldEvents g.M.Machine.stands g.M.Machine.script g.M.Machine.needs g.W.Target) (c.start-receiver.result, c.args.writer.now) meanings (c.feed_lines.new.taker, c.feed_lines.new.device)
-    → EndsTelling g.W.Target (g.M.Machine.script c.args.machine) (g.M.Machine.answers c.args.machine) c.args.writer.now c.args.config.now log meanings c.finish.result c.finish.new.target
+    → TookLines (ToldEvents g.M.Machine.stands g.M.Machine.script g.M.Machine.needs g.W.Target) (c.start-receiver.result, c.args.target.now) meanings (c.feed_lines.new.taker, c.feed_lines.new.device)
+    → EndsTelling g.W.Target (g.M.Machine.script c.args.machine) (g.M.Machine.answers c.args.machine) c.args.target.now c.args.config.now log meanings c.finish.result c.finish.new.target
 ends g c log meanings feed lines =
     let M = g.M.Machine in
     let W = g.W.Target in
     let settings = c.args.config.now in
     let at = (goal.at.returns-in-Ok g c).After-start-receiver in
     let now : Receiver g.row.M.Denot g.row.W.Denot × g.row.W.Denot = (c.feed_lines.new.taker, c.feed_lines.new.device) in
-    subst (λ m. EndsTelling W (M.script m) (M.answers m) c.args.writer.now settings log meanings c.finish.result c.finish.new.target) (same_machine g at)
-    (c.finish.ensures.ends c.args.writer.now c.start-receiver.result.telling.machine settings log meanings
+    subst (λ m. EndsTelling W (M.script m) (M.answers m) c.args.target.now settings log meanings c.finish.result c.finish.new.target) (same_machine g at)
+    (c.finish.ensures.ends c.args.target.now c.start-receiver.result.telling.machine settings log meanings
     (has_received (ToldEvents M.stands M.script M.needs W) settings (start g at) now (begun g at) meanings lines) feed
-    (gives M.stands M.script M.needs W settings (start g at) now (begun g at) c.requires.writer meanings lines))
+    (gives M.stands M.script M.needs W settings (start g at) now (begun g at) c.requires.target meanings lines))
 
 within : (g : Over) (c : After-finish g) (meanings : List (Option Stamped))
-    → TookLines (ToldEvents g.M.Machine.stands g.M.Machine.script g.M.Machine.needs g.W.Target) (c.start-receiver.result, c.args.writer.now) meanings (c.feed_lines.new.taker, c.feed_lines.new.device)
+    → TookLines (ToldEvents g.M.Machine.stands g.M.Machine.script g.M.Machine.needs g.W.Target) (c.start-receiver.result, c.args.target.now) meanings (c.feed_lines.new.taker, c.feed_lines.new.device)
     → (g.M.Machine.script c.args.machine).strict ≡ true → AllByRecursion AnnouncesWithin (trace c.args.config.now meanings)
 within g c meanings lines =
     let M = g.M.Machine in
     let at = (goal.at.returns-in-Ok g c).After-start-receiver in
     let now : Receiver g.row.M.Denot g.row.W.Denot × g.row.W.Denot = (c.feed_lines.new.taker, c.feed_lines.new.device) in
     subst (λ (script : Script). script.strict ≡ true → AllByRecursion AnnouncesWithin (trace c.args.config.now meanings)) (same_script g at)
-    (gives M.stands M.script M.needs g.W.Target c.args.config.now (start g at) now (begun g at) c.requires.writer meanings lines).within
+    (gives M.stands M.script M.needs g.W.Target c.args.config.now (start g at) now (begun g at) c.requires.target meanings lines).within
 
 pub returns-in-Ok : goal.returns-in-Ok
 returns-in-Ok g c =
@@ -148,25 +150,25 @@ returns-in-Ok g c =
     let some = some_log c.in-Ok.ends_in_line_feed in
     let end = ends g c some.0 takes.0 some.1 takes.2 in
     let script = M.script c.args.machine in
-    let known_of = known_then W script (M.answers c.args.machine) c.args.writer.now c.finish.new.target settings some.0 takes.0 c.finish.result end in
+    let known_of = known_then W script (M.answers c.args.machine) c.args.target.now c.finish.new.target settings some.0 takes.0 c.finish.result end in
     record {
       ran = record {
         answer = λ log agrees.
             let read = c.in-Ok.ensures.lines log agrees (start g at) none in
-            told_at_the_end W script (M.answers c.args.machine) c.args.writer.now c.finish.new.target settings refusal log (length (g.R.Source.given c.feed_lines.new.reader) - length (g.R.Source.given c.args.reader.now)) read.0 c.finish.result
+            told_at_the_end W script (M.answers c.args.machine) c.args.target.now c.finish.new.target settings refusal log (length (g.R.Source.given c.feed_lines.new.reader) - length (g.R.Source.given c.args.source.now)) read.0 c.finish.result
             (omega (arith, read.1, c.max_bytes.ensures.value)) read.2 read.3 (within g c read.0 read.5)
             (ends g c log read.0 read.6 read.5);
         eager = λ log agrees.
             let lines = c.in-Ok.ensures.lines log agrees (start g at) none in
             let now : Receiver g.row.M.Denot g.row.W.Denot × g.row.W.Denot = (c.feed_lines.new.taker, c.feed_lines.new.device) in
-            subst (λ (script : Script). TellsEagerly script MESSAGE_LIMIT settings log (length (g.R.Source.given c.feed_lines.new.reader) - length (g.R.Source.given c.args.reader.now))
-            (W.taken c.args.writer.now) (W.taken c.finish.new.target)) (same_script g at)
-            (eagerly M.stands M.script M.needs W settings (start g at) now (begun g at) c.requires.writer log (length (g.R.Source.given c.feed_lines.new.reader) - length (g.R.Source.given c.args.reader.now))
+            subst (λ (script : Script). TellsEagerly script MESSAGE_LIMIT settings log (length (g.R.Source.given c.feed_lines.new.reader) - length (g.R.Source.given c.args.source.now))
+            (W.taken c.args.target.now) (W.taken c.finish.new.target)) (same_script g at)
+            (eagerly M.stands M.script M.needs W settings (start g at) now (begun g at) c.requires.target log (length (g.R.Source.given c.feed_lines.new.reader) - length (g.R.Source.given c.args.source.now))
             (c.in-Ok.ensures.eager log agrees (start g at) none (wrote_no_line M.stands M.script M.needs W (start g at))) c.finish.new.target
             (λ mid said carried. c.finish.ensures.more mid said c.start-receiver.result.telling.machine settings lines.0
             (has_received (ToldEvents M.stands M.script M.needs W) settings (start g at) now (begun g at) lines.0 lines.5)
-            (gives M.stands M.script M.needs W settings (start g at) now (begun g at) c.requires.writer lines.0 lines.5).machine_stands carried));
-        memory = λ log agrees refused. absurd (never_memory W script (M.answers c.args.machine) c.args.writer.now c.finish.new.target settings some.0 takes.0 c.finish.result end refused);
+            (gives M.stands M.script M.needs W settings (start g at) now (begun g at) c.requires.target lines.0 lines.5).machine_stands carried));
+        memory = λ log agrees refused. absurd (never_memory W script (M.answers c.args.machine) c.args.target.now c.finish.new.target settings some.0 takes.0 c.finish.result end refused);
         near = λ log agrees. near g at log _ _ _ (c.in-Ok.ensures.near log agrees (start g at) none);
         configured = c.max_bytes.ensures.settings;
         read = record {
@@ -182,7 +184,7 @@ returns-in-Ok g c =
           took = known_of.2.took;
           no_empty_write = known_of.2.no_empty_write;
           flushes = known_of.2.flushes;
-          left_alone = left_alone_so W c.args.writer.now c.finish.new.target c.finish.result known_of.0 known_of.1 known_of.2 known_of.3;
+          left_alone = left_alone_so W c.args.target.now c.finish.new.target c.finish.result known_of.0 known_of.1 known_of.2 known_of.3;
           failed = known_of.3;
         };
       };

@@ -1,7 +1,7 @@
 -- The parts of a run of which no announced length is one.
 use Rattle.trace_run.proofs.LenientRuns.{near_when_lenient, no_oversize, no_output_limit, needs_when_none}
 use Rattle.trace_log.proofs.Promises.{given_agrees}
-use Rattle.trace_run.specs.Told.{glimpse_of}
+use Rattle.trace_run.specs.Script.{glimpse_of}
 use Rattle.trace_run.proofs.driver.run_lenient.Goals as goal
 
 pub returns : goal.returns
@@ -9,7 +9,7 @@ returns g c =
     let all = c.run.ensures.ran in
     let machine = c.args.machine in
     let script = g.M.Machine.script machine in
-    let refusal = g.M.Machine.refusal machine (glimpse_of g.R.Source c.run.new.reader) in
+    let refusal = g.M.Machine.refusal machine (glimpse_of g.R.Source c.run.new.source) in
     let answers = g.M.Machine.answers machine in
     let is_lenient = c.requires.lenient in
     let told = all.answer all.read.gave.bytes (given_agrees all.read.gave) in

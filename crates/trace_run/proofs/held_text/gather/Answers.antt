@@ -17,8 +17,8 @@ returns-then-text-gt-PAGE_LENGTH-clause-failures g c =
 pub returns-then-text-gt-PAGE_LENGTH-clause-taken : goal.returns-then-text-gt-PAGE_LENGTH-clause-taken
 returns-then-text-gt-PAGE_LENGTH-clause-taken g c =
     let W = g.W.Target in
-    gathered_at_once c.write_all-then-text-gt-PAGE_LENGTH.result (W.taken c.args.writer.now) c.args.held.now (W.taken c.write_all.new.target) c.args.text.now _ _
-    (c.in_ok-write_all.ensures.taken ∙ ap (λ x. W.taken c.args.writer.now ++ x) c.as_slice.ensures.value) c.clear.ensures c.write_all-then-text-gt-PAGE_LENGTH.ensures.taken
+    gathered_at_once c.write_all-then-text-gt-PAGE_LENGTH.result (W.taken c.args.target.now) c.args.held.now (W.taken c.write_all.new.target) c.args.text.now _ _
+    (c.in_ok-write_all.ensures.taken ∙ ap (λ x. W.taken c.args.target.now ++ x) c.as_slice.ensures.value) c.clear.ensures c.write_all-then-text-gt-PAGE_LENGTH.ensures.taken
 
 pub returns-in_err-write_all-clause-took : goal.returns-in_err-write_all-clause-took
 returns-in_err-write_all-clause-took g c = c.in_err-write_all.ensures.took
@@ -28,14 +28,14 @@ returns-then-text-gt-PAGE_LENGTH-clause-took g c = took_more c.in_ok-write_all.e
 
 pub returns-in_err-write_all-clause-taken : goal.returns-in_err-write_all-clause-taken
 returns-in_err-write_all-clause-taken g c =
-    let old = g.W.Target.taken c.args.writer.now in
+    let old = g.W.Target.taken c.args.target.now in
     let new = g.W.Target.taken c.write_all.new.target in
     rw (handed_on c.from_residual.result _ c.from_residual.ensures.1)
     (front_longer old _ c.args.text.now new (subst (λ t. HasFront old t new) c.as_slice.ensures.value c.in_err-write_all.ensures.taken))
 
 pub returns-in_err-write_all-2-clause-taken : goal.returns-in_err-write_all-2-clause-taken
 returns-in_err-write_all-2-clause-taken g c =
-    let old = g.W.Target.taken c.args.writer.now in
+    let old = g.W.Target.taken c.args.target.now in
     let new = g.W.Target.taken c.write_all-2.new.target in
     let held = c.args.held.now in
     let front = c.split_at.result.0.now in

@@ -1,9 +1,10 @@
 use Rattle.std.proofs.Common.{◌-◌, ℕ, List, length, subst}
 use Rattle.isotp_receive.specs.declared.TheConstants.{MESSAGE_LIMIT}
-use Rattle.trace_run.specs.Told.{AnswersTold, TellsEagerly, answers_counts}
+use Rattle.trace_run.specs.Script.{answers_counts}
+use Rattle.trace_run.specs.Told.{AnswersTold, TellsEagerly}
 use Rattle.trace_report.specs.Front.{page_title}
 use Rattle.trace_report.specs.Page.{refused_text, report_script}
-use Rattle.trace_run.specs.Told.{glimpse_of}
+use Rattle.trace_run.specs.Script.{glimpse_of}
 use Rattle.udsnorm.proofs.commands.call_engine.Goals as goal
 
 pub returns-in-Normalise : goal.returns-in-Normalise

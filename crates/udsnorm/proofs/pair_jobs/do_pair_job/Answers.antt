@@ -1,4 +1,4 @@
-use Rattle.std.proofs.Common.{◌≡◌, List, [], Option, Result, subst, sym, ◌∙◌}
+use Rattle.std.proofs.Common.{◌≡◌, [], Option, Result, subst, sym, ◌∙◌}
 use Rattle.isotp_receive.specs.declared.TheConstants.{MESSAGE_LIMIT}
 use Rattle.trace_canon.specs.ComparisonText.{comparison_text}
 use Rattle.trace_log.specs.declared.fault.CompareFault.{CompareFault}
@@ -9,7 +9,7 @@ use Rattle.trace_pair.specs.Titles.{title_for}
 use Rattle.udsnorm.specs.Commands.{ComparesPair, PagesPair, text_of_difference}
 use Rattle.udsnorm.specs.proving.Pairs.{answer_held, cause_in, text_of_answer}
 use Rattle.trace_report.specs.declared.cause.RefusalCause.{RefusalCause}
-use Rattle.trace_run.specs.Told.{glimpse_of}
+use Rattle.trace_run.specs.Script.{glimpse_of}
 use Rattle.udsnorm.specs.declared.pair_jobs.PairAnswer.{PairAnswer}
 use Rattle.udsnorm.proofs.Pairs.{compared_pair, fault_compared, fault_held, pages_pair, read_told, refused_pair}
 use Rattle.udsnorm.proofs.pair_jobs.do_pair_job.Goals as goal

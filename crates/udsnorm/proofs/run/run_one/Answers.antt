@@ -2,7 +2,7 @@ use Rattle.std.proofs.Common.{◌≤◌, ◌+◌, ap, ◌∙◌, sym, subst}
 use Rattle.udsnorm.specs.Ending.{EndsAs, flushes}
 use Rattle.udsnorm.proofs.Certificates.{answer_certifies}
 use Rattle.udsnorm.proofs.Statuses.{comes_to, done_once, failed_once, flushed_at_most_once, flushed_once_then, is_flushed_then, memory_of_five, not_flushed_then, recorded_then, took_still}
-use Rattle.trace_run.specs.Told.{glimpse_of}
+use Rattle.trace_run.specs.Script.{glimpse_of}
 use Rattle.udsnorm.proofs.run.run_one.Goals as goal
 
 pub returns-clause-ran : goal.returns-clause-ran

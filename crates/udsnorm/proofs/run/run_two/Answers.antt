@@ -1,7 +1,7 @@
 use Rattle.std.proofs.Common.{ap, ◌∙◌, ◌+◌, ◌≤◌, subst}
 use Rattle.udsnorm.proofs.Certificates.{both_certified}
 use Rattle.udsnorm.proofs.Pairs.{accepted_pair, at_most_once, device_of_pair, flushed_then, has_text_then, left_alone_then, not_flushed_then, wrote_and_flushed}
-use Rattle.trace_run.specs.Told.{glimpse_of}
+use Rattle.trace_run.specs.Script.{glimpse_of}
 use Rattle.udsnorm.proofs.run.run_two.Goals as goal
 
 pub returns-clause-ran : goal.returns-clause-ran

@@ -4,7 +4,7 @@ use Rattle.std.proofs.lemmas.Result.{on_ok_weaker}
 use Rattle.isotp_receive.specs.declared.TheConstants.{MESSAGE_LIMIT}
 use Rattle.isotp_receive.specs.Verdict.{messages}
 use Rattle.trace_run.proofs.Promises.{completes_judged, completes_none}
-use Rattle.trace_canon.specs.SessionScript.{Collects}
+use Rattle.trace_canon.specs.proving.SessionScript.{Collects}
 use Rattle.trace_canon.proofs.HandedOn.{any_err}
 use Rattle.trace_canon.proofs.CanonicalMachines.{completes_message}
 use Rattle.trace_canon.proofs.collector.CollectorMachine.event.Goals as goal

@@ -18,13 +18,13 @@ returns-clause-ok g c = two_ok c.say_due.result (λ stands says start T e seen s
     (stands M stood.ordered completes.step) (says M stood.ordered completes.step)) c.say_due.ensures.stands c.say_due.ensures.says
 
 pub returns-clause-err : goal.returns-clause-err
-returns-clause-err g c = on_err_weaker c.say_due.result (λ refused start T stood. refused.1) c.say_due.ensures.refused
+returns-clause-err g c = on_err_weaker c.say_due.result (λ refused start T stood. refused.1) c.say_due.ensures.err
 
 pub returns-clause-needs : goal.returns-clause-needs
 returns-clause-needs g c = on_err_weaker c.say_due.result (λ held start T e seen stood.
     let message = c.in-Some.message in
     let completes = completes_judged T e c.args.seen message seen c.in-Some.is in
-    completes_held T e message completes (held (messages MESSAGE_LIMIT T) stood.ordered completes.step)) c.say_due.ensures.held
+    completes_held T e message completes (held (messages MESSAGE_LIMIT T) stood.ordered completes.step)) c.say_due.ensures.needs
 
 pub returns-in_default-clause-ok : goal.returns-in_default-clause-ok
 returns-in_default-clause-ok g c = λ start T e seen stood.

@@ -18,13 +18,13 @@ returns-clause-ok g c = two_ok c.say_decided.result (λ stands says start T e se
     (stands M stood.decides completes.step) (says M stood.decides completes.step)) c.say_decided.ensures.stands c.say_decided.ensures.says
 
 pub returns-clause-err : goal.returns-clause-err
-returns-clause-err g c = on_err_weaker c.say_decided.result (λ quiet start T stood. quiet) c.say_decided.ensures.quiet
+returns-clause-err g c = on_err_weaker c.say_decided.result (λ quiet start T stood. quiet) c.say_decided.ensures.err
 
 pub returns-clause-needs : goal.returns-clause-needs
 returns-clause-needs g c = on_err_weaker c.say_decided.result (λ kept start T e seen stood.
     let message = c.in-Some.message in
     let completes = completes_judged T e c.args.seen message seen c.in-Some.is in
-    completes_kept T e message completes (kept (messages MESSAGE_LIMIT T) stood.decides completes.step)) c.say_decided.ensures.kept
+    completes_kept T e message completes (kept (messages MESSAGE_LIMIT T) stood.decides completes.step)) c.say_decided.ensures.needs
 
 pub returns-in_default-clause-ok : goal.returns-in_default-clause-ok
 returns-in_default-clause-ok g c = λ start T e seen stood.

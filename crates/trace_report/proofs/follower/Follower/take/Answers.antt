@@ -52,12 +52,12 @@ returns-in-Some-clause-rows c = λ T e seen known.
     let completes = completes_judged T e what message seen c.in-Some.is in
     let stands = place_at T e what here seen c.here_of-here.ensures in
     let told = ap (λ (x : EventValue). x.verdict) at.did ∙ completes.did in
-    let ended = c.ended_row-first.ensures e stands in
+    let ended = c.ended_row_of-first.ensures e stands in
     let closing = c.take_message.ensures.closing M completes.step known.met.waits known.met.silent in
     let row = c.take_message.ensures.row M completes.step completes.item in
     let first = c.take-extent.ensures.first T e bytes (line_at T e what here seen c.here_of-here.ensures) (micros_at T e what here seen c.here_of-here.ensures) at.dir at.did told known.places in
     let frames = c.take-extent.ensures.frames T e bytes at.dir at.few at.did told known.places in
-    rows_of_message (row_if c.ended_row-first.result) (row_if c.take_message.result.0) (row_of c.take_message.result.1)
+    rows_of_message (row_if c.ended_row_of-first.result) (row_if c.take_message.result.0) (row_of c.take_message.result.1)
     ∙ (λ i. ended i ++ (closing i ++ row i ∷ []))
     ∙ message_event T e message.dir (seen_event what.event) bytes c.args.self.now.asked here c.take-extent.result completes.dir at.did told known.met.asked_then stands first frames
 
@@ -76,4 +76,4 @@ returns-in-None-clause-rows c = λ T e seen known.
     let what = c.args.seen in
     let here = c.here_of-here.result in
     let stands = place_at T e what here seen c.here_of-here.ensures in
-    rows_none T e what here (row_if c.ended_row-first.result) (row_if c.dropped_row.result) seen c.in-None.is stands (c.ended_row-first.ensures e stands) c.dropped_row.ensures
+    rows_none T e what here (row_if c.ended_row_of-first.result) (row_if c.dropped_row_of.result) seen c.in-None.is stands (c.ended_row_of-first.ensures e stands) c.dropped_row_of.ensures

@@ -1,6 +1,6 @@
 -- Each eight bytes add their letters, and fewer than eight end the text.
 use Rattle.std.proofs.Common.{[], ◌++◌, refl, ap, sym, subst, ◌∙◌, append_assoc}
-use Rattle.trace_report.specs.Words.{letters}
+use Rattle.trace_report.specs.Letters.{letters}
 use Rattle.trace_report.proofs.BytesBehind.{eight_letters_more}
 use Rattle.trace_report.proofs.letters.LettersPart.say.Goals as goal
 

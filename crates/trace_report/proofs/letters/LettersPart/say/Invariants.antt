@@ -1,6 +1,6 @@
 -- What is said so far and the letters of the rest are those of all bytes.
 use Rattle.std.proofs.Common.{◌≡◌, ◌++◌, List, ℕ, length}
-use Rattle.trace_report.specs.Words.{letters}
+use Rattle.trace_report.specs.Letters.{letters}
 use Rattle.trace_report.proofs.letters.LettersPart.say.Given as goal
 
 abbrev pub invariant-eights : goal.invariant-eights

@@ -2,7 +2,7 @@
 use Rattle.std.proofs.Common.{arith, ap, ◌∙◌}
 use Rattle.isotp_receive.specs.EventSeen.{seen_event}
 use Rattle.isotp_receive.specs.Verdict.{EventValue}
-use Rattle.trace_canon.specs.ReceptionStarts.{begun_of}
+use Rattle.trace_canon.specs.ReceptionStarts.{reception_start}
 use Rattle.trace_canon.proofs.Promises.{begun_next, begins_at}
 use Rattle.trace_report.proofs.FrameCounting.{frames_next, frames_known}
 use Rattle.trace_report.specs.proving.Following.{frames_with}
@@ -27,5 +27,5 @@ returns-clause-first c = λ T e bytes line micros dir seen completes known.
 pub returns-clause-frames : goal.returns-clause-frames
 returns-clause-frames c = λ T e bytes dir few seen completes known.
     c.frames_carrying-frames.ensures ∙ ap (λ b. frames_with b c.of-2.result) c.still_begun-begun.ensures
-    ∙ frames_known T e c.args.dir (seen_event c.args.event) c.args.self.now c.of.result c.of-2.result bytes dir seen (omega arith) known (λ side. c.of.ensures ∙ ap (begun_of c.args.self.now.begun) side) (λ side. c.of.ensures ∙ ap (begun_of c.args.self.now.begun) side)
+    ∙ frames_known T e c.args.dir (seen_event c.args.event) c.args.self.now c.of.result c.of-2.result bytes dir seen (omega arith) known (λ side. c.of.ensures ∙ ap (reception_start c.args.self.now.begun) side) (λ side. c.of.ensures ∙ ap (reception_start c.args.self.now.begun) side)
     c.of-2.ensures.tester c.of-2.ensures.unit completes

@@ -1,9 +1,10 @@
 -- Behind the last frame come the rows of the end, and what closes the page.
 use Rattle.std.proofs.Common.{◌<◌, ◌^◌, ◌-◌, List, arith, ap, subst, ◌++◌, length, refl}
 use Rattle.isotp_receive.specs.declared.TheConstants.{MESSAGE_LIMIT}
-use Rattle.trace_report.specs.Blocks.{blocks_of, rows_text}
+use Rattle.trace_report.specs.Blocks.{blocks_of}
+use Rattle.trace_report.specs.Chart.{rows_text}
 use Rattle.trace_report.specs.Events.{rows_of}
-use Rattle.trace_report.specs.Front.{PageTitle}
+use Rattle.trace_report.specs.Front.{PageTitleValue}
 use Rattle.trace_report.specs.Page.{front_before, page_end}
 use Rattle.trace_report.specs.Rows.{RowValue}
 use Rattle.trace_report.specs.proving.Following.{IsChartOf}
@@ -20,7 +21,7 @@ returns-clause-says g c = λ start T known stand within.
     (c.say_rows.ensures.stands (rows_of MESSAGE_LIMIT T) low known.chart) in
     let first = first_known T c.args.self.times known.times in
     let last = last_known T c.args.self.times known.times in
-    let front = subst (λ (title : PageTitle). g.S.TextSink.says c.args.out.now (front_before title T) c.say_front_before-origin.new.out) known.same
+    let front = subst (λ (title : PageTitleValue). g.S.TextSink.says c.args.out.now (front_before title T) c.say_front_before-origin.new.out) known.same
     (c.say_front_before-origin.ensures.says T known.times) in
     g.met.S.TextSink.onward _ _ _ _ _ (g.met.S.TextSink.onward _ _ _ _ _ front
     (subst (λ text. g.S.TextSink.says c.say_front_before-origin.new.out text c.say_rows.new.out)

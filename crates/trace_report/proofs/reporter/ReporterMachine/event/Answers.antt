@@ -2,9 +2,10 @@
 use Rattle.std.proofs.Common.{◌<◌, ◌^◌, ◌-◌, List, arith, ap, sym, subst, ◌∙◌, [], ◌∷◌, ◌++◌, length}
 use Rattle.std.proofs.lemmas.List.{length-append}
 use Rattle.isotp_receive.specs.declared.TheConstants.{MESSAGE_LIMIT}
-use Rattle.trace_report.specs.Blocks.{blocks_of, rows_text}
+use Rattle.trace_report.specs.Blocks.{blocks_of}
+use Rattle.trace_report.specs.Chart.{rows_text}
 use Rattle.trace_report.specs.Events.{rows_of}
-use Rattle.trace_report.specs.Front.{PageTitle}
+use Rattle.trace_report.specs.Front.{PageTitleValue}
 use Rattle.trace_report.specs.Page.{front_before}
 use Rattle.trace_report.specs.Rows.{RowValue}
 use Rattle.trace_report.specs.proving.Following.{IsChartOf}
@@ -17,7 +18,7 @@ returns-clause-ok g c = λ start T e seen known.
     let rows = c.take-rows.ensures.rows T e seen known.follows in
     let low : length (rows_of MESSAGE_LIMIT T) < 2 ^ 64 - 3 = omega (arith, seen.event.few, few_rows MESSAGE_LIMIT T) in
     let chart = c.say_rows.ensures.stands (rows_of MESSAGE_LIMIT T) low known.chart in
-    let front = subst (λ (title : PageTitle). g.S.TextSink.says c.args.out.now (front_before title T) c.say_front_before-origin.new.out) known.same
+    let front = subst (λ (title : PageTitleValue). g.S.TextSink.says c.args.out.now (front_before title T) c.say_front_before-origin.new.out) known.same
     (c.say_front_before-origin.ensures.says T known.times) in (
       record {
         few = omega (arith, seen.event.few, length-append T (e ∷ []));

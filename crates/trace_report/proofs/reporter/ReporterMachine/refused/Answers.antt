@@ -1,7 +1,7 @@
 -- Where the log is refused, the page ends with the rows so far and the cause.
 use Rattle.std.proofs.Common.{subst, ap, ◌∙◌}
 use Rattle.trace_report.specs.Causes.{cause_of}
-use Rattle.trace_report.specs.Front.{PageTitle}
+use Rattle.trace_report.specs.Front.{PageTitleValue}
 use Rattle.trace_report.specs.Page.{front_before, refused_end}
 use Rattle.trace_run.specs.Seen.{glimpse_value}
 use Rattle.trace_report.proofs.Holding.{first_known, last_known}
@@ -12,9 +12,9 @@ returns g c = record {
   says = λ start T known.
       let first = first_known T c.args.self.times known.times in
       let last = last_known T c.args.self.times known.times in
-      let front = subst (λ (title : PageTitle). g.S.TextSink.says c.args.out.now (front_before title T) c.say_front_before.new.out) known.same
+      let front = subst (λ (title : PageTitleValue). g.S.TextSink.says c.args.out.now (front_before title T) c.say_front_before.new.out) known.same
       (c.say_front_before.ensures.says T known.times) in
       g.met.S.TextSink.onward _ _ _ _ _ front
       (subst (λ text. g.S.TextSink.says c.say_front_before.new.out text c.say.new.out)
-      (λ i. refused_end c.args.why ((c.cause_of.ensures ∙ ap (λ (title : PageTitle). cause_of c.args.why title.most (glimpse_value c.args.source)) known.same) i) (known.chart.blocks i) (known.chart.tally i) c.args.summary.now (first i) (last i)) c.say.ensures);
+      (λ i. refused_end c.args.why ((c.cause_of.ensures ∙ ap (λ (title : PageTitleValue). cause_of c.args.why title.most (glimpse_value c.args.glimpse)) known.same) i) (known.chart.blocks i) (known.chart.tally i) c.args.summary.now (first i) (last i)) c.say.ensures);
 }

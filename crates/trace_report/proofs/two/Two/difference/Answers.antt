@@ -2,7 +2,7 @@
 use Rattle.std.proofs.Common.{ap, sym, ◌∙◌}
 use Rattle.std.specs.Prelude.{slice_get}
 use Rattle.trace_report.specs.Contrast.{first_contrast}
-use Rattle.trace_report.specs.Held.{TwoValue, pairs_in}
+use Rattle.trace_report.specs.Kept.{TwoValue, pairs_in}
 use Rattle.trace_report.specs.Items.{items_in, pairs_of}
 use Rattle.trace_report.specs.proving.Lending.{contrast_at}
 use Rattle.trace_report.proofs.Comparing.{found-at}

@@ -2,7 +2,7 @@
 use Rattle.std.proofs.Common.{true, subst, sym, ◌∙◌}
 use Rattle.std.specs.Prelude.{nat_lt, slice_get}
 use Rattle.std.proofs.lemmas.Bool.{ltb-true}
-use Rattle.trace_report.specs.Held.{TwoValue, pairs_in}
+use Rattle.trace_report.specs.Kept.{TwoValue, pairs_in}
 use Rattle.trace_report.specs.proving.Rowing.{IsKnown}
 use Rattle.trace_report.proofs.Comparing.{known-before, known-where-same}
 use Rattle.trace_report.proofs.two.Two.is_same_at.Goals as goal

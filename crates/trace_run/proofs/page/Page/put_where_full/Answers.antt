@@ -23,7 +23,7 @@ returns-in-Err g c = λ start said carries.
       no_empty_write = failed.no_empty_write ∙ so_far.no_empty_write;
       flushes = failed.flushes ∙ so_far.flushes;
       took = took_more so_far.took failed.took;
-      written = front_behind (W.taken start) said c.args.text.now (W.taken c.args.target.now) page.held (W.taken c.gather.new.writer) so_far.written failed.taken;
+      written = front_behind (W.taken start) said c.args.text.now (W.taken c.args.target.now) page.held (W.taken c.gather.new.target) so_far.written failed.taken;
     }
 
 pub returns-in_default : goal.returns-in_default
@@ -34,7 +34,7 @@ returns-in_default g c = λ start said carries.
     let some_text : 0 < length c.args.text.now = c.requires in
     let so_far : Carries W start said false page.held c.args.target.now =
     subst (λ b. Carries W start said b page.held c.args.target.now) c.if-self.false carries in
-    subst (λ b. Carries W start (said ++ c.args.text.now) b c.gather.new.held c.gather.new.writer) (sym c.if-self.false) (record {
+    subst (λ b. Carries W start (said ++ c.args.text.now) b c.gather.new.held c.gather.new.target) (sym c.if-self.false) (record {
       low = so_far.low;
       held_some = λ some. omega (arith, some_text, length-append said c.args.text.now);
       spoke = λ is. absurd (cc is);
@@ -43,7 +43,7 @@ returns-in_default g c = λ start said carries.
       no_empty_write = put.no_empty_write ∙ so_far.no_empty_write;
       flushes = put.flushes ∙ so_far.flushes;
       took = took_more so_far.took put.took;
-      written = written_behind (W.taken start) said c.args.text.now (W.taken c.args.target.now) page.held (W.taken c.gather.new.writer) c.gather.new.held so_far.written put.taken;
+      written = written_behind (W.taken start) said c.args.text.now (W.taken c.args.target.now) page.held (W.taken c.gather.new.target) c.gather.new.held so_far.written put.taken;
     })
 
 pub returns-then-self : goal.returns-then-self

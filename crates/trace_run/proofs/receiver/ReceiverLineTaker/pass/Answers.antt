@@ -1,6 +1,6 @@
 -- A passed line means no frame: the trace stays as it was.
-use Rattle.std.proofs.Common.{[], ◌≤◌, ◌^◌, ◌≡◌, None, Some, refl, sym, subst, ◌∙◌, ap}
-use Rattle.trace_run.specs.proving.Telling.{IsTellingStart, Tells}
+use Rattle.std.proofs.Common.{◌≤◌, ◌^◌, ◌≡◌, None, Some, refl, sym, subst, ◌∙◌, ap}
+use Rattle.trace_run.specs.proving.Telling.{HasTold, HasToldNothing}
 use Rattle.trace_log.specs.Settings.{direction_of}
 use Rattle.trace_log.proofs.Promises.{foreign_direction, trace_same_foreign, receives_same}
 use Rattle.trace_run.proofs.receiver.ReceiverLineTaker.pass.Goals as goal
@@ -14,7 +14,7 @@ returns-clause-takes g c = λ device first second stamped wants not_first not_se
       let none : None ≡ direction_of start.0.config stamped.frame.id = sym foreign ∙ ap (λ s. direction_of s stamped.frame.id) took.0 in
       let same = trace_same_foreign start.0.config meanings (Some stamped) stamped refl none in (
         receives_same start.0.config meanings (Some stamped) c.args.self.now.pair c.args.self.now.lines c.args.line c.args.self.now.counts same number received.0,
-        subst (λ T. IsTellingStart (g.M.Machine.stands start.0.telling.machine [] start.0.telling.machine) start.0.telling.judge start.0.telling.page.failed start.0.telling.page.held → g.W.Target.failures start.1 ≤ 2 ^ 62
-            → Tells (g.M.Machine.stands start.0.telling.machine) g.W.Target (g.M.Machine.script start.0.telling.machine) start.1 T c.args.self.now.telling.machine c.args.self.now.telling.judge c.args.self.now.telling.page.failed c.args.self.now.telling.page.held device) (sym same) received.1,
+        subst (λ T. HasToldNothing g.M.Machine.stands start.0.telling → g.W.Target.failures start.1 ≤ 2 ^ 62
+            → HasTold g.M.Machine.stands g.M.Machine.script g.W.Target start.1 start.0.telling.machine T c.args.self.now.telling device) (sym same) received.1,
       ),
 )

@@ -5,13 +5,13 @@ use Rattle.isotp_receive.specs.declared.TheConstants.{MESSAGE_LIMIT}
 use Rattle.isotp_receive.specs.Trace.{Entry}
 use Rattle.isotp_receive.specs.Verdict.{verdict}
 use Rattle.isotp_receive.specs.StandingReception.{receptions_after}
-use Rattle.trace_run.specs.proving.Telling.{IsTellingStart, Tells, StopsTelling}
+use Rattle.trace_run.specs.proving.Telling.{HasStopped, HasTold, HasToldNothing}
 use Rattle.trace_log.specs.Settings.{direction_of}
 use Rattle.trace_log.specs.Trace.{trace}
 use Rattle.trace_log.specs.Summing.{counted_more}
 use Rattle.trace_log.specs.proving.Receiving.{entry_at, entry_in}
 use Rattle.trace_log.proofs.Promises.{four_ok, few_frames, trace_same_blank, trace_same_foreign, trace_next, receives_same, receives_next}
-use Rattle.trace_run.proofs.ToldFrames.{on_ok_of_each, if_err_of_each}
+use Rattle.trace_run.proofs.Results.{on_ok_of_each, if_err_of_each}
 use Rattle.trace_run.proofs.receiver.ReceiverLineTaker.take.Goals as goal
 
 pub returns-in_default-clause-ok : goal.returns-in_default-clause-ok
@@ -21,8 +21,8 @@ returns-in_default-clause-ok g c = λ start meanings number few took. (
       let received = took.1 fresh in
       let same = trace_same_blank start.0.config meanings c.args.what.now c.in_default.is in (
         receives_same start.0.config meanings c.args.what.now c.args.self.now.pair c.args.self.now.lines c.args.line c.args.self.now.counts same number received.0,
-        subst (λ T. IsTellingStart (g.M.Machine.stands start.0.telling.machine [] start.0.telling.machine) start.0.telling.judge start.0.telling.page.failed start.0.telling.page.held → g.W.Target.failures start.1 ≤ 2 ^ 62
-            → Tells (g.M.Machine.stands start.0.telling.machine) g.W.Target (g.M.Machine.script start.0.telling.machine) start.1 T c.args.self.now.telling.machine c.args.self.now.telling.judge c.args.self.now.telling.page.failed c.args.self.now.telling.page.held c.args.device.now) (sym same) received.1,
+        subst (λ T. HasToldNothing g.M.Machine.stands start.0.telling → g.W.Target.failures start.1 ≤ 2 ^ 62
+            → HasTold g.M.Machine.stands g.M.Machine.script g.W.Target start.1 start.0.telling.machine T c.args.self.now.telling c.args.device.now) (sym same) received.1,
       ),
 )
 
@@ -36,8 +36,8 @@ returns-in_default-direction_of-clause-ok g c = λ start meanings number few too
       sym c.in_default-direction_of.is ∙ c.direction_of.ensures ∙ ap (direction_of c.args.self.now.config) c.id.ensures ∙ ap (λ s. direction_of s stamped.frame.id) took.0 in
       let same = trace_same_foreign start.0.config meanings c.args.what.now stamped c.in-Some.is none in (
         receives_same start.0.config meanings c.args.what.now c.args.self.now.pair c.args.self.now.lines c.args.line c.args.self.now.counts same number received.0,
-        subst (λ T. IsTellingStart (g.M.Machine.stands start.0.telling.machine [] start.0.telling.machine) start.0.telling.judge start.0.telling.page.failed start.0.telling.page.held → g.W.Target.failures start.1 ≤ 2 ^ 62
-            → Tells (g.M.Machine.stands start.0.telling.machine) g.W.Target (g.M.Machine.script start.0.telling.machine) start.1 T c.args.self.now.telling.machine c.args.self.now.telling.judge c.args.self.now.telling.page.failed c.args.self.now.telling.page.held c.args.device.now) (sym same) received.1,
+        subst (λ T. HasToldNothing g.M.Machine.stands start.0.telling → g.W.Target.failures start.1 ≤ 2 ^ 62
+            → HasTold g.M.Machine.stands g.M.Machine.script g.W.Target start.1 start.0.telling.machine T c.args.self.now.telling c.args.device.now) (sym same) received.1,
       ),
 )
 
@@ -63,8 +63,8 @@ returns-clause-ok g c =
                 grew
                 (counts T received.0.pair_is ∙ ap (λ (e : Entry). counted_more d (verdict MESSAGE_LIMIT T e) c.args.self.now.counts) here) received.0,
             λ blank low.
-                subst (λ U. Tells (g.M.Machine.stands start.0.telling.machine) g.W.Target (g.M.Machine.script start.0.telling.machine) start.1 U c.receive.new.self.telling.machine c.receive.new.self.telling.judge c.receive.new.self.telling.page.failed c.receive.new.self.telling.page.held c.receive.new.device) (sym next)
-                (subst (λ (e : Entry). Tells (g.M.Machine.stands start.0.telling.machine) g.W.Target (g.M.Machine.script start.0.telling.machine) start.1 (T ++ e ∷ []) c.receive.new.self.telling.machine c.receive.new.self.telling.judge c.receive.new.self.telling.page.failed c.receive.new.self.telling.page.held c.receive.new.device) here
+                subst (λ U. HasTold g.M.Machine.stands g.M.Machine.script g.W.Target start.1 start.0.telling.machine U c.receive.new.self.telling c.receive.new.target) (sym next)
+                (subst (λ (e : Entry). HasTold g.M.Machine.stands g.M.Machine.script g.W.Target start.1 start.0.telling.machine (T ++ e ∷ []) c.receive.new.self.telling c.receive.new.target) here
                 (taken T received.0.pair_is (omega arith) start.1 start.0.telling.machine (received.1 blank low))),
           ),
     )) c.receive.ensures.pair c.receive.ensures.grew c.receive.ensures.counts
@@ -88,8 +88,7 @@ returns-clause-err g c =
       c.in-Some.is,
       direction,
       λ blank low.
-          subst (λ (e : Entry). StopsTelling g.W.Target (g.M.Machine.script start.0.telling.machine) (g.M.Machine.needs start.0.telling.machine) start.1 T e fault c.receive.new.self.telling.page.failed
-          c.receive.new.self.telling.page.held c.receive.new.device) here
+          subst (λ (e : Entry). HasStopped g.M.Machine.script g.M.Machine.needs g.W.Target start.1 start.0.telling.machine T e fault c.receive.new.self.telling c.receive.new.target) here
           (stops T received.0.pair_is (omega arith) start.1 start.0.telling.machine (received.1 blank low)),
     )) (if_err_of_each _ _ _ c.receive.result (λ T stands few. (c.receive.ensures.told T stands few).err))
 

@@ -3,7 +3,7 @@ use Rattle.std.proofs.Common.{[], false, arith, sym, subst}
 use Rattle.std.specs.Prelude.{not}
 use Rattle.trace_run.specs.proving.Carrying.{Carries}
 use Rattle.trace_run.specs.proving.Telling.{Tells}
-use Rattle.trace_run.specs.Told.{told}
+use Rattle.trace_run.specs.Script.{told}
 use Rattle.trace_run.proofs.Carryings.{wrote_all}
 use Rattle.trace_run.proofs.ToldFrames.{settled_as, same_page}
 use Rattle.trace_run.proofs.ToldRuns.{blank_page}

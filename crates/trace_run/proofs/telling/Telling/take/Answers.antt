@@ -5,7 +5,7 @@ use Rattle.isotp_receive.specs.EventSeen.{seen_event}
 use Rattle.isotp_receive.specs.Verdict.{messages}
 use Rattle.isotp_receive.proofs.Promises.{messages_are_few}
 use Rattle.trace_log.specs.declared.fault.Fault.TheVariants.{Oversize}
-use Rattle.trace_run.specs.proving.Telling.{stops_for}
+use Rattle.trace_run.specs.proving.Telling.{oversize_for}
 use Rattle.trace_run.proofs.ToldFrames.{tells_next, stops_at, stops_before}
 use Rattle.trace_run.proofs.StoppedLines.{stopped_for, not_stopped_for}
 use Rattle.trace_run.proofs.telling.Telling.take.Goals as goal
@@ -19,7 +19,7 @@ returns-in-Some-clause-told g c = λ T e seen.
           let script = M.script first in
           let strict = c.is_strict.ensures first T tells.machine_stands in
           let why = stopped_for script.strict T e (seen_event c.args.frame.event) c.in-Some.announced seen.did
-          (subst (λ b. stops_for b (seen_event c.args.frame.event).verdict ≡ Some c.in-Some.announced) strict (sym c.stops_for.ensures ∙ c.in-Some.is)) in
+          (subst (λ b. oversize_for b (seen_event c.args.frame.event).verdict ≡ Some c.in-Some.announced) strict (sym c.oversize_for.ensures ∙ c.in-Some.is)) in
           stops_before (M.stands first) g.W.Target script (M.needs first) start T e c.args.self.now.machine c.args.self.now.judge
           c.args.self.now.page.failed c.args.self.now.page.held c.args.target.now (Oversize c.args.frame.line c.in-Some.announced) tells (why.0, sym seen.line, why.1);
       kept = λ start first earlier tells sure. sure;
@@ -37,7 +37,7 @@ returns-in-Ok-clause-told g c = λ T e seen.
           tells_next (M.stands first) g.W.Target script (M.needs first) start T e c.args.frame.line c.args.frame.dir (seen_event c.args.frame.event) seen.dir seen.did
           _ _ _ _ _ _ _ _ _ _ tells (c.judged_message-message.ensures.next (messages MESSAGE_LIMIT T) few tells.judged) said.0
           (not_stopped_for script.strict T e (seen_event c.args.frame.event) seen.did
-          (subst (λ b. stops_for b (seen_event c.args.frame.event).verdict ≡ None) strict (sym c.stops_for.ensures ∙ c.in-None.is))) said.1;
+          (subst (λ b. oversize_for b (seen_event c.args.frame.event).verdict ≡ None) strict (sym c.oversize_for.ensures ∙ c.in-None.is))) said.1;
       err = tt;
       kept = λ start first earlier tells sure.
           let said = c.in-Ok.ensures.ok first T e (record { event = seen; message = c.judged_message-message.ensures.judged (messages MESSAGE_LIMIT T) few tells.judged.counted }) tells.machine_stands in
@@ -56,7 +56,7 @@ returns-in-Err-clause-told g c = λ T e seen.
           let needs = c.in-Err.ensures.needs first T e (record { event = seen; message = c.judged_message-message.ensures.judged (messages MESSAGE_LIMIT T) few tells.judged.counted }) tells.machine_stands in
           stops_at (M.stands first) g.W.Target script (M.needs first) start T e _ _ _ _ _ _ _ _ tells
           (not_stopped_for script.strict T e (seen_event c.args.frame.event) seen.did
-          (subst (λ b. stops_for b (seen_event c.args.frame.event).verdict ≡ None) strict (sym c.stops_for.ensures ∙ c.in-None.is)))
+          (subst (λ b. oversize_for b (seen_event c.args.frame.event).verdict ≡ None) strict (sym c.oversize_for.ensures ∙ c.in-None.is)))
           needs (c.in-Err.ensures.err first T tells.machine_stands);
       kept = λ start first earlier tells sure.
           let said = c.in-Err.ensures.err first T tells.machine_stands in

@@ -1,0 +1,63 @@
+-- Devices of proof: what is told of a log by its canonical lines, and what holds of it.
+use Rattle.std.specs.Prelude.{◌≡◌, Bool, Result, Ok, Err, if◌then◌else◌, ℕ, true, List, [], ◌∷◌, ◌++◌, length, drop}
+use Rattle.direction.specs.Dir.{Message}
+use Rattle.isotp_receive.specs.declared.TheConstants.{MESSAGE_LIMIT}
+use Rattle.isotp_receive.specs.Trace.{Entry}
+use Rattle.isotp_receive.specs.Verdict.{messages}
+use Rattle.isotp_segment.specs.Timed.{all_frames}
+use Rattle.uds_exchange.specs.Order.{early, held}
+use Rattle.uds_exchange.specs.Orderer.{JudgedOrdererValue, judged_orderer_after}
+use Rattle.trace_log.specs.Settings.{Settings}
+use Rattle.trace_run.specs.Script.{Script, Answering, tells_no_refusal, told}
+use Rattle.trace_run.specs.Told.{AnswersTold, TellsEagerly}
+use Rattle.trace_log.specs.Answers.{Answers}
+use Rattle.trace_log.specs.declared.fault.Fault.{Fault}
+use Rattle.trace_run.specs.declared.machine.NoAnswer.TheVariants as no_answer
+use Rattle.trace_log.specs.declared.summary.Summary.{Summary}
+use Rattle.uds_exchange.specs.Meaning.{meaning, flattened}
+use Rattle.trace_canon.specs.proving.Writing.{ProgressValue, start_of, text_from, progress_after}
+
+-- where the canonical log stands after these messages
+abbrev pub progress_behind : Settings → List Message → ProgressValue
+progress_behind settings put = progress_after settings (start_of settings.max_bytes) (all_frames MESSAGE_LIMIT put)
+
+-- the lines of the messages that are early of these, and were not of those
+abbrev pub lines_due : Settings → List Message → List Message → List ℕ
+lines_due settings before now =
+    text_from settings (progress_behind settings (early before)) (all_frames MESSAGE_LIMIT (drop (length (early before)) (early now)))
+
+-- of each frame the lines of what is due with it, and at the end of what is held
+abbrev pub canonical_script : Settings → Script
+canonical_script settings = record {
+  strict = true;
+  word = λ T e. lines_due settings (messages MESSAGE_LIMIT T) (messages MESSAGE_LIMIT (T ++ e ∷ []));
+  last = λ T summary. text_from settings (progress_behind settings (early (messages MESSAGE_LIMIT T))) (all_frames MESSAGE_LIMIT (held (messages MESSAGE_LIMIT T)));
+}
+
+-- The orderer stands after the messages of the trace, and the text after those that are early.
+pub record StandsCanonical (settings : Settings) (T : List Entry) (orderer : JudgedOrdererValue) (config : Settings) (progress : ProgressValue) : Type 0 where
+  pub ordered : orderer ≡ judged_orderer_after (messages MESSAGE_LIMIT T)
+  pub same : config ≡ settings
+  pub at : progress ≡ progress_behind settings (early (messages MESSAGE_LIMIT T))
+
+-- the lines of the messages of a trace whose place is known, as far as there is room
+abbrev pub text_of_early : Settings → List Entry → List ℕ
+text_of_early settings T = text_from settings (start_of settings.max_bytes) (all_frames MESSAGE_LIMIT (early (messages MESSAGE_LIMIT T)))
+
+-- what this script tells of a trace are the lines of its early messages
+abbrev pub CanonicalTellsEarly : Type 0
+CanonicalTellsEarly = (settings : Settings) (T : List Entry) → told ((canonical_script settings).word) T ≡ text_of_early settings T
+
+-- the canonical log of the trace is longer than the limit
+abbrev pub is_too_long : Settings → List Entry → Bool
+is_too_long settings T = (progress_behind settings (flattened (meaning (messages MESSAGE_LIMIT T)))).is_full
+
+-- the counts are answered where the canonical log is within the limit, and else that it is longer
+abbrev pub answers_canonical : Settings → Answering Summary
+answers_canonical settings T summary result = result ≡ (if is_too_long settings T then Err no_answer.OutputLimit else Ok summary)
+
+-- what a run by this script answers and writes is the canonical log
+abbrev pub CanonicalTellsTheSame : Type 0
+CanonicalTellsTheSame = (settings : Settings) (log : List ℕ) (given : ℕ) (result : Result Summary Fault) (old new : List ℕ)
+    → AnswersTold (canonical_script settings) tells_no_refusal (answers_canonical settings) MESSAGE_LIMIT settings log given result old new
+    → TellsEagerly (canonical_script settings) MESSAGE_LIMIT settings log given old new → Answers MESSAGE_LIMIT settings log given result old new

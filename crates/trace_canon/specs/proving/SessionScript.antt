@@ -1,0 +1,54 @@
+-- Devices of proof: what is answered with a log's meaning and its counts, where nothing is told of it.
+use Rattle.std.specs.Prelude.{◌≡◌, ℕ, ◌<◌, ◌≤◌, Bool, true, false, nat_le, List, [], length, Result, Ok, Err}
+use Rattle.isotp_receive.specs.declared.TheConstants.{MESSAGE_LIMIT}
+use Rattle.direction.specs.Dir.{Message}
+use Rattle.uds_exchange.specs.Meaning.{ItemValue, meaning, flattened}
+use Rattle.uds_exchange.specs.declared.step.Step.{Step}
+use Rattle.uds_exchange.specs.declared.step.Step.TheVariants as step
+use Rattle.trace_canon.specs.Sessions.{GivesSession}
+use Rattle.trace_canon.specs.WatchScript.{items_of_trace}
+use Rattle.trace_log.specs.CanonicalLog.{canonical_log}
+use Rattle.trace_log.specs.Settings.{Settings}
+use Rattle.trace_run.specs.Script.{Script, Answering, tells_no_refusal}
+use Rattle.trace_run.specs.Told.{AnswersTold}
+use Rattle.trace_canon.specs.declared.collector.Session.{Session}
+use Rattle.trace_log.specs.declared.fault.Fault.{Fault}
+use Rattle.trace_run.specs.declared.machine.NoAnswer.TheVariants.{OutputLimit}
+use Rattle.trace_canon.specs.proving.Measuring.{HaveLengths}
+
+-- the canonical log of these items is within the limit
+abbrev pub fits_within : Settings → List ItemValue → Bool
+fits_within settings items = nat_le (length (canonical_log MESSAGE_LIMIT settings (flattened items))) settings.max_bytes
+
+-- a message of which this becomes has a place in the meaning
+abbrev pub has_place : Step → Bool
+has_place (step.Request service) = true
+has_place step.Answer = true
+has_place step.Removed = false
+has_place step.Hold = true
+has_place step.Pass = true
+
+-- What is kept of these messages: all that they mean and how long its canonical log is, while that is within the limit;
+-- else no item, and that it is longer. So what is held never has a canonical log above the limit.
+pub record Collects (settings : Settings) (M : List Message) (items : List ItemValue) (known : ℕ) (config : Settings) : Type 0 where
+  pub same : config ≡ settings
+  pub size : ℕ
+  pub measured : HaveLengths settings (flattened (meaning M)) size
+  pub all : size ≤ settings.max_bytes → (items ≡ meaning M) × (known ≡ size)
+  pub none : settings.max_bytes < size → (items ≡ []) × (settings.max_bytes < known)
+  pub held : fits_within settings items ≡ true
+
+-- the script of a machine that tells nothing of a log
+abbrev pub silent_script : Script
+silent_script = record { strict = true; word = λ T e. []; last = λ T summary. [] }
+
+-- the meaning and the counts are answered where the canonical log is within the limit, and else that it is longer
+abbrev pub answers_session : Settings → Answering Session
+answers_session settings T summary (Ok session) = (session.meaning ≡ items_of_trace T) × (session.summary ≡ summary) × (fits_within settings (items_of_trace T) ≡ true)
+answers_session settings T summary (Err OutputLimit) = fits_within settings (items_of_trace T) ≡ false
+
+-- what a run by these two answers gives the session
+abbrev pub SessionIsTheSame : Type 0
+SessionIsTheSame = (settings : Settings) (log : List ℕ) (given : ℕ) (result : Result Session Fault) (old new : List ℕ)
+    → AnswersTold silent_script tells_no_refusal (answers_session settings) MESSAGE_LIMIT settings log given result old new
+    → GivesSession MESSAGE_LIMIT settings log result

@@ -1,0 +1,54 @@
+-- What is answered of two logs that are kept: what each of them says, or why one of them can't be read.
+use Rattle.std.specs.Prelude.{◌≡◌, ℕ, ⊤, false, List, Option, Some, None, Result, Ok, Err}
+use Rattle.can_log.specs.declared.frame.Stamped.{Stamped}
+use Rattle.trace_log.specs.Needing.{HasFrame}
+use Rattle.trace_log.specs.Settings.{Settings}
+use Rattle.trace_log.specs.Summing.{summary_of}
+use Rattle.trace_run.specs.Told.{IsReadToEnd, IsUnreadFor}
+use Rattle.trace_log.specs.Trace.{trace}
+use Rattle.trace_canon.specs.declared.comparing.Comparison.{Comparison}
+use Rattle.trace_canon.specs.declared.comparing.Comparison.TheVariants.{Same, Different}
+use Rattle.trace_log.specs.declared.fault.CompareFault.{CompareFault}
+use Rattle.trace_log.specs.declared.fault.CompareFault.TheVariants.{Left, Right}
+use Rattle.trace_log.specs.declared.fault.Fault.{Fault}
+use Rattle.trace_report.specs.Contrast.{FirstContrast, first_contrast}
+use Rattle.trace_report.specs.Items.{ItemPairValue, items_in, pairs_of}
+use Rattle.trace_report.specs.Session.{SessionValue, session_of}
+
+-- What two logs say, which are kept.
+pub record TwoValue : Type 0 where
+  pub left : SessionValue
+  pub right : SessionValue
+
+-- What is answered of a log: what it says, where it can be read to its end, and else why it can't. No length that is
+-- announced and no canonical log refuses it.
+abbrev pub KeepsOne : ℕ → Settings → List ℕ → Result SessionValue Fault → Type 0
+KeepsOne limit settings log (Ok session) =
+    (meanings : List (Option Stamped)) × IsReadToEnd false limit settings log meanings
+    × (session ≡ session_of limit (trace settings meanings) (summary_of limit settings log meanings))
+KeepsOne limit settings log (Err fault) = IsUnreadFor false limit settings log fault
+
+-- What is answered of two logs: what both say; else why the first can't be read; or why the second can't, where the
+-- first can.
+abbrev pub KeepsTwo : ℕ → Settings → List ℕ → List ℕ → Result TwoValue CompareFault → Type 0
+KeepsTwo limit settings one other (Ok two) = KeepsOne limit settings one (Ok two.left) × KeepsOne limit settings other (Ok two.right)
+KeepsTwo limit settings one other (Err (Left fault)) = KeepsOne limit settings one (Err fault)
+KeepsTwo limit settings one other (Err (Right fault)) =
+    ((session : SessionValue) × KeepsOne limit settings one (Ok session)) × KeepsOne limit settings other (Err fault)
+
+-- the log has a frame of one of the two sides
+abbrev pub HasOwnFrame : Settings → List ℕ → Type 0
+HasOwnFrame = HasFrame (λ T e. ⊤)
+
+-- the items of the two sessions, number by number
+abbrev pub pairs_in : TwoValue → List ItemPairValue
+pairs_in two = pairs_of (items_in two.left.rows) (items_in two.right.rows)
+
+-- what two sessions are to each other, by their first difference, if they have one
+abbrev pub comparison_by : Option FirstContrast → Comparison
+comparison_by None = Same
+comparison_by (Some first) = Different first.before
+
+-- what the two sessions are to each other
+abbrev pub comparison_in : TwoValue → Comparison
+comparison_in two = comparison_by (first_contrast (pairs_in two))

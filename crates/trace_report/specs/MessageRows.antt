@@ -1,0 +1,116 @@
+-- The rows of messages: where a message stands, what it is to its item, its bytes, and a note.
+use Rattle.std.specs.Prelude.{ℕ, ◌==◌, Bool, true, false, List, [], ◌++◌, codes, length, nat_lt, Option, Some, None, if◌then◌else◌}
+use Rattle.std.specs.Fmt.{decimal}
+use Rattle.direction.specs.declared.Dir.{Dir}
+use Rattle.uds_message.specs.Message.{sid, response_code}
+use Rattle.trace_report.specs.declared.row.MessagePlace.{MessagePlace}
+use Rattle.trace_report.specs.declared.roles.MessageRole.{MessageRole}
+use Rattle.trace_report.specs.Targets.{identifier}
+use Rattle.trace_report.specs.declared.targets.Target.TheVariants as target
+use Rattle.trace_report.specs.Data.{data_text}
+use Rattle.trace_report.specs.Durations.{milliseconds_between, seconds_between}
+use Rattle.trace_text.specs.Words.{direction_text, service_text, code_text}
+use Rattle.trace_report.specs.Rows.{cell_front, cell_end}
+use Rattle.trace_report.specs.Roles.{begins_item, asked_at}
+use Rattle.trace_report.specs.declared.row.Arrow.TheVariants as arrow
+use Rattle.trace_report.specs.declared.roles.MessageRole.TheVariants as role
+
+-- the class of the style by which a message is shown: what it is to its item
+abbrev pub role_class : MessageRole → List ℕ
+role_class role.Request = codes "q"
+role_class (role.Positive asked) = codes "ok"
+role_class (role.Negative asked) = codes "n"
+role_class (role.Pending asked) = codes "p"
+role_class role.KeepAlive = codes "p"
+role_class role.Stray = codes "s"
+
+-- the number of an item as the header of its row, to which links lead or not
+abbrev pub item_header : Bool → ℕ → List ℕ
+item_header true number = codes "\" id=\"" ++ identifier (target.Item number) ++ codes "\"><th scope=\"row\">" ++ decimal number
+item_header false number = codes "\"><th scope=\"row\">" ++ decimal number
+
+-- the number of an item in a row that does not begin it
+abbrev pub item_repeated : ℕ → List ℕ
+item_repeated number = codes "\"><td>" ++ decimal number
+
+-- the number of its item in the row of a message of this role, to which links lead or not
+abbrev pub item_cell : Bool → MessageRole → ℕ → List ℕ
+item_cell linked is number = if begins_item is then item_header linked number else item_repeated number
+
+-- the lines of the log from one to a later one
+abbrev pub several_lines : ℕ → ℕ → List ℕ
+several_lines first last = decimal first ++ codes "&#8211;" ++ decimal last
+
+-- the lines of the log from one to another
+abbrev pub lines_text : ℕ → ℕ → List ℕ
+lines_text first last = if first == last then decimal first else several_lines first last
+
+-- the lines of the log from one to another, behind the word line or lines
+abbrev pub named_lines : ℕ → ℕ → List ℕ
+named_lines first last = if first == last then codes "line " ++ decimal first else codes "lines " ++ several_lines first last
+
+-- where a message stands: its item, its lines, and the time of its last frame since the time `origin`
+abbrev pub message_front : Bool → ℕ → MessageRole → MessagePlace → List ℕ
+message_front linked origin is place =
+    codes "<tr class=\"" ++ role_class is ++ item_cell linked is place.item ++ codes "<td>"
+    ++ lines_text place.first.line place.last.line ++ codes "<td>" ++ seconds_between origin place.last.micros
+
+-- a request, by the name of its service
+abbrev pub request_words : ℕ → List ℕ
+request_words service = codes "<b>" ++ service_text service ++ codes "</b> <i>request</i> "
+
+-- a negative answer, by the name of its response code
+abbrev pub negative_words : ℕ → List ℕ
+negative_words why = codes "<b>negative</b> <em>" ++ code_text why ++ codes "</em> "
+
+-- a message of no exchange, by the side that sent it
+abbrev pub stray_words : Dir → List ℕ
+stray_words d = codes "<b>stray</b> <i>from the " ++ direction_text d ++ codes "</i> "
+
+-- what a message is to its item, in words
+abbrev pub role_words : MessageRole → Dir → List ℕ → List ℕ
+role_words role.Request d bytes = request_words (sid bytes)
+role_words (role.Positive asked) d bytes = codes "<b>positive</b> "
+role_words (role.Negative asked) d bytes = negative_words (response_code bytes)
+role_words (role.Pending asked) d bytes = codes "<b>pending</b> "
+role_words role.KeepAlive d bytes = codes "<b>keep-alive</b> "
+role_words role.Stray d bytes = stray_words d
+
+-- how long after the last frame of its request the first frame of a reply came
+abbrev pub after_text : ℕ → ℕ → List ℕ
+after_text asked first = codes "after " ++ milliseconds_between asked first
+
+-- how long after its request a reply came, as a note by itself
+abbrev pub after_alone : ℕ → ℕ → List ℕ
+after_alone asked first = codes " <i>" ++ after_text asked first ++ codes "</i>"
+
+-- how long after its request a reply came, behind another note
+abbrev pub after_other : ℕ → ℕ → List ℕ
+after_other asked first = codes ", " ++ after_text asked first
+
+-- a note on a message of one frame: how long after its request it came, if it replies to one
+abbrev pub single_note : Option ℕ → ℕ → List ℕ
+single_note None first = []
+single_note (Some asked) first = after_alone asked first
+
+-- how long after its request a message came, behind another note, if it replies to one
+abbrev pub further_note : Option ℕ → ℕ → List ℕ
+further_note None first = []
+further_note (Some asked) first = after_other asked first
+
+-- a note on a message of several frames: how many bytes they carry, and how long after its request it came, if it replies to
+-- one
+abbrev pub frames_note : ℕ → ℕ → Option ℕ → ℕ → List ℕ
+frames_note count frames asked first =
+    codes "<br><i>" ++ decimal count ++ codes " bytes in " ++ decimal frames ++ codes " frames" ++ further_note asked first ++ codes "</i>"
+
+-- the note on a message of so many bytes, by how many frames carry it
+abbrev pub note_text : MessageRole → MessagePlace → ℕ → List ℕ
+note_text is place count =
+    if nat_lt 1 place.frames then frames_note count place.frames (asked_at is) place.first.micros else single_note (asked_at is) place.first.micros
+
+-- the full row of a message, where `origin` is the time of the first frame of the two sides
+abbrev pub message_row : ℕ → MessageRole → Dir → MessagePlace → List ℕ → List ℕ
+message_row origin is d place bytes =
+    message_front true origin is place ++ cell_front d ++ role_words is d bytes ++ data_text bytes ++ note_text is place (length bytes)
+    ++ cell_end d arrow.Headed

@@ -1,0 +1,12 @@
+-- The counts of the lines, with what stands and what is pending, are the summary.
+use Rattle.std.proofs.Common.{arith, ◌∙◌}
+use Rattle.isotp_receive.specs.declared.TheConstants.{MESSAGE_LIMIT}
+use Rattle.trace_log.specs.Messages.{messages_of_lines}
+use Rattle.trace_log.specs.Trace.{trace}
+use Rattle.trace_log.proofs.Promises.{summed_up}
+use Rattle.trace_run.proofs.receiver.Receiver.summary.Goals as goal
+
+pub returns : goal.returns
+returns g c = λ settings log meanings received feed judged.
+    summed_up settings log meanings c.args.self.now.pair c.args.self.now.lines c.saturating_add.result c.args.self.now.counts c.unfinished.result c.removed.result c.args.ends_in_line_feed c.look_exchanged.result received feed (omega arith) c.saturating_add.ensures
+    (c.unfinished.ensures (trace settings meanings) received.pair_is) (c.removed.ensures ∙ judged.counted.removed) (c.look_exchanged.ensures (messages_of_lines MESSAGE_LIMIT settings meanings) (c.sides.ensures ∙ judged.sides))
