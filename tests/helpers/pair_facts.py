@@ -130,13 +130,6 @@ def lines_of(one, other):
     return lines
 
 
-def is_marked(one, other):
-    """Whether two items that changed stand with other requests, and with answers that stand byte under byte."""
-    if isinstance(one, oracle.Stray):
-        return True, False
-    return one.request != other.request, one.answer is not None and other.answer is not None and one.answer != other.answer
-
-
 def look_of(came):
     """The look of a verdict: green where both sessions are the same without a doubt, and that has something to say."""
     ours, theirs = came.items

@@ -1,8 +1,8 @@
-//! A session through each call of `trace_report` and of `trace_pair`, over devices that only a test has. What whole pages are is tested over the built
-//! program, by `tests/pages/report.py` and `tests/pages/report_pairs.py`.
+//! A session through each call of `trace_report` and of `trace_pair`, over devices that only a test has. What whole pages are
+//! is tested over the built program, by `tests/pages/report.py` and `tests/pages/report_pairs.py`.
 
 use crate::calls::{CANONICAL, LOG, assert_session, byte_by_byte, failing, full, sides};
-use crate::rows::{assert_front, assert_text, shown};
+use crate::rows::{assert_front, assert_text, repeated, shown};
 use can_log::Id;
 use std::alloc::Global;
 use std::io::{Read, Write};
@@ -49,7 +49,7 @@ pub(crate) fn held<A: Read + Drop, B: Read + Drop>(
 }
 
 /// The same, side by side.
-fn aligned<A: Read + Drop, B: Read + Drop>(
+pub(crate) fn aligned<A: Read + Drop, B: Read + Drop>(
     alloc: Global,
     left: A,
     right: B,
@@ -117,11 +117,10 @@ fn two_sessions_are_held(rt: HostRuntime) -> Result<(), Fail> {
     let alloc = rt.alloc();
     let (answer, reads) = held(alloc, LOG.as_bytes(), byte_by_byte())?;
     let both = answer.or(Err("not held"))?;
-    assert!(rt; both.comparison() == Comparison::Same && reads == 213);
+    assert!(rt; reads == 213);
     assert!(rt; both.left().summary().frames == 5 && both.right().summary().messages == 2);
     let (answer, _) = held(alloc, LOG.as_bytes(), REQUEST.as_bytes())?;
     let both = answer.or(Err("not held"))?;
-    assert!(rt; both.comparison() == Comparison::Different { item: 0 });
     assert!(rt; both.left().summary().messages == 2 && both.right().summary().messages == 1);
     let (answer, reads) = held(alloc, failing(), byte_by_byte())?;
     assert!(rt; answer.err() == Some(CompareFault::Left(Fault::Read)) && reads == 0);
@@ -164,10 +163,22 @@ fn a_session_that_is_kept_is_printed(rt: HostRuntime) -> Result<(), Fail> {
     let left = shown(alloc, both.left())?;
     assert_text(&rt, "a session", left.as_str(), PRINTED);
     let right = shown(alloc, both.right())?;
-    let whole = format!(in alloc;
-        "Two {{ left: {left}, right: {right}, comparison: Different {{ item: 0 }} }}"
-    )?;
+    let whole = format!(in alloc; "Two {{ left: {left}, right: {right} }}")?;
     assert_text(&rt, "both", shown(alloc, &both)?.as_str(), whole.as_str());
+    Ok(())
+}
+
+#[test]
+fn two_sessions_are_compared(rt: HostRuntime) -> Result<(), Fail> {
+    let alloc = rt.alloc();
+    let both = aligned(alloc, LOG.as_bytes(), CANONICAL.as_bytes())?.or(Err("not aligned"))?;
+    assert!(rt; both.comparison() == Comparison::Same);
+    assert!(rt; both.two().left().summary().messages == 2);
+    let both = aligned(alloc, LOG.as_bytes(), REQUEST.as_bytes())?.or(Err("not aligned"))?;
+    assert!(rt; both.comparison() == Comparison::Different { item: 0 });
+    let more = repeated(alloc, REQUEST, 2)?;
+    let both = aligned(alloc, REQUEST.as_bytes(), more.as_bytes())?.or(Err("not aligned"))?;
+    assert!(rt; both.comparison() == Comparison::Different { item: 1 });
     Ok(())
 }
 

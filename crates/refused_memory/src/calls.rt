@@ -416,7 +416,7 @@ fn held(alloc: Global, session: Session) -> Result<Made, Fail> {
                     Err("a page of nothing")?
                 }
             }
-            Ok(aligned) if aligned.two().comparison() == Comparison::Same => {
+            Ok(aligned) if aligned.comparison() == Comparison::Same => {
                 page.assert_tells(b"The two sessions are the same")?;
                 return Ok(made);
             }

@@ -4,6 +4,7 @@ pub mod ByteWords
 pub mod ItemWords
 pub mod ToldItems
 pub mod Sessions
+pub mod Compared
 pub mod Losses
 pub mod ChangeWords
 pub mod Verdict

@@ -2,12 +2,15 @@
 ghost use Rattle.std.specs.Prelude.{◌≡◌, ◌+◌, IfOk, length};
 ghost use Rattle.uds_difference.specs.Bound.{bound_for};
 ghost use Rattle.uds_difference.specs.Rows.{is_shortest, rows_of};
+ghost use Rattle.trace_pair.specs.Compared.{comparison_in};
 ghost use Rattle.trace_pair.specs.Sessions.{values_in};
 
+use crate::comparing::comparison_of;
 use crate::sessions::{ItemsOf, Sessions};
 use crate::verdict::Found;
 use std::alloc::{AllocError, Global};
 use std::marker::Model;
+use trace_canon::Comparison;
 use trace_report::Two;
 use uds_difference::{Difference, bound_for};
 
@@ -46,6 +49,13 @@ impl Aligned {
         ensures { result.now ≡ self.now }
     {
         &self.two
+    }
+
+    /// What both sessions are to each other.
+    pub fn comparison(&self) -> Comparison
+        ensures { result ≡ comparison_in self.now }
+    {
+        comparison_of(self.found().rows)
     }
 
     /// Both sessions, by their rows.

@@ -1,5 +1,4 @@
 //! What stands above the first row of a change.
-ghost use Rattle.std.specs.Prelude.{◌≡◌};
 
 use crate::change_words::Tag;
 use crate::differ_words::DifferWords;

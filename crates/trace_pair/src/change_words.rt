@@ -1,5 +1,5 @@
 //! The changes of two sessions, in a list.
-ghost use Rattle.std.specs.Prelude.{◌≡◌, ◌+◌, ◌<◌, ◌≤◌, ◌^◌};
+ghost use Rattle.std.specs.Prelude.{◌+◌, ◌<◌, ◌^◌};
 ghost use Rattle.trace_pair.specs.ChangeWords.{IsSmall, change_line, items_range, run_words, what_text, where_link, where_text};
 ghost use Rattle.trace_pair.specs.Sessions.{left_items, right_items, values_in};
 

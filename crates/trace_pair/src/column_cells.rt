@@ -1,5 +1,5 @@
 //! A line of columns, as one log has it.
-ghost use Rattle.std.specs.Prelude.{◌≡◌, ◌+◌, ◌-◌, ◌≤◌, ◌<◌, ◌++◌, codes, length, take, drop};
+ghost use Rattle.std.specs.Prelude.{◌≡◌, ◌+◌, ◌-◌, ◌≤◌, ◌<◌, length, take, drop};
 ghost use Rattle.byte_columns.specs.Lines.{line, line_count};
 ghost use Rattle.trace_report.specs.Letters.{letters};
 ghost use Rattle.trace_pair.specs.ColumnLines.{bytes_in, cells, cells_behind, line_of, whose_text};

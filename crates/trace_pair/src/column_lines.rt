@@ -1,5 +1,5 @@
 //! Two messages byte under byte, in lines of sixteen columns.
-ghost use Rattle.std.specs.Prelude.{◌≡◌, ◌+◌, ◌-◌, ◌≤◌, ◌<◌};
+ghost use Rattle.std.specs.Prelude.{◌+◌, ◌-◌, ◌≤◌, ◌<◌};
 ghost use Rattle.std.specs.List.{flat_map, range_with_len};
 ghost use Rattle.trace_pair.specs.declared.column_lines.Sides.TheVariants.{Both};
 ghost use Rattle.byte_columns.specs.Lines.{folded, hidden, line_count, stretches};

@@ -1,7 +1,7 @@
 //! The page of two logs that lie in memory, gathered there. No device is asked.
 ghost use Rattle.std.specs.Prelude.{◌≡◌, Ok, IfOk, MatchResult};
 ghost use Rattle.isotp_receive.specs.declared.TheConstants.{MESSAGE_LIMIT};
-ghost use Rattle.trace_pair.specs.InMemory.{HasNoPairPage, HoldsInMemory, IsPairPageWith, counted_held};
+ghost use Rattle.trace_pair.specs.InMemory.{HasNoPairPage, KeepsInMemory, IsPairPageWith, counted_two};
 ghost use Rattle.trace_pair.specs.Page as Spec;
 ghost use Rattle.trace_pair.specs.Titles.{title_for, title_of};
 
@@ -56,19 +56,19 @@ pub fn pair_page(
 
 /// What two logs say, as [`keep_two`](trace_report::keep_two) answers it.
 fn keep_both(alloc: Global, config: &Config, left: &[u8], right: &[u8]) -> Result<Two, CompareFault>
-    ensures { HoldsInMemory MESSAGE_LIMIT config.now left.now right.now result }
+    ensures { KeepsInMemory MESSAGE_LIMIT config.now left.now right.now result }
 {
     keep_two(alloc, config, &mut Bytes::new(left), &mut Bytes::new(right))
 }
 
 /// The page of two logs that are kept, unless memory for it was refused.
 fn page_of(alloc: Global, title: &Title<'_>, two: Two) -> Result<CountedPage, NoPairPage>
-    ensures { MatchResult result (λ page. (page.text.items ≡ Spec.page_of (title_of title.now) two.left two.right) × (page.counted ≡ counted_held two)) (λ why. why ≡ NoPairPage.OfMemory) }
+    ensures { MatchResult result (λ page. (page.text.items ≡ Spec.page_of (title_of title.now) two.left two.right) × (page.counted ≡ counted_two two)) (λ why. why ≡ NoPairPage.OfMemory) }
 {
     let Ok(aligned) = Aligned::of(alloc, two) else {
         return Err(NoPairPage::OfMemory);
     };
-    let counted = counted_two(aligned.two());
+    let counted = counted_two(&aligned);
     match text_of(alloc, title, aligned) {
         Ok(text) => Ok(CountedPage { text, counted }),
         Err(_refused) => Err(NoPairPage::OfMemory),
@@ -88,11 +88,12 @@ fn text_of(alloc: Global, title: &Title<'_>, aligned: Aligned) -> Result<Vec<u8>
 }
 
 /// How two logs compare that are kept, and the counts of each.
-fn counted_two(two: &Two) -> CountedComparison
-    ensures { result ≡ counted_held two.now }
+fn counted_two(aligned: &Aligned) -> CountedComparison
+    ensures { result ≡ counted_two aligned.now }
 {
+    let two = aligned.two();
     CountedComparison {
-        comparison: two.comparison(),
+        comparison: aligned.comparison(),
         left: two.left().summary(),
         right: two.right().summary(),
     }

@@ -1,5 +1,5 @@
 //! The table of items: each row of both sessions once.
-ghost use Rattle.std.specs.Prelude.{◌≡◌, ◌+◌, ◌<◌, ◌^◌, ◌∷◌, List, length};
+ghost use Rattle.std.specs.Prelude.{◌≡◌, ◌+◌, ◌<◌, ◌∷◌, List, length};
 ghost use Rattle.uds_difference.specs.declared.row.Row.{Row as RowValue};
 ghost use Rattle.shown_rows.specs.Changes.{changes};
 ghost use Rattle.trace_pair.specs.ItemTables.{IsRoomy};

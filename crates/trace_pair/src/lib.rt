@@ -27,6 +27,7 @@ mod chart;
 mod column_cells;
 mod column_lines;
 mod column_words;
+mod comparing;
 mod dates;
 mod differ_words;
 mod differences;

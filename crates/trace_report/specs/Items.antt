@@ -1,5 +1,5 @@
 -- The items of a session by its rows: each with the message that begins it and its answer, in the order of the numbers that
--- `udsnorm list` gives them; and the items of two sessions side by side.
+-- `udsnorm list` gives them.
 use Rattle.std.specs.Prelude.{ℕ, ◌+◌, ◌-◌, ◌==◌, Bool, false, List, [], ◌∷◌, Option, Some, None, option_map, if◌then◌else◌}
 use Rattle.direction.specs.declared.Dir.{Dir}
 use Rattle.uds_exchange.specs.Meaning.{ItemValue, exchange, stray}
@@ -66,19 +66,6 @@ abbrev pub item_value : PlacedItemValue → ItemValue
 item_value item =
     if is_request_role item.begin.role then exchange item.begin.bytes (option_map (λ (reply : RowMessageValue). reply.bytes) item.answer)
     else stray item.begin.dir item.begin.bytes
-
--- What two sessions have of one number: an item each, or one of them has none.
-pub data ItemPairValue : Type 0 where
-  both : PlacedItemValue → PlacedItemValue → ItemPairValue
-  only_left : PlacedItemValue → ItemPairValue
-  only_right : PlacedItemValue → ItemPairValue
-
--- the items of two sessions, number by number
-abbrev pub pairs_of : List PlacedItemValue → List PlacedItemValue → List ItemPairValue
-pairs_of [] [] = []
-pairs_of (a ∷ left) [] = only_left a ∷ pairs_of left []
-pairs_of [] (b ∷ right) = only_right b ∷ pairs_of [] right
-pairs_of (a ∷ left) (b ∷ right) = both a b ∷ pairs_of left right
 
 -- an item begins with the row
 abbrev pub begins : RowValue → Bool

@@ -12,7 +12,7 @@ use trace_io::TextSink;
 use trace_text::Number;
 
 /// A block of so many rows ends before the next request.
-pub(crate) const FULL_BLOCK: u64 = 200;
+const FULL_BLOCK: u64 = 200;
 
 /// A block of so many rows ends before any row.
 const LARGEST_BLOCK: u64 = 1000;

@@ -170,7 +170,7 @@ impl Part for Identifiers {
 
 /// The links of the page, with what the first one and the one in the middle are called, and the notice of a page that breaks off.
 #[derive(Clone, Copy)]
-pub(crate) struct Notice(pub &'static str, pub &'static str);
+struct Notice(pub &'static str, pub &'static str);
 
 impl Part for Notice {
     ghost use Rattle.trace_report.specs.Front.{notice_with};

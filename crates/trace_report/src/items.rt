@@ -1,4 +1,4 @@
-//! The items of a session, lent, and those of two sessions side by side.
+//! The items of a session, lent.
 use crate::kept_rows::KeptMessage;
 
 /// A message of a session, lent.
@@ -13,12 +13,4 @@ pub struct RowMessage<'a> {
 pub struct PlacedItem<'a> {
     pub begin: RowMessage<'a>,
     pub answer: Option<RowMessage<'a>>,
-}
-
-/// What two sessions have of one number, lent.
-#[derive(Clone, Copy)]
-pub(crate) enum ItemPair<'a> {
-    Both(PlacedItem<'a>, PlacedItem<'a>),
-    OnlyLeft(PlacedItem<'a>),
-    OnlyRight(PlacedItem<'a>),
 }

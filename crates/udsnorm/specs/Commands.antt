@@ -36,8 +36,9 @@ use Rattle.trace_io.specs.declared.device.Source.{Ghosts as SourceGhosts}
 use Rattle.trace_io.specs.declared.device.Target.{Ghosts as TargetGhosts}
 use Rattle.trace_difference.specs.Written.{difference_text}
 use Rattle.trace_report.specs.Front.{page_title}
-use Rattle.trace_report.specs.Kept.{HasOwnFrame, KeepsTwo, TwoValue, comparison_in}
+use Rattle.trace_report.specs.Kept.{HasOwnFrame, KeepsTwo, TwoValue}
 use Rattle.trace_report.specs.Page.{refused_text, report_script}
+use Rattle.trace_pair.specs.Compared.{comparison_in}
 use Rattle.trace_pair.specs.Page.{cause_of_pair, page_of, pair_page}
 use Rattle.trace_pair.specs.Titles.{title_for}
 use Rattle.udsnorm.specs.Ending.{has_unclean}

@@ -24,7 +24,7 @@ use trace_difference::{Side, write_difference};
 use trace_io::{Source, Target};
 use trace_log::{CompareFault, Config, Fault, Summary};
 use trace_pair::{Aligned, Title, align_two, pair_style, write_pair_page};
-use trace_report::{RefusalCause, Two, cause_of};
+use trace_report::{RefusalCause, cause_of};
 use trace_run::Glimpse;
 use trace_text::Notation;
 use uds_difference::Difference;
@@ -289,17 +289,18 @@ fn answer_held(answer: &Result<Aligned, CompareFault>) -> Result<PairAnswer, Com
     ensures { result ≡ answer_held answer.now }
 {
     match answer {
-        Ok(aligned) => Ok(pair_held(aligned.two())),
+        Ok(aligned) => Ok(pair_held(aligned)),
         Err(fault) => Err(*fault),
     }
 }
 
 /// What two logs that are held are to each other, without what they say.
-fn pair_held(two: &Two) -> PairAnswer
-    ensures { result ≡ pair_held two.now }
+fn pair_held(aligned: &Aligned) -> PairAnswer
+    ensures { result ≡ pair_held aligned.now }
 {
+    let two = aligned.two();
     PairAnswer {
-        comparison: two.comparison(),
+        comparison: aligned.comparison(),
         left: two.left().summary(),
         right: two.right().summary(),
     }
