@@ -1,8 +1,18 @@
+pub mod Pieces
 pub mod Cells
 pub mod Stretches
 pub mod Tables
+pub mod Standings
+pub mod FoldParts
+pub mod ChartRows
+pub mod ChangeSteps
+pub mod ListedChanges
+pub mod LossyChanges
+pub mod LossPlaces
+pub mod LostRows
+pub mod Asking
 mod Beside
-mod Comparing
+mod FirstChanges
 mod Agreeing
 mod ToldOutcomes
 mod PagesInMemory

@@ -118,34 +118,41 @@ chart log marked item session =
 abbrev pub if_other : List ℕ → List ℕ → Option (List ℕ)
 if_other own other = if same_bytes own other then None else Some other
 
--- the answer beside which another is marked: both have the same outcome
-abbrev pub answer_if : Bool → Option RowMessageValue → Option RowMessageValue → Option (List ℕ)
-answer_if true (Some own) (Some other) = if_other own.bytes other.bytes
-answer_if _ _ _ = None
+-- the bytes of an answer beside which another is marked, where both have the same outcome
+abbrev pub answer_if : Option RowMessageValue → Option RowMessageValue → Bool → Option (List ℕ)
+answer_if (Some own) (Some other) same = if same then if_other own.bytes other.bytes else None
+answer_if _ _ same = None
+
+-- the answer of an item beside which that of another is marked: both have the same outcome
+abbrev pub answer_beside : PlacedItemValue → PlacedItemValue → Option (List ℕ)
+answer_beside own other =
+    answer_if own.answer other.answer (same_outcome (outcome_by own.begin.bytes own.answer) (outcome_by other.begin.bytes other.answer))
 
 -- the marks of an item, which has this number, beside the one that it changed to
 abbrev pub marks : ℕ → Option PlacedItemValue → Option PlacedItemValue → Option Marked
 marks number (Some own) (Some other) = Some (record {
   item = number;
   begin = if_other own.begin.bytes other.begin.bytes;
-  answer = answer_if (same_outcome (outcome_by own.begin.bytes own.answer) (outcome_by other.begin.bytes other.answer)) own.answer other.answer;
+  answer = answer_beside own other;
 })
 marks number own other = None
 
--- those of a change, in the left log and in the right one: only two items that changed have some
+-- a change is of two items that changed, and only these have marks, in the left log and in the right one
 abbrev pub is_changed : Row → Bool
 is_changed Same = false
 is_changed Changed = true
 is_changed OnlyLeft = false
 is_changed OnlyRight = false
 
+-- the item of a session at a place, if the change is of two items
+abbrev pub changed_item : Change → SessionValue → ℕ → Option PlacedItemValue
+changed_item here session place = if is_changed here.kind then slice_get (items_in session.rows) place else None
+
 abbrev pub left_marks : SessionValue → SessionValue → Change → Option Marked
-left_marks left right here =
-    if is_changed here.kind then marks (here.left + 1) (slice_get (items_in left.rows) here.left) (slice_get (items_in right.rows) here.right) else None
+left_marks left right here = marks (here.left + 1) (changed_item here left here.left) (changed_item here right here.right)
 
 abbrev pub right_marks : SessionValue → SessionValue → Change → Option Marked
-right_marks left right here =
-    if is_changed here.kind then marks (here.right + 1) (slice_get (items_in right.rows) here.right) (slice_get (items_in left.rows) here.left) else None
+right_marks left right here = marks (here.right + 1) (changed_item here right here.right) (changed_item here left here.left)
 
 -- a log's side
 abbrev pub side : Log → List ℕ → Option Marked → ℕ → SessionValue → List ℕ

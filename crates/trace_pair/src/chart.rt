@@ -11,9 +11,9 @@ use byte_columns::Beside;
 use text_parts::{Part, When, say};
 use trace_io::TextSink;
 use trace_report::{
-    Arrow, CellEnd, CellFront, ChartHead, Data, MessageFront, MessageRole, Note, RoleWords, Row,
-    Session, begins_item, has_word, is_answer_role, is_request_role, say_dropped_row,
-    say_ended_row, say_no_answer_row, say_unfinished_row,
+    Arrow, CellEnd, CellFront, ChartHead, Data, KeptRows, MessageFront, MessageRole, Note,
+    RoleWords, Row, Session, begins_item, has_word, is_answer_role, is_request_role,
+    say_dropped_row, say_ended_row, say_no_answer_row, say_unfinished_row,
 };
 use trace_text::Number;
 
@@ -44,7 +44,7 @@ pub(crate) fn say_chart<S: TextSink>(
     let to = rows.rows_before(item.saturating_add(3));
     let end = to.min(from.saturating_add(MOST_ROWS));
     say(out, ChartHead);
-    say_rows(log, marked, session, from, end, out);
+    say_rows(log, marked, session.first(), rows, from, end, out);
     say(
         out,
         (
@@ -62,18 +62,21 @@ pub(crate) fn say_chart<S: TextSink>(
 fn say_rows<S: TextSink>(
     log: Log,
     marked: Option<Marked<'_>>,
-    session: &Session,
+    origin: u64,
+    rows: &KeptRows,
     from: usize,
     to: usize,
     out: &mut S,
 )
-    ensures { S.says out.old (Spec.rows_text log (option_map marked_of marked.entry) session.now.first true (take (to - from) (drop from session.now.rows))) out.new }
+    ensures { S.says out.old (Spec.rows_text log (option_map marked_of marked.entry) origin true (take (to - from) (drop from rows.now))) out.new }
 {
     'rows: for at in from..to {
-        if let Some(row) = session.rows().row(at) {
-            say(out, When(at == from || begins_exchange(row), "<tbody>\n"));
-            say_row(log, marked, session.first(), row, out);
-        }
+        let Some(row) = rows.row(at) else {
+            return;
+        };
+        let begins = begins_exchange(row);
+        say(out, When(at == from || begins, "<tbody>\n"));
+        say_row(log, marked, origin, row, out);
     }
 }
 

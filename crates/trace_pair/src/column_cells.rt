@@ -1,5 +1,6 @@
 //! A line of columns, as one log has it.
 ghost use Rattle.std.specs.Prelude.{◌≡◌, ◌+◌, ◌-◌, ◌≤◌, ◌<◌, length, take, drop};
+ghost use Rattle.byte_columns.specs.Laws.{listed};
 ghost use Rattle.byte_columns.specs.Lines.{line, line_count};
 ghost use Rattle.trace_report.specs.Letters.{letters};
 ghost use Rattle.trace_pair.specs.ColumnLines.{bytes_in, cells, cells_behind, line_of, whose_text};
@@ -114,9 +115,16 @@ fn say_letters<S: TextSink>(log: Log, columns: &Beside<'_>, from: usize, to: usi
     ensures { S.says out.old (letters (bytes_in log (take (to - from) (drop from columns.now)))) out.new }
 {
     'columns: for at in from..to {
-        if let Some(byte) = byte_of(log, columns.column(at)) {
-            out.put(&[shown_byte(byte)]);
-        }
+        say_letter(byte_of(log, columns.column(at)), out);
+    }
+}
+
+/// Says a byte as a letter, if there is one.
+fn say_letter<S: TextSink>(byte: Option<u8>, out: &mut S)
+    ensures { S.says out.old (letters (listed byte)) out.new }
+{
+    if let Some(byte) = byte {
+        out.put(&[shown_byte(byte)]);
     }
 }
 

@@ -1,8 +1,9 @@
 //! The list of the differences.
-ghost use Rattle.std.specs.Prelude.{take};
+ghost use Rattle.std.specs.Prelude.{◌≡◌, ◌+◌, ◌<◌, ◌^◌, IfSome, take};
 ghost use Rattle.shown_rows.specs.Changes.{changes};
 ghost use Rattle.trace_pair.specs.ChangeWords.{IsSmall};
 ghost use Rattle.trace_pair.specs.Differences as Spec;
+ghost use Rattle.trace_pair.specs.proving.Changing.{count_if, line_if};
 
 use crate::change_words::{Unclean, say_change_line};
 use crate::losses::{left_lossy, right_lossy};
@@ -47,20 +48,40 @@ fn say_lines<S: TextSink>(sessions: Sessions<'_>, rows: &[Row], listed: usize, o
     let mut j: usize = 0;
     let mut number: usize = 1;
     'rows: for k in 0..rows.len() {
-        if let Some(change) = change_at(front, i, j, &rows[k..]) {
-            if number > listed {
-                return;
-            }
-            if number == OPEN + 1 {
-                say(out, MoreStart(listed.saturating_sub(OPEN)));
-            }
-            say_line(sessions, number, change, out);
-            number += 1;
+        if number > listed {
+            return;
         }
+        let change = change_at(front, i, j, &rows[k..]);
+        number = say_line_if(sessions, listed, number, change, out);
         front = rows[k];
         i += left_in(front);
         j += right_in(front);
     }
+}
+
+/// Says the change that has this number, of so many that are listed, if there is one, and what begins before it. Answers the
+/// number of the next one.
+fn say_line_if<S: TextSink>(
+    sessions: Sessions<'_>,
+    listed: usize,
+    number: usize,
+    change: Option<Change>,
+    out: &mut S,
+) -> usize
+    requires number { number < 2 ^ 63 }
+    requires change { IfSome change IsSmall }
+    ensures text { S.says out.old (line_if sessions.entry.left.now sessions.entry.right.now listed number change) out.new }
+    ensures next { result ≡ number + count_if change }
+{
+    let Some(change) = change else {
+        return number;
+    };
+    say(
+        out,
+        When(number == OPEN + 1, MoreStart(listed.saturating_sub(OPEN))),
+    );
+    say_line(sessions, number, change, out);
+    number + 1
 }
 
 /// Says the change of a number in a line, with a link to it.

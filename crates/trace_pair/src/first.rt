@@ -125,7 +125,9 @@ fn say_side<S: TextSink>(
 }
 
 /// The item of a session that changed, if the change is of two items.
-fn changed_item(change: Change, session: &Session, place: usize) -> Option<PlacedItem<'_>> {
+fn changed_item(change: Change, session: &Session, place: usize) -> Option<PlacedItem<'_>>
+    ensures { option_map item_of result ≡ Spec.changed_item change session.now place }
+{
     match change.kind {
         Row::Changed => session.rows().item(place),
         Row::Same | Row::OnlyLeft | Row::OnlyRight => None,
@@ -151,7 +153,9 @@ fn marks<'a>(
 }
 
 /// The answer beside which another is marked: both have the same outcome, and differ.
-fn answer_if<'a>(own: PlacedItem<'a>, other: PlacedItem<'a>) -> Option<&'a [u8]> {
+fn answer_if<'a>(own: PlacedItem<'a>, other: PlacedItem<'a>) -> Option<&'a [u8]>
+    ensures { option_map (λ bytes. bytes.now) result ≡ Spec.answer_beside (item_of own.entry) (item_of other.entry) }
+{
     let answer = own.answer?;
     let reply = other.answer?;
     if same_outcome(outcome_of(own), outcome_of(other)) {

@@ -93,13 +93,28 @@ fn say_fold_parts<S: TextSink>(
     let mut said: usize = 0;
     'parts: while said < count {
         let part = (count - said).min(MOST_ROWS);
-        say(out, "<details class=\"b\">\n<summary>");
-        say_both_ranges(left + said, right + said, part, out);
-        say(out, ("</summary>\n", TableStart));
-        say_same_rows(sessions, left + said, right + said, part, out);
-        say(out, "</table>\n</details>\n");
+        say_fold_part(sessions, left + said, right + said, part, out);
         said += part;
     }
+}
+
+/// Says a part of a long fold: so many items that are the same, from these places on.
+fn say_fold_part<S: TextSink>(
+    sessions: Sessions<'_>,
+    left: usize,
+    right: usize,
+    count: usize,
+    out: &mut S,
+)
+    requires left { left + count < 2 ^ 63 }
+    requires right { right + count < 2 ^ 63 }
+    ensures { S.says out.old (Spec.fold_part sessions.entry.left.now sessions.entry.right.now left right count) out.new }
+{
+    say(out, "<details class=\"b\">\n<summary>");
+    say_both_ranges(left, right, count, out);
+    say(out, ("</summary>\n", TableStart));
+    say_same_rows(sessions, left, right, count, out);
+    say(out, "</table>\n</details>\n");
 }
 
 /// Says the rows of so many items that are the same, from these places on.

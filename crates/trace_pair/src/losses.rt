@@ -1,13 +1,15 @@
 //! What is missing in a log, by the items that it belongs to.
-ghost use Rattle.std.specs.Prelude.{◌≡◌, ◌+◌, nat_lt};
-ghost use Rattle.trace_pair.specs.Losses.{first_row, losses_from, losses_of, losses_text};
+ghost use Rattle.std.specs.Prelude.{◌≡◌, ◌≤◌, ◌+◌, ◌-◌, drop, length, nat_lt, option_map, take};
+ghost use Rattle.std.specs.List.{flat_map};
+ghost use Rattle.trace_pair.specs.Losses.{first_row, loss_line, losses_from, losses_of, losses_text};
 ghost use Rattle.trace_pair.specs.Losses as Spec;
 ghost use Rattle.trace_pair.specs.Verdict as Verdict;
+ghost use Rattle.trace_pair.specs.proving.Losing.{loss_if, lost, lost_if};
 ghost use Rattle.trace_report.specs.proving.Pages.{row_of};
 
 use crate::log::{LetterMark, Log};
 use shown_rows::Change;
-use text_parts::{Part, say};
+use text_parts::{Part, When, say};
 use trace_io::TextSink;
 use trace_report::{
     DroppedWords, EndedWords, KeptRows, Row as SessionRow, Session, UnfinishedWords,
@@ -52,15 +54,29 @@ pub(crate) fn count_losses(session: &Session, item: usize, count: usize) -> usiz
 {
     let rows = session.rows();
     let (from, to) = stretch(rows, item, count);
+    count_lost(rows, from, to)
+}
+
+/// How many losses rows tell, from one place up to another.
+fn count_lost(rows: &KeptRows, from: usize, to: usize) -> usize
+    ensures { result ≡ length (lost (take (to - from) (drop from rows.now))) }
+{
     let mut losses: usize = 0;
     'rows: for at in from..to {
-        if let Some(row) = rows.row(at) {
-            if is_loss(row) {
-                losses += 1;
-            }
-        }
+        losses += lost_in(rows.row(at));
     }
     losses
+}
+
+/// How many losses a row tells, if there is one: one or none.
+fn lost_in(row: Option<SessionRow<'_>>) -> usize
+    ensures value { result ≡ lost_if (option_map row_of row.entry) }
+    ensures one { result ≤ 1 }
+{
+    let Some(row) = row else {
+        return 0;
+    };
+    if is_loss(row) { 1 } else { 0 }
 }
 
 /// Where the rows begin that belong to so many items, from this one on, and where they end.
@@ -99,28 +115,57 @@ pub(crate) fn say_losses<S: TextSink>(log: Log, session: &Session, item: usize, 
 {
     let rows = session.rows();
     let (from, to) = stretch(rows, item, 1);
+    let told = say_lost(log, rows, from, to, out);
+    say(out, MoreLosses(log, told));
+}
+
+/// Says the first twenty losses that rows tell, from one place up to another, and answers how many these tell.
+fn say_lost<S: TextSink>(log: Log, rows: &KeptRows, from: usize, to: usize, out: &mut S) -> usize
+    ensures text { S.says out.old (flat_map (loss_line log) (take 20 (lost (take (to - from) (drop from rows.now))))) out.new }
+    ensures count { result ≡ length (lost (take (to - from) (drop from rows.now))) }
+{
     let mut told: usize = 0;
     'rows: for at in from..to {
-        if let Some(row) = rows.row(at) {
-            if is_loss(row) {
-                if told < TOLD {
-                    say(out, LossLine(log, row));
-                }
-                told += 1;
-            }
-        }
+        let row = rows.row(at);
+        say_loss_if(log, told, row, out);
+        told += lost_in(row);
     }
-    if told > TOLD {
-        say(
-            out,
-            (
-                "<p class=\"lost\">and ",
-                Number((told - TOLD) as u64),
-                " more in ",
-                log,
-                "</p>",
-            ),
-        );
+    told
+}
+
+/// Says the loss that a row tells, if it tells one and fewer than twenty were told before.
+fn say_loss_if<S: TextSink>(log: Log, told: usize, row: Option<SessionRow<'_>>, out: &mut S)
+    ensures { S.says out.old (loss_if log told (option_map row_of row.entry)) out.new }
+{
+    if let Some(row) = row {
+        let shown = is_loss(row) && told < TOLD;
+        say(out, When(shown, LossLine(log, row)));
+    }
+}
+
+/// That there are more losses than twenty, where so many are there.
+#[derive(Clone, Copy)]
+struct MoreLosses(Log, usize);
+
+impl Part for MoreLosses {
+    ghost use Rattle.trace_pair.specs.Losses.{more_losses};
+
+    ghost text = { λ more. more_losses more.0 more.1 };
+
+    fn say<S: TextSink>(self, out: &mut S) {
+        let MoreLosses(log, count) = self;
+        if count > TOLD {
+            say(
+                out,
+                (
+                    "<p class=\"lost\">and ",
+                    Number((count - TOLD) as u64),
+                    " more in ",
+                    log,
+                    "</p>",
+                ),
+            );
+        }
     }
 }
 

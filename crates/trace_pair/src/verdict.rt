@@ -1,15 +1,17 @@
 //! The verdict of a page of two logs.
-ghost use Rattle.std.specs.Prelude.{◌≡◌, length};
+ghost use Rattle.std.specs.Prelude.{◌≡◌, ◌≤◌, ◌<◌, ◌+◌, ◌^◌, ◌||◌, length, slice_get};
 ghost use Rattle.std.specs.List.{list_any};
 ghost use Rattle.shown_rows.specs.Changes.{changes};
 ghost use Rattle.trace_pair.specs.Sessions.{values_in};
 ghost use Rattle.trace_pair.specs.Verdict as Spec;
+ghost use Rattle.trace_pair.specs.proving.Changing.{asks_if, count_if, left_lossy_if, lossy_if, right_lossy_if};
+ghost use Rattle.uds_exchange.specs.ItemSeen.{item_value};
 
 use crate::losses::{left_lossy, right_lossy};
 use crate::same_words::{NothingVerdict, SameHeading, SameItems};
 use crate::sessions::{Sessions, item_at};
 use crate::verdict_words::{DifferentHeading, LossLine, SizeLine};
-use shown_rows::{change_at, count_changes, count_of, differs, left_in, right_in};
+use shown_rows::{Change, change_at, count_changes, count_of, differs, left_in, right_in};
 use text_parts::{When, say};
 use trace_io::TextSink;
 use trace_report::Session;
@@ -91,12 +93,33 @@ fn say_same<S: TextSink>(count: usize, sessions: Sessions<'_>, out: &mut S)
 fn has_request(session: &Session) -> bool
     ensures { result ≡ list_any Spec.is_exchange (values_in session.now) }
 {
-    'items: for at in 0..session.rows().items() {
-        if let Some(Item::Exchange { .. }) = item_at(session, at) {
+    let count = session.rows().items();
+    'places: for at in 0..count {
+        if asks_at(session, at) {
             return true;
         }
     }
     false
+}
+
+/// Whether the item of a session at a place is an exchange, if there is one.
+fn asks_at(session: &Session, at: usize) -> bool
+    ensures { result ≡ asks_if (slice_get (values_in session.now) at) }
+{
+    match item_at(session, at) {
+        Some(item) => is_exchange(item),
+        None => false,
+    }
+}
+
+/// Whether an item is an exchange.
+fn is_exchange(item: Item<'_>) -> bool
+    ensures { result ≡ Spec.is_exchange (item_value item.entry) }
+{
+    match item {
+        Item::Exchange { .. } => true,
+        Item::Stray { .. } => false,
+    }
 }
 
 /// At how many changes a log is not clean, and which.
@@ -111,15 +134,28 @@ fn losses_at_changes(rows: &[Row], sessions: Sessions<'_>) -> LossLine
     let mut i: usize = 0;
     let mut j: usize = 0;
     'rows: for k in 0..rows.len() {
-        if let Some(change) = change_at(front, i, j, &rows[k..]) {
-            line = line.with(
-                left_lossy(sessions.left, change),
-                right_lossy(sessions.right, change),
-            );
-        }
+        line = with_change(line, sessions, change_at(front, i, j, &rows[k..]));
         front = rows[k];
         i += left_in(front);
         j += right_in(front);
     }
     line
+}
+
+/// With what is missing at a change, if there is one.
+fn with_change(line: LossLine, sessions: Sessions<'_>, change: Option<Change>) -> LossLine
+    requires small { line.all + 1 < 2 ^ 63 }
+    requires few { line.lossy ≤ line.all }
+    ensures lossy { result.lossy ≡ lossy_if sessions.entry.left.now sessions.entry.right.now change + line.lossy }
+    ensures all { result.all ≡ line.all + count_if change }
+    ensures left { result.left ≡ (left_lossy_if sessions.entry.left.now change || line.left) }
+    ensures right { result.right ≡ (right_lossy_if sessions.entry.right.now change || line.right) }
+{
+    match change {
+        Some(change) => line.with(
+            left_lossy(sessions.left, change),
+            right_lossy(sessions.right, change),
+        ),
+        None => line,
+    }
 }

@@ -1,5 +1,5 @@
 //! The words of a verdict over two sessions.
-ghost use Rattle.std.specs.Prelude.{◌≡◌, ◌+◌, ◌<◌, ◌≤◌, ◌^◌, ◌||◌, if◌then◌else◌};
+ghost use Rattle.std.specs.Prelude.{◌≡◌, ◌+◌, ◌<◌, ◌≤◌, ◌^◌, ◌||◌, false, if◌then◌else◌};
 
 use text_parts::{Either, Part, When, say};
 use trace_io::TextSink;
@@ -135,6 +135,8 @@ impl LossLine {
     pub(crate) fn none() -> LossLine
         ensures lossy { result.lossy ≡ 0 }
         ensures all { result.all ≡ 0 }
+        ensures left { result.left ≡ false }
+        ensures right { result.right ≡ false }
     {
         LossLine {
             lossy: 0,
@@ -150,8 +152,8 @@ impl LossLine {
         requires few { self.lossy ≤ self.all }
         ensures lossy { result.lossy ≡ (if left || right then 1 else 0) + self.lossy }
         ensures all { result.all ≡ self.all + 1 }
-        ensures left { result.left ≡ (self.left || left) }
-        ensures right { result.right ≡ (self.right || right) }
+        ensures left { result.left ≡ (left || self.left) }
+        ensures right { result.right ≡ (right || self.right) }
     {
         LossLine {
             lossy: if left || right {
@@ -160,8 +162,8 @@ impl LossLine {
                 self.lossy
             },
             all: self.all + 1,
-            left: self.left || left,
-            right: self.right || right,
+            left: left || self.left,
+            right: right || self.right,
         }
     }
 }

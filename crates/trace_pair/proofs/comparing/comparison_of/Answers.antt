@@ -1,6 +1,6 @@
 -- Where one row is not the same, and each before it is, the sessions differ first there.
 use Rattle.std.proofs.Common.{sym, ◌∙◌}
-use Rattle.trace_pair.proofs.Comparing.{all-same, none-looked-at, one-differs, one-same}
+use Rattle.trace_pair.proofs.FirstChanges.{all-same, none-looked-at, one-differs, one-same}
 use Rattle.trace_pair.proofs.comparing.comparison_of.Goals as goal
 
 pub rows-init : goal.rows-init

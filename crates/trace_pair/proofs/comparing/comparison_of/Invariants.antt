@@ -1,4 +1,4 @@
-use Rattle.trace_pair.proofs.Comparing.{AreSameUpTo}
+use Rattle.trace_pair.proofs.FirstChanges.{AreSameUpTo}
 use Rattle.trace_pair.proofs.comparing.comparison_of.Given as goal
 
 abbrev pub invariant-rows : goal.invariant-rows
