@@ -10,6 +10,7 @@ pub mod ListedChanges
 pub mod LossyChanges
 pub mod LossPlaces
 pub mod LostRows
+pub mod ChartPlaces
 pub mod Asking
 mod Beside
 mod FirstChanges

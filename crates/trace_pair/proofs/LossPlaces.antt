@@ -74,7 +74,7 @@ before-within item (row ∷ rows) = elim (cases_Bool (begins row)) [
         let is = ap (λ (m : ℕ). rows_before m (row ∷ rows)) next ∙ begins-next row rows n begun in
         omega (arith, is, before-within n rows)
 
-before-up : (item : ℕ) (rows : List RowValue) → rows_before item rows ≤ rows_before (item + 1) rows
+pub before-up : (item : ℕ) (rows : List RowValue) → rows_before item rows ≤ rows_before (item + 1) rows
 before-up item [] = omega arith
 before-up item (row ∷ rows) = elim (cases_Bool (begins row)) [
   | inl begun ↦ of-begun item begun
@@ -91,7 +91,7 @@ before-up item (row ∷ rows) = elim (cases_Bool (begins row)) [
         omega (arith, is, later, again, before-up n rows)
 
 -- all rows stand before an item that is not there
-before-all : (item : ℕ) (rows : List RowValue) → length rows ≤ item → rows_before item rows ≡ length rows
+pub before-all : (item : ℕ) (rows : List RowValue) → length rows ≤ item → rows_before item rows ≡ length rows
 before-all item [] past = refl
 before-all item (row ∷ rows) past = elim (cases_Bool (begins row)) [
   | inl begun ↦ of-begun item past begun
@@ -241,7 +241,7 @@ losses-counted rows item (suc more) =
     let whole = ap (λ (n : ℕ). length (lost (piece a (first_row n rows) rows))) same in
     omega (arith, one, others, joined, parted, sum, whole)
 
--- the rows end before
-pub first-past : (item other : ℕ) (rows : List RowValue) → length rows ≤ item → length rows ≤ other → 0 < item → 0 < other → first_row item rows ≡ first_row other rows
-first-past item other rows past too some many =
-    first-some item rows some ∙ before-all item rows past ∙ sym (first-some other rows many ∙ before-all other rows too)
+-- all rows stand before those of an item that is not there
+pub first-all : (item : ℕ) (rows : List RowValue) → length rows ≤ item → first_row item rows ≡ length rows
+first-all zero rows past = omega (arith, past)
+first-all (suc n) rows past = first-some (suc n) rows (omega arith) ∙ before-all (suc n) rows past

@@ -84,10 +84,8 @@ fn stretch(rows: &KeptRows, item: usize, count: usize) -> (usize, usize)
     ensures from { result.0 ≡ first_row item rows.now }
     ensures to { result.1 ≡ first_row (item + count) rows.now }
 {
-    (
-        first_row(rows, item),
-        first_row(rows, item.saturating_add(count)),
-    )
+    let end = item.saturating_add(count).min(rows.len());
+    (first_row(rows, item), first_row(rows, end))
 }
 
 /// How many rows stand before those that belong to an item: what stands before the first one belongs to that.
