@@ -67,11 +67,11 @@ still-same rows k i j left right d found below is none left_is right_is so_far =
 
 run-within : (kind : Row) (rows : List Row) → run_length kind rows ≤ length rows
 run-within kind [] = omega arith
-run-within kind (row ∷ rows) = by (same_row kind row)
+run-within kind (row ∷ rows) = by (same_row kind row) (run-within kind rows)
   where
-    by : (is : Bool) → (if is then suc (run_length kind rows) else 0) ≤ suc (length rows)
-    by true = omega (arith, run-within kind rows)
-    by false = omega arith
+    by : (is : Bool) → run_length kind rows ≤ length rows → (if is then suc (run_length kind rows) else 0) ≤ suc (length rows)
+    by true rest = omega (arith, rest)
+    by false rest = omega arith
 
 change-within : (row : Row) (later : List Row) → change_length row later ≤ suc (length later)
 change-within Same later = omega (arith, run-within Same later)

@@ -44,10 +44,10 @@ own-with false own row rest is = refl
 -- Where items begin.
 
 module _ (row : RowValue) (rows : List RowValue) where
-  begins-first : begins row ≡ true → rows_before 0 (row ∷ rows) ≡ 0
+  pub begins-first : begins row ≡ true → rows_before 0 (row ∷ rows) ≡ 0
   begins-first begun = ap (λ (b : Bool). if b then 0 else 1 + rows_before 0 rows) begun
 
-  begins-next : (item : ℕ) → begins row ≡ true → rows_before (item + 1) (row ∷ rows) ≡ suc (rows_before item rows)
+  pub begins-next : (item : ℕ) → begins row ≡ true → rows_before (item + 1) (row ∷ rows) ≡ suc (rows_before item rows)
   begins-next item begun =
       let later : (item + 1 == 0) ≡ false = ne_eqb (item + 1) 0 (λ same. omega arith) in
       let less : item + 1 - 1 ≡ item = omega arith in
@@ -55,7 +55,7 @@ module _ (row : RowValue) (rows : List RowValue) where
       ap (λ (b : Bool). if b then (if item + 1 == 0 then 0 else 1 + rows_before (item + 1 - 1) rows) else 1 + rows_before (item + 1) rows) begun
       ∙ ap (λ (b : Bool). if b then 0 else 1 + rows_before (item + 1 - 1) rows) later ∙ ap (λ (n : ℕ). 1 + rows_before n rows) less ∙ one
 
-  begins-none : (item : ℕ) → begins row ≡ false → rows_before item (row ∷ rows) ≡ suc (rows_before item rows)
+  pub begins-none : (item : ℕ) → begins row ≡ false → rows_before item (row ∷ rows) ≡ suc (rows_before item rows)
   begins-none item begun =
       let one : 1 + rows_before item rows ≡ suc (rows_before item rows) = omega arith in
       ap (λ (b : Bool). if b then (if item == 0 then 0 else 1 + rows_before (item - 1) rows) else 1 + rows_before item rows) begun ∙ one
@@ -63,47 +63,48 @@ module _ (row : RowValue) (rows : List RowValue) where
 pub before-within : (item : ℕ) (rows : List RowValue) → rows_before item rows ≤ length rows
 before-within item [] = omega arith
 before-within item (row ∷ rows) = elim (cases_Bool (begins row)) [
-  | inl begun ↦ of-begun item begun
+  | inl begun ↦ of-begun item (λ n. before-within n rows) begun
   | inr none ↦ omega (arith, begins-none row rows item none, before-within item rows)
 ]
   where
-    of-begun : (item : ℕ) → begins row ≡ true → rows_before item (row ∷ rows) ≤ suc (length rows)
-    of-begun zero begun = omega (arith, begins-first row rows begun)
-    of-begun (suc n) begun =
+    of-begun : (item : ℕ) → ((n : ℕ) → rows_before n rows ≤ length rows) → begins row ≡ true → rows_before item (row ∷ rows) ≤ suc (length rows)
+    of-begun zero rest begun = omega (arith, begins-first row rows begun)
+    of-begun (suc n) rest begun =
         let next : suc n ≡ n + 1 = omega arith in
         let is = ap (λ (m : ℕ). rows_before m (row ∷ rows)) next ∙ begins-next row rows n begun in
-        omega (arith, is, before-within n rows)
+        omega (arith, is, rest n)
 
 pub before-up : (item : ℕ) (rows : List RowValue) → rows_before item rows ≤ rows_before (item + 1) rows
 before-up item [] = omega arith
 before-up item (row ∷ rows) = elim (cases_Bool (begins row)) [
-  | inl begun ↦ of-begun item begun
+  | inl begun ↦ of-begun item (λ n. before-up n rows) begun
   | inr none ↦ omega (arith, begins-none row rows item none, begins-none row rows (item + 1) none, before-up item rows)
 ]
   where
-    of-begun : (item : ℕ) → begins row ≡ true → rows_before item (row ∷ rows) ≤ rows_before (item + 1) (row ∷ rows)
-    of-begun zero begun = omega (arith, begins-first row rows begun)
-    of-begun (suc n) begun =
+    of-begun : (item : ℕ) → ((n : ℕ) → rows_before n rows ≤ rows_before (n + 1) rows) → begins row ≡ true → rows_before item (row ∷ rows) ≤ rows_before (item + 1) (row ∷ rows)
+    of-begun zero rest begun = omega (arith, begins-first row rows begun)
+    of-begun (suc n) rest begun =
         let next : suc n ≡ n + 1 = omega arith in
         let is = ap (λ (m : ℕ). rows_before m (row ∷ rows)) next ∙ begins-next row rows n begun in
         let later = begins-next row rows (suc n) begun in
         let again = ap (λ (m : ℕ). rows_before m rows) next in
-        omega (arith, is, later, again, before-up n rows)
+        omega (arith, is, later, again, rest n)
 
 -- all rows stand before an item that is not there
 pub before-all : (item : ℕ) (rows : List RowValue) → length rows ≤ item → rows_before item rows ≡ length rows
 before-all item [] past = refl
 before-all item (row ∷ rows) past = elim (cases_Bool (begins row)) [
-  | inl begun ↦ of-begun item past begun
+  | inl begun ↦ of-begun item (λ n. before-all n rows) past begun
   | inr none ↦ omega (arith, begins-none row rows item none, before-all item rows (omega (arith, past)))
 ]
   where
-    of-begun : (item : ℕ) → suc (length rows) ≤ item → begins row ≡ true → rows_before item (row ∷ rows) ≡ suc (length rows)
-    of-begun zero past begun = absurd (omega (arith, past))
-    of-begun (suc n) past begun =
+    of-begun : (item : ℕ) → ((n : ℕ) → length rows ≤ n → rows_before n rows ≡ length rows) → suc (length rows) ≤ item → begins row ≡ true
+        → rows_before item (row ∷ rows) ≡ suc (length rows)
+    of-begun zero rest past begun = absurd (omega (arith, past))
+    of-begun (suc n) rest past begun =
         let next : suc n ≡ n + 1 = omega arith in
         let is = ap (λ (m : ℕ). rows_before m (row ∷ rows)) next ∙ begins-next row rows n begun in
-        omega (arith, is, before-all n rows (omega (arith, past)))
+        omega (arith, is, rest n (omega (arith, past)))
 
 -- The rows of an item.
 
@@ -112,7 +113,7 @@ abbrev pub piece : ℕ → ℕ → List RowValue → List RowValue
 piece from to rows = take (to - from) (drop from rows)
 
 module _ (row : RowValue) (rows : List RowValue) (from to : ℕ) where
-  piece-behind : piece (suc from) (suc to) (row ∷ rows) ≡ piece from to rows
+  pub piece-behind : piece (suc from) (suc to) (row ∷ rows) ≡ piece from to rows
   piece-behind = let same : suc to - suc from ≡ to - from = omega arith in ap (λ (n : ℕ). take n (drop from rows)) same
 
 piece-with : (row : RowValue) (rows : List RowValue) (to : ℕ) → piece 0 (suc to) (row ∷ rows) ≡ row ∷ piece 0 to rows
@@ -168,7 +169,8 @@ before : (begun item more : ℕ) (rows : List RowValue) → begun + more ≡ ite
 before begun item more [] is some = refl
 before begun item more (row ∷ rows) is some =
     elim (cases_Bool (begins row)) [
-      | inl next ↦ no-loss-with (is_loss row) (begun - 1 == item) row (losses_behind (begun + count_begun row) item rows) (no-loss row next) ∙ of-begun more is next
+      | inl next ↦ no-loss-with (is_loss row) (begun - 1 == item) row (losses_behind (begun + count_begun row) item rows) (no-loss row next)
+          ∙ of-begun more (λ n e. before (begun + count_begun row) item n rows e some) is next
       | inr none ↦
           let other : (begun - 1 == item) ≡ false = ne_eqb (begun - 1) item (λ same. omega arith) in
           other-with (is_loss row) (begun - 1 == item) row (losses_behind (begun + count_begun row) item rows) other
@@ -177,17 +179,19 @@ before begun item more (row ∷ rows) is some =
           ∙ piece-behind row rows (rows_before more rows) (rows_before (more + 1) rows)))
     ]
   where
-    of-begun : (more : ℕ) → begun + more ≡ item → begins row ≡ true
+    of-begun : (more : ℕ)
+        → ((n : ℕ) → begun + count_begun row + n ≡ item → losses_behind (begun + count_begun row) item rows ≡ lost (piece (rows_before n rows) (rows_before (n + 1) rows) rows))
+        → begun + more ≡ item → begins row ≡ true
         → losses_behind (begun + count_begun row) item rows ≡ lost (piece (rows_before more (row ∷ rows)) (rows_before (more + 1) (row ∷ rows)) (row ∷ rows))
-    of-begun zero is next =
+    of-begun zero rest is next =
         inside (begun + count_begun row) item rows (omega (arith, is, one-begun row next))
         ∙ sym (ap lost ((λ i. piece (begins-first row rows next i) (begins-next row rows 0 next i) (row ∷ rows)) ∙ piece-with row rows (rows_before 0 rows))
         ∙ ap (λ (loss : Bool). if loss then row ∷ lost (piece 0 (rows_before 0 rows) rows) else lost (piece 0 (rows_before 0 rows) rows)) (no-loss row next))
-    of-begun (suc n) is next =
+    of-begun (suc n) rest is next =
         let up : suc n ≡ n + 1 = omega arith in
         let from = ap (λ (m : ℕ). rows_before m (row ∷ rows)) up ∙ begins-next row rows n next in
         let to = begins-next row rows (suc n) next ∙ ap (λ (m : ℕ). suc (rows_before m rows)) up in
-        before (begun + count_begun row) item n rows (omega (arith, is, one-begun row next)) some
+        rest n (omega (arith, is, one-begun row next))
         ∙ sym (ap lost ((λ i. piece (from i) (to i) (row ∷ rows)) ∙ piece-behind row rows (rows_before n rows) (rows_before (n + 1) rows)))
 
 -- Of one item, and of several.
@@ -203,11 +207,12 @@ losses-are-lost rows (suc n) =
 
 lost-joined : (xs ys : List RowValue) → lost (xs ++ ys) ≡ lost xs ++ lost ys
 lost-joined [] ys = refl
-lost-joined (row ∷ xs) ys = by (is_loss row)
+lost-joined (row ∷ xs) ys = by (is_loss row) (lost-joined xs ys)
   where
-    by : (loss : Bool) → (if loss then row ∷ lost (xs ++ ys) else lost (xs ++ ys)) ≡ (if loss then row ∷ lost xs else lost xs) ++ lost ys
-    by true = ap (λ (l : List RowValue). row ∷ l) (lost-joined xs ys)
-    by false = lost-joined xs ys
+    by : (loss : Bool) → lost (xs ++ ys) ≡ lost xs ++ lost ys
+        → (if loss then row ∷ lost (xs ++ ys) else lost (xs ++ ys)) ≡ (if loss then row ∷ lost xs else lost xs) ++ lost ys
+    by true rest = ap (λ (l : List RowValue). row ∷ l) rest
+    by false rest = rest
 
 first-up : (item : ℕ) (rows : List RowValue) → first_row item rows ≤ first_row (item + 1) rows
 first-up zero rows = omega arith
