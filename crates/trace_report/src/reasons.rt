@@ -10,7 +10,7 @@ use trace_text::Number;
 /// Each reason why a recording is not called clean: of one that is not clean what `--strict` tells of it; and what that means for
 /// the messages.
 #[derive(Clone, Copy)]
-pub struct UncleanReasons<'a>(pub &'a Summary);
+pub(crate) struct UncleanReasons<'a>(pub &'a Summary);
 
 impl<'a> Part for UncleanReasons<'a> {
     ghost use Rattle.trace_report.specs.Verdict.{unclean_reasons};
