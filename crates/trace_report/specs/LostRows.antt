@@ -78,28 +78,38 @@ cause_words cause.Late = codes "its next frame came after more than 1 s"
 cause_words cause.Sequence = codes "a frame is missing, came twice or out of order"
 cause_words cause.Length = codes "a frame has another length than its first one"
 
+-- a frame of this side that was dropped, in words
+abbrev pub dropped_words : Dir → Reason → List ℕ
+dropped_words d why = codes "<b>dropped</b> <i>" ++ direction_text d ++ codes " frame:</i> <em>" ++ reason_text why ++ codes "</em>" ++ reason_words why
+
 -- the row of a frame that was dropped, to which links lead or not
 abbrev pub dropped_row : Bool → ℕ → FramePlace → Dir → Reason → List ℕ
-dropped_row linked origin place d why =
-    frame_front linked origin place ++ cell_front d ++ codes "<b>dropped</b> <i>" ++ direction_text d ++ codes " frame:</i> <em>" ++ reason_text why
-    ++ codes "</em>" ++ reason_words why ++ cell_end d arrow.Crossed
+dropped_row linked origin place d why = frame_front linked origin place ++ cell_front d ++ dropped_words d why ++ cell_end d arrow.Crossed
 
 -- a message of this direction that is not whole: where it began, and how many bytes were announced
 abbrev pub partial_text : Dir → ℕ → ℕ → List ℕ
 partial_text d line len = direction_text d ++ codes " message from line " ++ decimal line ++ codes ", " ++ decimal len ++ codes " bytes announced:"
 
+-- a reception that ended, in words
+abbrev pub ended_words : Ended → List ℕ
+ended_words end =
+    codes "<b>ended</b> <i>" ++ partial_text end.dir end.begun_line end.len ++ codes "</i> <em>" ++ cause_text end.cause ++ codes "</em> <i>"
+    ++ cause_words end.cause ++ codes "</i>"
+
 -- the row of a frame that ended a reception, to which links lead or not
 abbrev pub ended_row : Bool → ℕ → FramePlace → Ended → List ℕ
 ended_row linked origin place end =
-    frame_front linked origin place ++ cell_front end.dir ++ codes "<b>ended</b> <i>" ++ partial_text end.dir end.begun_line end.len
-    ++ codes "</i> <em>" ++ cause_text end.cause ++ codes "</em> <i>" ++ cause_words end.cause ++ codes "</i>" ++ cell_end end.dir arrow.Barred
+    frame_front linked origin place ++ cell_front end.dir ++ ended_words end ++ cell_end end.dir arrow.Barred
 
 -- the identifier of what stands of a side at the end of the log, where links lead to this row
 abbrev pub side_target : Bool → Dir → List ℕ
 side_target linked d = if linked then codes " id=\"" ++ identifier (target.Side d) ++ codes "\"" else []
 
+-- a reception that stands at the end of the log, in words
+abbrev pub unfinished_words : Dir → ℕ → ℕ → List ℕ
+unfinished_words d line len = codes "<b>unfinished</b> <i>" ++ partial_text d line len ++ codes " the log ends before its last frame</i>"
+
 -- the row of a reception that stands at the end of the log, to which links lead or not
 abbrev pub unfinished_row : Bool → Dir → ℕ → ℕ → List ℕ
 unfinished_row linked d line len =
-    codes "<tr class=\"x\"" ++ side_target linked d ++ codes "><td><td><td>" ++ cell_front d ++ codes "<b>unfinished</b> <i>" ++ partial_text d line len
-    ++ codes " the log ends before its last frame</i>" ++ cell_end d arrow.Barred
+    codes "<tr class=\"x\"" ++ side_target linked d ++ codes "><td><td><td>" ++ cell_front d ++ unfinished_words d line len ++ cell_end d arrow.Barred

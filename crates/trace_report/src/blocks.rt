@@ -12,7 +12,7 @@ use trace_io::TextSink;
 use trace_text::Number;
 
 /// A block of so many rows ends before the next request.
-pub(crate) const FULL_BLOCK: u64 = 200;
+const FULL_BLOCK: u64 = 200;
 
 /// A block of so many rows ends before any row.
 const LARGEST_BLOCK: u64 = 1000;
@@ -174,7 +174,7 @@ impl Part for BlockEnd {
 
 /// The head of a table of rows: the names of its columns.
 #[derive(Clone, Copy)]
-pub(crate) struct ChartHead;
+pub struct ChartHead;
 
 impl Part for ChartHead {
     ghost use Rattle.trace_report.specs.Blocks.{chart_head};

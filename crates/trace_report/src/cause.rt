@@ -130,7 +130,7 @@ fn row_of_look(look: Look) -> CauseRow
 
 /// The line of the cause of a refusal, where one is known.
 #[derive(Clone, Copy)]
-pub(crate) struct CauseLine(pub Option<RefusalCause>);
+pub struct CauseLine(pub Option<RefusalCause>);
 
 impl Part for CauseLine {
     ghost use Rattle.trace_report.specs.Causes.{cause_line};

@@ -10,16 +10,16 @@ use trace_io::TextSink;
 use trace_text::{Byte, Number};
 
 /// All bytes of a message are shown where these are not more.
-pub(crate) const MOST_SHOWN: usize = 64;
+const MOST_SHOWN: usize = 64;
 
 /// The bytes of a message behind the first ones are folded where it has not more than so many, and else not shown.
 const MOST_FOLDED: usize = 512;
 
 /// So many bytes of a message are its first ones.
-pub(crate) const SHOWN_FIRST: usize = 32;
+const SHOWN_FIRST: usize = 32;
 
 /// Says a blank and two digits for each byte: of eight bytes at once, as long as there are eight.
-pub(crate) fn say_bytes_behind<S: TextSink>(bytes: &[u8], out: &mut S)
+fn say_bytes_behind<S: TextSink>(bytes: &[u8], out: &mut S)
     ensures { S.says out.old (bytes_behind bytes.now) out.new }
 {
     let mut rest = bytes;
@@ -78,10 +78,10 @@ fn eight_behind(bytes: &[u8; 8]) -> [u8; 24]
 
 /// Two digits for each byte, and a blank between.
 #[derive(Clone, Copy)]
-struct BytesApart<'a>(&'a [u8]);
+pub struct BytesApart<'a>(pub &'a [u8]);
 
 impl<'a> Part for BytesApart<'a> {
-    ghost use Rattle.trace_report.specs.Data.{bytes_apart};
+    ghost use Rattle.trace_report.specs.Data.{bytes_apart, more_words, data_text, brief_data};
 
     ghost text = { λ bytes. bytes_apart bytes.0.now };
 
@@ -95,11 +95,9 @@ impl<'a> Part for BytesApart<'a> {
 
 /// The bytes of a message, as far as its row shows them.
 #[derive(Clone, Copy)]
-pub(crate) struct Data<'a>(pub &'a [u8]);
+pub struct Data<'a>(pub &'a [u8]);
 
 impl<'a> Part for Data<'a> {
-    ghost use Rattle.trace_report.specs.Data.{data_text};
-
     ghost text = { λ bytes. data_text bytes.0.now };
 
     fn say<S: TextSink>(self, out: &mut S) {
@@ -148,8 +146,6 @@ impl<'a> Part for Data<'a> {
 pub(crate) struct BriefData<'a>(pub &'a [u8]);
 
 impl<'a> Part for BriefData<'a> {
-    ghost use Rattle.trace_report.specs.Data.{brief_data};
-
     ghost text = { λ bytes. brief_data bytes.0.now };
 
     fn say<S: TextSink>(self, out: &mut S) {
@@ -161,13 +157,20 @@ impl<'a> Part for BriefData<'a> {
             let more = rest.len() as u64;
             say(
                 out,
-                (
-                    BytesApart(front),
-                    " and ",
-                    Number(more),
-                    Either(more == 1, " byte more", " bytes more"),
-                ),
+                (BytesApart(front), " and ", Number(more), MoreWords(more)),
             );
         }
+    }
+}
+
+/// So many bytes more, in words behind their number.
+#[derive(Clone, Copy)]
+pub struct MoreWords(pub u64);
+
+impl Part for MoreWords {
+    ghost text = { λ more. more_words more.0 };
+
+    fn say<S: TextSink>(self, out: &mut S) {
+        say(out, Either(self.0 == 1, " byte more", " bytes more"));
     }
 }

@@ -70,7 +70,7 @@ impl<'a> Part for Head<'a> {
 
 /// The start of a page: nothing may be fetched and nothing may run.
 #[derive(Clone, Copy)]
-pub(crate) struct PageStart;
+pub struct PageStart;
 
 impl Part for PageStart {
     ghost use Rattle.trace_report.specs.Front.{page_start};
@@ -92,7 +92,7 @@ impl Part for PageStart {
 
 /// The shapes of the arrows.
 #[derive(Clone, Copy)]
-pub(crate) struct Shapes;
+pub struct Shapes;
 
 impl Part for Shapes {
     ghost use Rattle.trace_report.specs.Front.{shapes_text};
@@ -146,7 +146,7 @@ impl<'a> Part for Header<'a> {
 
 /// The two identifiers.
 #[derive(Clone, Copy)]
-pub(crate) struct Identifiers(pub Id, pub Id);
+pub struct Identifiers(pub Id, pub Id);
 
 impl Part for Identifiers {
     ghost use Rattle.trace_report.specs.Front.{identifiers_text};
@@ -170,7 +170,7 @@ impl Part for Identifiers {
 
 /// The links of the page, with what the first one and the one in the middle are called, and the notice of a page that breaks off.
 #[derive(Clone, Copy)]
-pub(crate) struct Notice(pub &'static str, pub &'static str);
+struct Notice(pub &'static str, pub &'static str);
 
 impl Part for Notice {
     ghost use Rattle.trace_report.specs.Front.{notice_with};

@@ -1,7 +1,7 @@
 //! The rows of a session, kept as they come, and where its items stand among them.
 ghost use Rattle.std.specs.Prelude.{◌≡◌, ◌<◌, ◌^◌, ◌∷◌, ◌++◌, [], IfOk, OnErr, OnOk, length, option_map, slice_get};
 ghost use Rattle.uds_exchange.specs.Blocks.{GoesOn};
-ghost use Rattle.trace_report.specs.Items.{items_in, message_in};
+ghost use Rattle.trace_report.specs.Items.{items_in, message_in, rows_before};
 ghost use Rattle.trace_report.specs.Sorts.{counts_in};
 ghost use Rattle.trace_report.specs.proving.Keeping.{AreLaid, IsLaid, rows_at};
 ghost use Rattle.trace_report.specs.proving.Keeping as Keeping;
@@ -24,7 +24,7 @@ use uds_exchange::Messages;
 
 /// A message that is kept: what a row tells of it, and where its bytes lie.
 #[derive(Clone, Copy)]
-pub(crate) struct KeptMessage {
+pub struct KeptMessage {
     pub role: MessageRole,
     pub dir: Dir,
     pub place: MessagePlace,
@@ -59,7 +59,7 @@ pub(crate) enum KeptRow {
 /// The rows of a session, seen as their list. What they tell of items and of sorts is kept as they come, and not looked
 /// for.
 #[derive(Drop)]
-pub(crate) struct KeptRows {
+pub struct KeptRows {
     messages: Messages,
     rows: Vec<KeptRow>,
     items: Vec<ItemPlace>,
@@ -110,16 +110,26 @@ impl KeptRows {
     }
 
     /// How many rows there are.
-    pub(crate) fn len(&self) -> usize
+    pub fn len(&self) -> usize
         ensures value { result ≡ length self.now }
         ensures small { result < 2 ^ 63 }
     {
         self.rows.len()
     }
 
+    /// How many rows stand before the one with which the item of a place begins, counted from 0; all, where there is none.
+    pub fn rows_before(&self, item: usize) -> usize
+        ensures { result ≡ rows_before item self.now }
+    {
+        match self.items.get(item) {
+            Some(item) => item.begin,
+            None => self.rows.len(),
+        }
+    }
+
     /// The row at a place, counted from 0, if there is one.
     #[inline(always)]
-    pub(crate) fn row(&self, at: usize) -> Option<Row<'_>>
+    pub fn row(&self, at: usize) -> Option<Row<'_>>
         ensures { option_map row_of result ≡ slice_get self.now at }
     {
         match self.rows.get(at) {
@@ -129,7 +139,7 @@ impl KeptRows {
     }
 
     /// How many items the rows tell.
-    pub(crate) fn items(&self) -> usize
+    pub fn items(&self) -> usize
         ensures value { result ≡ length (items_in self.now) }
         ensures small { result < 2 ^ 63 }
     {
@@ -138,7 +148,7 @@ impl KeptRows {
 
     /// The item at a place, counted from 0, if there is one.
     #[inline(always)]
-    pub(crate) fn item(&self, at: usize) -> Option<PlacedItem<'_>>
+    pub fn item(&self, at: usize) -> Option<PlacedItem<'_>>
         ensures { option_map item_of result ≡ slice_get (items_in self.now) at }
     {
         match self.items.get(at) {
@@ -148,7 +158,7 @@ impl KeptRows {
     }
 
     /// How many rows there are of each sort.
-    pub(crate) fn counts(&self) -> SortCounts
+    pub fn counts(&self) -> SortCounts
         ensures { result ≡ counts_in self.now }
     {
         self.counts

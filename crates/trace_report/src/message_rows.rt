@@ -43,7 +43,7 @@ pub(crate) fn say_message_row<S: TextSink>(
 
 /// Where a message stands, as a row to which links lead or not.
 #[derive(Clone, Copy)]
-pub(crate) struct MessageFront {
+pub struct MessageFront {
     pub linked: bool,
     pub origin: u64,
     pub role: MessageRole,
@@ -155,7 +155,7 @@ impl Part for Lines {
 
 /// The lines of the log from one to another, behind the word line or lines.
 #[derive(Clone, Copy)]
-pub(crate) struct NamedLines(pub u64, pub u64);
+pub struct NamedLines(pub u64, pub u64);
 
 impl Part for NamedLines {
     ghost use Rattle.trace_report.specs.MessageRows.{named_lines};
@@ -175,7 +175,7 @@ impl Part for NamedLines {
 
 /// What a message is to its item.
 #[derive(Clone, Copy)]
-pub(crate) struct RoleWords<'a>(pub MessageRole, pub Dir, pub &'a [u8]);
+pub struct RoleWords<'a>(pub MessageRole, pub Dir, pub &'a [u8]);
 
 impl<'a> Part for RoleWords<'a> {
     ghost use Rattle.trace_report.specs.MessageRows.{role_words};
@@ -208,7 +208,7 @@ impl<'a> Part for RoleWords<'a> {
 /// The note on a message of so many bytes: how many frames carry them, and how long after its request the first of them
 /// came, if it replies to one.
 #[derive(Clone, Copy)]
-pub(crate) struct Note(pub MessageRole, pub MessagePlace, pub u64);
+pub struct Note(pub MessageRole, pub MessagePlace, pub u64);
 
 impl Part for Note {
     ghost use Rattle.trace_report.specs.MessageRows.{note_text};
@@ -240,7 +240,7 @@ impl Part for Note {
 
 /// How long after its request a message began, behind another note, if it replies to one.
 #[derive(Clone, Copy)]
-pub(crate) struct FurtherNote(pub Option<u64>, pub u64);
+pub struct FurtherNote(pub Option<u64>, pub u64);
 
 impl Part for FurtherNote {
     ghost use Rattle.trace_report.specs.MessageRows.{further_note};

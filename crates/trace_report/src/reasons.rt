@@ -31,7 +31,7 @@ impl<'a> Part for UncleanReasons<'a> {
 
 /// What was lost of the frames of a recording, and what it lacks, in the words that `--strict` tells it.
 #[derive(Clone, Copy)]
-struct StrictWords<'a>(&'a Summary);
+pub struct StrictWords<'a>(pub &'a Summary);
 
 impl<'a> Part for StrictWords<'a> {
     ghost use Rattle.trace_report.specs.Verdict.{strict_words};

@@ -50,7 +50,7 @@ impl Part for RefusedHeading {
 
 /// Why a log is refused, as the program tells it.
 #[derive(Clone, Copy)]
-pub(crate) struct Refusal(pub Fault);
+pub struct Refusal(pub Fault);
 
 impl Part for Refusal {
     ghost use Rattle.trace_report.specs.Verdict.{refusal_words};

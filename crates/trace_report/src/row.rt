@@ -7,7 +7,7 @@ use trace_canon::reception_starts::FramePlace;
 
 /// Where a message stands: its item, its first frame and its last one, and how many carry its bytes.
 #[derive(Clone, Copy, Debug)]
-pub(crate) struct MessagePlace {
+pub struct MessagePlace {
     pub item: u64,
     pub first: FramePlace,
     pub last: FramePlace,
@@ -16,7 +16,7 @@ pub(crate) struct MessagePlace {
 
 /// How an arrow of the chart ends.
 #[derive(Clone, Copy, Debug)]
-pub(crate) enum Arrow {
+pub enum Arrow {
     /// In a head: a message.
     Headed,
     /// In a cross: a frame that was dropped.
@@ -27,7 +27,7 @@ pub(crate) enum Arrow {
 
 /// What a row tells.
 #[derive(Clone, Copy, Debug)]
-pub(crate) enum Row<'a> {
+pub enum Row<'a> {
     /// A message, which this side sent.
     Message {
         role: MessageRole,

@@ -167,7 +167,7 @@ impl<'a> Part for Heading<'a> {
 }
 
 /// Whether a page calls the recording clean: it is, and tester and unit don't look exchanged.
-pub(crate) fn is_called_clean(summary: &Summary) -> bool
+pub fn is_called_clean(summary: &Summary) -> bool
     ensures { result ≡ Spec.is_called_clean summary.now }
 {
     summary.is_clean() && !summary.looks_exchanged
@@ -205,7 +205,7 @@ impl<'a> Part for StartOf<'a> {
 
 /// From when to when a log of so many frames goes, where it has some.
 #[derive(Clone, Copy)]
-pub(crate) struct SpanOf {
+pub struct SpanOf {
     pub frames: u64,
     pub first: u64,
     pub last: u64,

@@ -22,7 +22,8 @@ use Rattle.trace_io.specs.Written.{HasFront}
 use Rattle.trace_io.specs.declared.device.Source.{Ghosts as SourceGhosts}
 use Rattle.trace_io.specs.declared.device.Target.{Ghosts as TargetGhosts}
 use Rattle.trace_report.specs.Kept.{KeepsTwo, TwoValue}
-use Rattle.trace_report.specs.PairPage.{pair_page, pair_title}
+use Rattle.trace_pair.specs.Page.{pair_page}
+use Rattle.trace_pair.specs.Titles.{title_for}
 use Rattle.udsnorm.specs.Commands.{ComparesPair, PagesPair, TextOfCompared, has_text, pair_of}
 use Rattle.udsnorm.specs.Ending.{has_unclean, status_of_comparison, status_of_run_of_two}
 use Rattle.udsnorm.specs.Status.{status_of}
@@ -94,7 +95,7 @@ read_told source why max_bytes answer told before after is read =
 -- two logs that are held, without what they say, and their page
 pub pages_pair : (style left_name right_name : List ℕ) (left_seen right_seen : GlimpseValue) (strict : Bool) (limit : ℕ) (settings : Settings) (one other : List ℕ) (answer : Result TwoValue CompareFault) → KeepsTwo limit settings one other answer
     → PagesPair left_name right_name left_seen right_seen strict limit settings one other (answer_held answer)
-    (pair_page (pair_title style left_name right_name settings) answer (cause_in answer settings.max_bytes left_seen right_seen))
+    (pair_page (title_for style left_name right_name settings) answer (cause_in answer settings.max_bytes left_seen right_seen))
 pages_pair style left_name right_name left_seen right_seen strict limit settings one other (Ok held) holds = (style, held, holds, refl, refl)
 pages_pair style left_name right_name left_seen right_seen strict limit settings one other (Err why) holds = (style, holds, refl)
 

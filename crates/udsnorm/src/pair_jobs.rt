@@ -7,8 +7,9 @@ ghost use Rattle.trace_canon.specs.ComparisonText.{comparison_text};
 ghost use Rattle.trace_log.specs.Devices.{AgreesWith, bytes_given, ReadFrom, HasLowCounts};
 ghost use Rattle.trace_log.specs.declared.fault.Fault.{Fault as FaultValue};
 ghost use Rattle.trace_io.specs.Counted.{IsLowCount};
-ghost use Rattle.trace_report.specs.PairPage.{pair_page, pair_title};
-ghost use Rattle.udsnorm.specs.Commands.{PairEngineAnswers, PairEngineNeedsForLeft, PairEngineNeedsForRight, PairEngineReads, has_text, left_file, pair_of, right_file, text_of_difference};
+ghost use Rattle.trace_pair.specs.Page.{pair_page};
+ghost use Rattle.trace_pair.specs.Titles.{title_for};
+ghost use Rattle.udsnorm.specs.Commands.{PairEngineAnswers, PairEngineNeedsForLeft, PairEngineNeedsForRight, PairEngineReads, has_text, left_file, pair_held, pair_of, right_file, text_of_difference};
 ghost use Rattle.udsnorm.specs.Ending.{has_unclean};
 ghost use Rattle.udsnorm.specs.Telling.{WroteText};
 ghost use Rattle.udsnorm.specs.proving.Pairs.{IsAnswered, answer_held, answer_of, cause_in, text_of_answer};
@@ -22,9 +23,8 @@ use trace_canon::{Compared, Comparison, ComparisonStyle, compare, write_comparis
 use trace_difference::{Side, write_difference};
 use trace_io::{Source, Target};
 use trace_log::{CompareFault, Config, Fault, Summary};
-use trace_report::{
-    PairTitle, RefusalCause, Two, cause_of, keep_two, report_style, write_pair_page,
-};
+use trace_pair::{Aligned, Title, align_two, pair_style, write_pair_page};
+use trace_report::{RefusalCause, cause_of};
 use trace_run::Glimpse;
 use trace_text::Notation;
 use uds_difference::Difference;
@@ -179,7 +179,7 @@ pub(crate) fn do_pair_job<A: Source, B: Source, W: Target>(
             }
         }
         PairJob::Report => {
-            let answer = keep_two(alloc, config, left, right);
+            let answer = align_two(alloc, config, left, right);
             let cause = cause_in(&answer, config.max_bytes(), left, right);
             PairDone {
                 answer: answer_held(&answer),
@@ -285,22 +285,30 @@ fn write_differing<W: Target>(
 }
 
 /// An answer about two logs that are held, without what they say.
-fn answer_held(answer: &Result<Two, CompareFault>) -> Result<PairAnswer, CompareFault>
+fn answer_held(answer: &Result<Aligned, CompareFault>) -> Result<PairAnswer, CompareFault>
     ensures { result ≡ answer_held answer.now }
 {
     match answer {
-        Ok(two) => Ok(PairAnswer {
-            comparison: two.comparison(),
-            left: two.left().summary(),
-            right: two.right().summary(),
-        }),
+        Ok(aligned) => Ok(pair_held(aligned)),
         Err(fault) => Err(*fault),
+    }
+}
+
+/// What two logs that are held are to each other, without what they say.
+fn pair_held(aligned: &Aligned) -> PairAnswer
+    ensures { result ≡ pair_held aligned.now }
+{
+    let two = aligned.two();
+    PairAnswer {
+        comparison: aligned.comparison(),
+        left: two.left().summary(),
+        right: two.right().summary(),
     }
 }
 
 /// The cause of a refusal of one of two logs with this limit, by what is seen of both sources.
 fn cause_in<A: Source, B: Source>(
-    answer: &Result<Two, CompareFault>,
+    answer: &Result<Aligned, CompareFault>,
     most: u64,
     left: &A,
     right: &B,
@@ -330,17 +338,17 @@ fn write_page<W: Target>(
     left_name: &str,
     right_name: &str,
     config: &Config,
-    answer: &Result<Two, CompareFault>,
+    answer: &Result<Aligned, CompareFault>,
     cause: Option<RefusalCause>,
     out: &mut W,
 ) -> bool
     requires { IsLowCount (W.failures out.old) }
-    ensures text { (style : List ℕ) × WroteText W.Target (pair_page (pair_title style left_name.now right_name.now config.now) answer.now cause) result out.old out.new }
+    ensures text { (style : List ℕ) × WroteText W.Target (pair_page (title_for style left_name.now right_name.now config.now) answer.now cause) result out.old out.new }
     ensures left_alone { has_text PairJob.Report false (answer_held answer.now) ≡ false → (result ≡ true) × (out.new ≡ out.old) }
     ensures flushes { W.flushes out.new ≡ W.flushes out.old }
 {
-    let title = PairTitle {
-        style: report_style(),
+    let title = Title {
+        style: pair_style(),
         left: left_name.as_bytes(),
         right: right_name.as_bytes(),
         tester: config.tester(),

@@ -1,6 +1,7 @@
 -- Devices of proof: the rows of a session as they are kept, and where its items stand among them.
-use Rattle.std.specs.Prelude.{◌≡◌, ℕ, zero, suc, ⊤, Bool, true, false, List, [], ◌∷◌, ◌++◌, length, map, Option, Some, None, option_map, slice_get}
+use Rattle.std.specs.Prelude.{◌≡◌, ℕ, ◌+◌, zero, suc, ⊤, Bool, true, false, List, [], ◌∷◌, ◌++◌, length, map, Option, Some, None, option_map, slice_get, if◌then◌else◌}
 use Rattle.uds_exchange.specs.Blocks.{IsInside, bytes_at}
+use Rattle.trace_report.specs.Items as Items
 use Rattle.trace_report.specs.Items.{RowMessageValue, PlacedItemValue, items_in, message_in}
 use Rattle.trace_report.specs.Rows.{RowValue, message, no_answer, dropped, ended, unfinished}
 use Rattle.trace_report.specs.Sorts.{counts_in}
@@ -130,10 +131,29 @@ ArePlaced rows [] (item ∷ items) = ⊥
 ArePlaced rows (place ∷ places) [] = ⊥
 ArePlaced rows (place ∷ places) (item ∷ items) = (placed_at rows place ≡ Some item) × ArePlaced rows places items
 
+-- the places of the rows with which items begin, where so many rows stand before these
+abbrev pub begin_places : ℕ → List RowValue → List ℕ
+begin_places before [] = []
+begin_places before (row ∷ rows) = if Items.begins row then before ∷ begin_places (before + 1) rows else begin_places (before + 1) rows
+
+-- the place of the row at this place, where an item begins with it
+abbrev pub begun_at : RowValue → ℕ → List ℕ
+begun_at row at = if Items.begins row then at ∷ [] else []
+
+-- the place of the row with which an item begins
+abbrev pub begin_of : ItemPlace → ℕ
+begin_of item = item.begin
+
+-- the place that is found, or else the end
+abbrev pub place_or : ℕ → Option ℕ → ℕ
+place_or end None = end
+place_or end (Some at) = at
+
 -- the rows are kept, with what they tell of items, and how many there are of each sort
 pub record AreKept (blocks : List (List ℕ)) (rows : List KeptRow) (places : List ItemPlace) (waiting : Option ℕ) (counts : SortCounts) : Type 0 where
   pub laid : AreLaid blocks rows
   pub placed : ArePlaced (rows_at blocks rows) places (items_in (rows_at blocks rows))
+  pub begun : map begin_of places ≡ begin_places 0 (rows_at blocks rows)
   pub waits : waiting ≡ waiting_in (rows_at blocks rows)
   pub counted : counts ≡ counts_in (rows_at blocks rows)
 

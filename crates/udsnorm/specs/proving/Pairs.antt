@@ -3,7 +3,7 @@ use Rattle.std.specs.Prelude.{⊤, ℕ, Bool, List, [], Option, None, Result, Ok
 use Rattle.trace_canon.specs.declared.comparing.Compared.{Compared}
 use Rattle.trace_log.specs.declared.fault.CompareFault.{CompareFault}
 use Rattle.trace_report.specs.Kept.{TwoValue}
-use Rattle.trace_report.specs.PairPage.{cause_of_pair}
+use Rattle.trace_pair.specs.Page.{cause_of_pair}
 use Rattle.trace_report.specs.declared.cause.RefusalCause.{RefusalCause}
 use Rattle.trace_run.specs.Script.{GlimpseValue}
 use Rattle.udsnorm.specs.Commands.{TextOfCompared, pair_held, pair_of, text_of_compared}

@@ -1,0 +1,3 @@
+pub mod Days
+pub mod NextDays
+pub mod OneDate

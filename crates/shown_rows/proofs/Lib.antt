@@ -1,0 +1,7 @@
+pub mod RowSteps
+pub mod Counted
+pub mod ShownRows
+pub mod EachChange
+pub mod EachItem
+pub mod ChangeSteps
+pub mod Promises

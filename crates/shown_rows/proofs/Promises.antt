@@ -1,0 +1,6 @@
+-- The proofs of the public laws, each under the name of its statement in specs/, for the crates above to cite. Nothing
+-- else of proofs/ is for them.
+pub use Rattle.shown_rows.proofs.Counted.{counts_add_up}
+pub use Rattle.shown_rows.proofs.ShownRows.{shown_rows_are_those_of_hunks}
+pub use Rattle.shown_rows.proofs.EachChange.{changes_have_each_row}
+pub use Rattle.shown_rows.proofs.EachItem.{each_item_stands_once}

@@ -1,0 +1,22 @@
+//! What holds of any rows. Each law is its contract; a call does nothing.
+ghost use Rattle.shown_rows.specs.Laws.{ChangesHaveEachRow, CountsAddUp, EachItemStandsOnce, ShownRowsAreThoseOfHunks};
+
+/// What a page shows unfolded is what the hunks of a text have.
+pub fn shown_rows_are_those_of_hunks()
+    ensures { ShownRowsAreThoseOfHunks }
+{}
+
+/// The changes have each row that is one, once, in order.
+pub fn changes_have_each_row()
+    ensures { ChangesHaveEachRow }
+{}
+
+/// The counts of the rows add up to those of both sessions.
+pub fn counts_add_up()
+    ensures { CountsAddUp }
+{}
+
+/// Each item of both sessions stands in one row, in order.
+pub fn each_item_stands_once()
+    ensures { EachItemStandsOnce }
+{}

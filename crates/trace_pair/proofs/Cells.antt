@@ -1,0 +1,77 @@
+-- The columns of a line, one after another.
+use Rattle.std.proofs.Common.{◌≡◌, ℕ, ◌+◌, ◌-◌, ◌≤◌, ◌<◌, Bool, false, List, [], ◌∷◌, ◌++◌, codes, length, take, drop, Option, Some, None, arith, ap, sym, ◌∙◌, append_assoc, refl}
+use Rattle.std.specs.Prelude.{slice_get}
+use Rattle.std.proofs.lemmas.List.{length-append}
+use Rattle.text_parts.proofs.Promises.{IsLeft, said-whole, same-rest, say-last, say-more}
+use Rattle.byte_columns.specs.declared.column.Column.{Column}
+use Rattle.byte_columns.specs.Columns.{count_in, differs, left_bytes, right_bytes}
+use Rattle.byte_columns.specs.Laws.{listed}
+use Rattle.trace_pair.specs.declared.log.Log.{Log}
+use Rattle.trace_pair.specs.declared.log.Log.TheVariants.{A, B}
+use Rattle.trace_pair.specs.ColumnLines.{byte_or_gap, bytes_in, cells_behind, mark_end, mark_start}
+use Rattle.trace_report.specs.Letters.{letters}
+use Rattle.trace_pair.specs.Logs.{byte_of}
+use Rattle.trace_pair.proofs.Pieces.{cut-first, cut-none}
+
+-- how many bytes a log has in columns
+one-listed : (byte : Option ℕ) → count_in byte ≡ length (listed byte)
+one-listed None = refl
+one-listed (Some byte) = refl
+
+pub left-listed : (columns : List Column) → left_bytes columns ≡ length (bytes_in A columns)
+left-listed [] = refl
+left-listed (here ∷ later) =
+    let one = one-listed here.left in
+    let rest = left-listed later in
+    let both = length-append (listed here.left) (bytes_in A later) in
+    omega arith
+
+pub right-listed : (columns : List Column) → right_bytes columns ≡ length (bytes_in B columns)
+right-listed [] = refl
+right-listed (here ∷ later) =
+    let one = one-listed here.right in
+    let rest = right-listed later in
+    let both = length-append (listed here.right) (bytes_in B later) in
+    omega arith
+
+-- the letter of a column in front of those behind it
+letters-more : (byte : Option ℕ) (later : List ℕ) → letters (listed byte ++ later) ≡ letters (listed byte) ++ letters later
+letters-more None later = refl
+letters-more (Some byte) later = refl
+
+module _ {S : Type 0} (says : S → List ℕ → S → Type 0) (onward : (s m t : S) (a b : List ℕ) → says s a m → says m b t → says s (a ++ b) t)
+    (log : Log) (columns : List Column) (to : ℕ) (old : S) (whole : List ℕ) where
+  abbrev pub Behind : Bool → ℕ → S → Type 0
+  Behind marked at now = IsLeft says old (cells_behind log marked (take (to - at) (drop at columns))) whole now
+
+  -- one more column is said
+  pub turn-cell : (marked : Bool) (at : ℕ) (here : Column) (now new : S) → at < to → slice_get columns at ≡ Some here → Behind marked at now
+      → says now (mark_end marked (differs here) ++ codes " " ++ mark_start marked (differs here) ++ byte_or_gap (byte_of log here)) new
+      → Behind (differs here) (at + 1) new
+  turn-cell marked at here now new below there left said =
+      let first = cut-first columns at to here below there in
+      let parts : cells_behind log marked (here ∷ take (to - (at + 1)) (drop (at + 1) columns))
+      ≡ (mark_end marked (differs here) ++ codes " " ++ mark_start marked (differs here) ++ byte_or_gap (byte_of log here))
+      ++ cells_behind log (differs here) (take (to - (at + 1)) (drop (at + 1) columns)) = sym (simp append_assoc) in
+      say-more says onward old now new _ _ whole (same-rest says old now _ _ whole (ap (cells_behind log marked) first ∙ parts) left) said
+
+  -- and that is all
+  pub turn-last : (marked : Bool) (at : ℕ) (now new : S) → to ≡ at → Behind marked at now → says now (mark_end marked false) new → says old whole new
+  turn-last marked at now new e left said =
+      say-last says onward old now new _ whole (same-rest says old now _ _ whole (ap (cells_behind log marked) (cut-none columns at to (omega arith))) left) said
+
+  abbrev pub Letters : ℕ → S → Type 0
+  Letters at now = IsLeft says old (letters (bytes_in log (take (to - at) (drop at columns)))) whole now
+
+  -- one more letter is said, or none, where a log has no byte in a column
+  pub turn-letter : (at : ℕ) (here : Column) (now new : S) → at < to → slice_get columns at ≡ Some here → Letters at now
+      → says now (letters (listed (byte_of log here))) new → Letters (at + 1) new
+  turn-letter at here now new below there left said =
+      let rest = bytes_in log (take (to - (at + 1)) (drop (at + 1) columns)) in
+      say-more says onward old now new (letters (listed (byte_of log here))) (letters rest) whole
+      (same-rest says old now _ _ whole (ap (λ (l : List Column). letters (bytes_in log l)) (cut-first columns at to here below there) ∙ letters-more (byte_of log here) rest) left) said
+
+  -- and that are all
+  pub letters-end : (at : ℕ) (now : S) → to ≤ at → Letters at now → says old whole now
+  letters-end at now over left =
+      said-whole says old now whole (same-rest says old now _ _ whole (ap (λ (l : List Column). letters (bytes_in log l)) (cut-none columns at to over)) left)

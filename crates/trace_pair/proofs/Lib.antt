@@ -1,0 +1,20 @@
+pub mod Pieces
+pub mod Cells
+pub mod Stretches
+pub mod Tables
+pub mod Standings
+pub mod FoldParts
+pub mod ChartRows
+pub mod ChangeSteps
+pub mod ListedChanges
+pub mod LossyChanges
+pub mod LossPlaces
+pub mod LostRows
+pub mod ChartPlaces
+pub mod Asking
+mod Beside
+mod FirstChanges
+mod Agreeing
+mod ToldOutcomes
+mod PagesInMemory
+mod PageStyle

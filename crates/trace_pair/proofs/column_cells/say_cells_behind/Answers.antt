@@ -1,0 +1,17 @@
+use Rattle.std.proofs.Common.{arith, refl}
+use Rattle.text_parts.proofs.Promises.{none-said}
+use Rattle.trace_pair.proofs.Cells.{turn-cell, turn-last}
+use Rattle.trace_pair.proofs.column_cells.say_cells_behind.Goals as goal
+
+pub columns-init : goal.columns-init
+columns-init g c = none-said g.S.TextSink.says c.args.out.now _ _ (g.met.S.TextSink.nothing c.args.out.now) refl
+
+pub columns-preserved : goal.columns-preserved
+columns-preserved g c =
+    turn-cell g.S.TextSink.says g.met.S.TextSink.onward c.args.log c.args.columns.now c.args.to c.args.out.now _
+    c.columns.marked c.columns.at c.column.result c.columns.out _ c.columns-test.true c.column.ensures c.columns.invariant c.say.ensures
+
+pub returns : goal.returns
+returns g c =
+    turn-last g.S.TextSink.says g.met.S.TextSink.onward c.args.log c.args.columns.now c.args.to c.args.out.now _
+    c.columns.marked c.columns.at c.columns.out _ (omega arith) c.columns.invariant c.say.ensures

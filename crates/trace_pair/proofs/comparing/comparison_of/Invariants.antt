@@ -1,0 +1,5 @@
+use Rattle.trace_pair.proofs.FirstChanges.{AreSameUpTo}
+use Rattle.trace_pair.proofs.comparing.comparison_of.Given as goal
+
+abbrev pub invariant-rows : goal.invariant-rows
+invariant-rows l = AreSameUpTo l.rows l.k

@@ -1,0 +1,5 @@
+use Rattle.trace_pair.proofs.Agreeing.{agrees}
+use Rattle.trace_pair.proofs.laws.agrees_with_compare.Goals as goal
+
+pub returns : goal.returns
+returns c = agrees c.items_are_the_meaning.ensures

@@ -1,0 +1,75 @@
+-- Items in the words of a technician: what was asked, and what came of it; and how two items differ.
+use Rattle.std.specs.Prelude.{ℕ, ◌-◌, ◌==◌, Bool, true, false, List, [], ◌++◌, codes, length, nat_le, take, Option, Some, None, if◌then◌else◌}
+use Rattle.std.specs.Fmt.{decimal}
+use Rattle.direction.specs.declared.Dir.{Dir}
+use Rattle.direction.specs.declared.Dir.TheVariants as dir
+use Rattle.uds_message.specs.Message.{is_keep_alive, is_negative_response, is_suppressing, response_code, sid}
+use Rattle.uds_exchange.specs.Meaning.{ItemValue, exchange, stray}
+use Rattle.uds_difference.specs.Likeness.{same_bytes}
+use Rattle.trace_text.specs.Words.{code_text, direction_text, service_text}
+use Rattle.trace_report.specs.Data.{bytes_apart, more_words}
+use Rattle.trace_pair.specs.declared.outcome.Outcome.{Outcome}
+use Rattle.trace_pair.specs.declared.outcome.Outcome.TheVariants.{Positive, Refused, Silent, Unanswered}
+use Rattle.trace_pair.specs.ByteWords.{byte_words}
+
+-- what came of a request: its answer, or why there is none
+abbrev pub outcome : List ℕ → Option (List ℕ) → Outcome
+outcome request (Some reply) = if is_negative_response reply then Refused (response_code reply) else Positive
+outcome request None = if is_suppressing request then Silent else Unanswered
+
+abbrev pub outcome_words : Outcome → List ℕ
+outcome_words Positive = codes "positive"
+outcome_words (Refused code) = codes "refused with <b>" ++ code_text code ++ codes "</b>"
+outcome_words Silent = codes "silent, as the request asks"
+outcome_words Unanswered = codes "without an answer"
+
+-- both are of one kind; a refusal is another one by its code
+abbrev pub same_outcome : Outcome → Outcome → Bool
+same_outcome Positive Positive = true
+same_outcome (Refused code) (Refused other) = code == other
+same_outcome Silent Silent = true
+same_outcome Unanswered Unanswered = true
+same_outcome _ _ = false
+
+-- the first eight bytes of a message, and how many more it has
+abbrev pub first_bytes : List ℕ → List ℕ
+first_bytes bytes =
+    codes "<code>" ++ bytes_apart (take 8 bytes) ++ codes "</code>"
+    ++ (if nat_le (length bytes) 8 then [] else codes " <i>and " ++ decimal (length bytes - 8) ++ more_words (length bytes - 8) ++ codes "</i>")
+
+-- a stray is a keep-alive, where the tester sent it and it is one
+abbrev pub keeps_alive : Dir → List ℕ → Bool
+keeps_alive dir.Tester bytes = is_keep_alive bytes
+keeps_alive dir.Unit bytes = false
+
+-- what an item is, and how it begins
+abbrev pub title : ItemValue → List ℕ
+title (exchange request answer) = codes "<b>" ++ service_text (sid request) ++ codes "</b> " ++ first_bytes request
+title (stray side bytes) =
+    (if keeps_alive side bytes then codes "<b>keep-alive</b> " else codes "<b>stray</b> <i>from the " ++ direction_text side ++ codes "</i> ")
+    ++ first_bytes bytes
+
+-- what came of it, where it is an exchange
+abbrev pub outcome_of : ItemValue → List ℕ
+outcome_of (exchange request answer) = codes ": " ++ outcome_words (outcome request answer)
+outcome_of (stray side bytes) = []
+
+-- at which bytes two answers differ, behind what stands before
+abbrev pub answer_bytes : List ℕ → Option (List ℕ) → Option (List ℕ) → List ℕ
+answer_bytes before (Some xs) (Some ys) = if same_bytes xs ys then [] else before ++ codes "answer" ++ byte_words xs ys
+answer_bytes before _ _ = []
+
+-- how the answers of two exchanges differ: in what came of the request, or else in bytes
+abbrev pub answers_differ : List ℕ → Outcome → Outcome → Option (List ℕ) → Option (List ℕ) → List ℕ
+answers_differ before one other answer reply =
+    if same_outcome one other then answer_bytes before answer reply
+    else before ++ outcome_words one ++ codes " in A, " ++ outcome_words other ++ codes " in B"
+
+-- how two items of one service differ: in the request, in the answer, or in both
+abbrev pub differ : ItemValue → ItemValue → List ℕ
+differ (exchange request answer) (exchange other reply) =
+    if same_bytes request other
+    then answers_differ [] (outcome request answer) (outcome other reply) answer reply
+    else codes "request" ++ byte_words request other ++ answers_differ (codes "; ") (outcome request answer) (outcome other reply) answer reply
+differ (stray side bytes) (stray other others) = codes "message" ++ byte_words bytes others
+differ _ _ = []

@@ -1,0 +1,163 @@
+-- The verdict of a page of two logs: whether the sessions differ, in how many places and how, and how far that can be known.
+use Rattle.std.specs.Prelude.{ℕ, ◌+◌, ◌-◌, ◌==◌, Bool, true, false, not, ◌&&◌, ◌||◌, List, [], ◌∷◌, ◌++◌, codes, length, nat_lt, nat_le, if◌then◌else◌}
+use Rattle.std.specs.Fmt.{decimal}
+use Rattle.std.specs.List.{list_any}
+use Rattle.trace_log.specs.Summing.{is_clean}
+use Rattle.uds_exchange.specs.Meaning.{ItemValue, exchange, stray}
+use Rattle.uds_difference.specs.declared.row.Row.{Row}
+use Rattle.uds_difference.specs.declared.row.Row.TheVariants.{Same, Changed, OnlyLeft, OnlyRight}
+use Rattle.shown_rows.specs.Changes.{changes}
+use Rattle.shown_rows.specs.Rows.{count_of, differs}
+use Rattle.shown_rows.specs.declared.changes.Change.{Change}
+use Rattle.trace_report.specs.Session.{SessionValue}
+use Rattle.trace_pair.specs.Losses.{losses_from}
+use Rattle.trace_pair.specs.Sessions.{values_in}
+
+-- so many items
+abbrev pub items_word : ℕ → List ℕ
+items_word count = if count == 1 then codes "1 item" else decimal count ++ codes " items"
+
+-- how many items only one session has, and how many changed: what is there, one after another; the first says what is counted
+abbrev pub counts_words : ℕ → ℕ → ℕ → List ℕ
+counts_words left right changed =
+    (if left == 0 then [] else items_word left ++ codes " only in A")
+    ++ (if right == 0 then [] else (if left == 0 then items_word right else codes ", " ++ decimal right) ++ codes " only in B")
+    ++ (if changed == 0 then [] else (if left + right == 0 then items_word changed else codes ", " ++ decimal changed) ++ codes " changed")
+
+-- so many differences
+abbrev pub differences_word : ℕ → List ℕ
+differences_word count = if count == 1 then codes "1 difference: " else decimal count ++ codes " differences: "
+
+-- how many items are the same
+abbrev pub same_words : ℕ → List ℕ
+same_words count = if count == 0 then codes "No item is the same." else if count == 1 then codes "<b>1</b> item is the same." else codes "<b>" ++ decimal count ++ codes "</b> items are the same."
+
+-- the heading of sessions that differ, by how many changes and rows of each kind there are
+abbrev pub different_heading : ℕ → ℕ → ℕ → ℕ → ℕ → List ℕ
+different_heading differences same left right changed =
+    codes "<section id=\"verdict\" class=\"warn\">\n<h2><span aria-hidden=\"true\">&#8800;</span> " ++ differences_word differences ++ counts_words left right changed
+    ++ codes "</h2>\n<p>" ++ same_words same ++ codes " <a href=\"#difference\">" ++ (if differences == 1 then codes "See it." else codes "See the first.") ++ codes "</a></p>\n"
+
+-- Loss.
+
+-- Something is missing of the items of a log that belong to a change; of a log that has none of them, of the last item
+-- before it.
+abbrev pub lossy_by : Bool → SessionValue → ℕ → ℕ → Bool
+lossy_by has session before count =
+    if has then nat_lt 0 (losses_from session.rows before count) else nat_lt 0 (losses_from session.rows (before - 1) 1)
+
+-- a change of this kind has items of the left log, and of the right one
+abbrev pub has_left : Row → Bool
+has_left Same = true
+has_left Changed = true
+has_left OnlyLeft = true
+has_left OnlyRight = false
+
+abbrev pub has_right : Row → Bool
+has_right Same = true
+has_right Changed = true
+has_right OnlyLeft = false
+has_right OnlyRight = true
+
+abbrev pub left_lossy : SessionValue → Change → Bool
+left_lossy session here = lossy_by (has_left here.kind) session here.left here.count
+
+abbrev pub right_lossy : SessionValue → Change → Bool
+right_lossy session here = lossy_by (has_right here.kind) session here.right here.count
+
+-- at how many of these changes a log is not clean
+abbrev pub lossy_count : SessionValue → SessionValue → List Change → ℕ
+lossy_count left right [] = 0
+lossy_count left right (here ∷ later) = (if left_lossy left here || right_lossy right here then 1 else 0) + lossy_count left right later
+
+-- where that is, among so many
+abbrev pub at_words : ℕ → ℕ → List ℕ
+at_words lossy all =
+    if lossy == all then (if all == 1 then codes "At this difference" else codes "At each of these differences")
+    else codes "At " ++ decimal lossy ++ codes " of these " ++ decimal all ++ codes " differences"
+
+-- which log is not clean at one of them
+abbrev pub who_words : Bool → Bool → List ℕ
+who_words true true = codes "A or B is not clean"
+who_words true false = codes "A is not clean"
+who_words false right = codes "B is not clean"
+
+-- what it means that a log is not clean at so many of so many changes, where one isn't
+abbrev pub loss_line_by : ℕ → ℕ → Bool → Bool → List ℕ
+loss_line_by lossy all left right =
+    if lossy == 0 then []
+    else codes "<p class=\"lossline\"><b>" ++ at_words lossy all ++ codes "</b> " ++ who_words left right
+    ++ codes ": frames are missing, late, out of order or of no legal form there. The recording may differ, and not the session.</p>\n"
+
+abbrev pub loss_line : SessionValue → SessionValue → List Change → List ℕ
+loss_line left right all =
+    loss_line_by (lossy_count left right all) (length all) (list_any (left_lossy left) all) (list_any (right_lossy right) all)
+
+-- How far it can be known.
+
+-- that a shorter difference may be there, where the bound was passed up to which a shortest one is looked for
+abbrev pub bound_line : Bool → ℕ → List ℕ
+bound_line true bound = []
+bound_line false bound = codes "<p>Perhaps not the shortest: more than " ++ decimal bound ++ codes " items would be removed or added.</p>\n"
+
+-- how many rows a large page has, and what gives a part of it
+abbrev pub size_line : ℕ → List ℕ
+size_line rows =
+    if nat_le rows 100000 then []
+    else codes "<p>This page has " ++ decimal rows ++ codes " rows. <code>udsnorm diff</code> has the differences alone, and <code>udsnorm list</code> any part of a session.</p>\n"
+
+-- two sessions that differ
+abbrev pub different_verdict : Bool → ℕ → List Row → SessionValue → SessionValue → List ℕ
+different_verdict shortest bound rows left right =
+    different_heading (length (changes rows)) (count_of Same rows) (count_of OnlyLeft rows) (count_of OnlyRight rows) (count_of Changed rows)
+    ++ loss_line left right (changes rows) ++ bound_line shortest bound ++ size_line (length rows)
+
+-- The same.
+
+abbrev pub is_exchange : ItemValue → Bool
+is_exchange (exchange request answer) = true
+is_exchange (stray side bytes) = false
+
+-- none of the two has an item: nothing was compared
+abbrev pub nothing_verdict : List ℕ
+nothing_verdict =
+    codes "<section id=\"verdict\" class=\"warn\">\n<h2><span aria-hidden=\"true\">!</span> Neither session has an item</h2>\n"
+    ++ codes "<p>So they can't differ. <code>udsnorm find</code> names the identifiers of a log.</p>\n"
+
+-- which log is not clean, by whether each is
+abbrev pub unclean_words : Bool → Bool → List ℕ
+unclean_words false false = codes "neither is clean"
+unclean_words false true = codes "A is not clean"
+unclean_words true clean = codes "B is not clean"
+
+-- the heading of sessions that are the same: in green only where they are so without a doubt
+abbrev pub same_heading : Bool → Bool → Bool → Bool → List ℕ
+same_heading exchanged asked left_clean right_clean =
+    if exchanged
+    then codes "<section id=\"verdict\" class=\"warn\">\n<h2><span aria-hidden=\"true\">!</span> The two sessions are the same, but tester and unit look exchanged</h2>\n"
+    else if not asked
+    then codes "<section id=\"verdict\" class=\"warn\">\n<h2><span aria-hidden=\"true\">!</span> The two sessions are the same, and neither has a request</h2>\n"
+    else if left_clean && right_clean
+    then codes "<section id=\"verdict\" class=\"good\">\n<h2><span aria-hidden=\"true\">=</span> The two sessions are the same</h2>\n"
+    else codes "<section id=\"verdict\" class=\"warn\">\n<h2><span aria-hidden=\"true\">=</span> The two sessions are the same as far as they are recorded: " ++ unclean_words left_clean right_clean ++ codes "</h2>\n"
+
+-- so many items are the same
+abbrev pub same_items : ℕ → List ℕ
+same_items count =
+    if count == 1 then codes "<p>One item is equal in both, byte for byte.</p>\n"
+    else codes "<p>Each of the " ++ decimal count ++ codes " items is equal in both, byte for byte.</p>\n"
+
+abbrev pub same_verdict : Bool → Bool → Bool → Bool → ℕ → List ℕ
+same_verdict exchanged asked left_clean right_clean count =
+    same_heading exchanged asked left_clean right_clean ++ same_items count ++ size_line count
+
+abbrev pub same_of : ℕ → SessionValue → SessionValue → List ℕ
+same_of count left right =
+    same_verdict (left.summary.looks_exchanged || right.summary.looks_exchanged) (list_any is_exchange (values_in left)) (is_clean left.summary) (is_clean right.summary) count
+
+-- the verdict of two sessions with these rows
+abbrev pub verdict : Bool → ℕ → List Row → SessionValue → SessionValue → List ℕ
+verdict shortest bound rows left right =
+    if differs rows then different_verdict shortest bound rows left right
+    else if length rows == 0 then nothing_verdict
+    else same_of (length rows) left right

@@ -1,0 +1,36 @@
+-- Devices of proof: what a change adds to a text and to a count, where one begins with a row.
+use Rattle.std.specs.Prelude.{ℕ, ◌-◌, ◌==◌, Bool, false, ◌||◌, List, [], ◌++◌, Option, Some, None, if◌then◌else◌}
+use Rattle.uds_exchange.specs.Meaning.{ItemValue}
+use Rattle.shown_rows.specs.declared.changes.Change.{Change}
+use Rattle.trace_report.specs.Session.{SessionValue}
+use Rattle.trace_pair.specs.Differences.{difference_line, more_start}
+use Rattle.trace_pair.specs.Verdict.{is_exchange, left_lossy, right_lossy}
+
+-- one change, if there is one
+abbrev pub count_if : Option Change → ℕ
+count_if None = 0
+count_if (Some here) = 1
+
+-- its line in a list of so many, and what begins before it
+abbrev pub line_if : SessionValue → SessionValue → ℕ → ℕ → Option Change → List ℕ
+line_if left right listed number None = []
+line_if left right listed number (Some here) = (if number == 11 then more_start (listed - 10) else []) ++ difference_line left right number here
+
+-- one, where a log is not clean at it
+abbrev pub lossy_if : SessionValue → SessionValue → Option Change → ℕ
+lossy_if left right None = 0
+lossy_if left right (Some here) = if left_lossy left here || right_lossy right here then 1 else 0
+
+-- the left log is not clean at it, and the right one
+abbrev pub left_lossy_if : SessionValue → Option Change → Bool
+left_lossy_if left None = false
+left_lossy_if left (Some here) = left_lossy left here
+
+abbrev pub right_lossy_if : SessionValue → Option Change → Bool
+right_lossy_if right None = false
+right_lossy_if right (Some here) = right_lossy right here
+
+-- the item at a place is an exchange, if there is one
+abbrev pub asks_if : Option ItemValue → Bool
+asks_if None = false
+asks_if (Some item) = is_exchange item

@@ -1,0 +1,235 @@
+//! A chart of one log: the rows around an item, with a mark at each byte that differs.
+ghost use Rattle.std.specs.Prelude.{◌≡◌, ◌-◌, drop, option_map, take, true};
+ghost use Rattle.trace_report.specs.Blocks.{begins_exchange as asks};
+ghost use Rattle.trace_report.specs.proving.Pages.{row_of};
+ghost use Rattle.trace_pair.specs.First as Spec;
+ghost use Rattle.trace_pair.specs.proving.Marks.{marked_of};
+
+use crate::column_lines::{Sides, say_columns};
+use crate::log::Log;
+use byte_columns::Beside;
+use text_parts::{Part, When, say};
+use trace_io::TextSink;
+use trace_report::{
+    Arrow, CellEnd, CellFront, ChartHead, Data, KeptRows, MessageFront, MessageRole, Note,
+    RoleWords, Row, Session, begins_item, has_word, is_answer_role, is_request_role,
+    say_dropped_row, say_ended_row, say_no_answer_row, say_unfinished_row,
+};
+use trace_text::Number;
+
+/// A chart has so many rows at most.
+const MOST_ROWS: usize = 40;
+
+/// What a chart marks: in the messages of the item with this number each byte that another message has not, of the one
+/// that begins it, of the answer, or of both.
+#[derive(Clone, Copy)]
+pub(crate) struct Marked<'a> {
+    pub item: u64,
+    pub begin: Option<&'a [u8]>,
+    pub answer: Option<&'a [u8]>,
+}
+
+/// Says the chart of a log around the item of a place, counted from 0.
+pub(crate) fn say_chart<S: TextSink>(
+    log: Log,
+    marked: Option<Marked<'_>>,
+    item: usize,
+    session: &Session,
+    out: &mut S,
+)
+    ensures { S.says out.old (Spec.chart log (option_map marked_of marked.entry) item session.now) out.new }
+{
+    let rows = session.rows();
+    let from = rows.rows_before(item.saturating_sub(1));
+    let to = rows.rows_before(item.saturating_add(3));
+    let end = to.min(from.saturating_add(MOST_ROWS));
+    say(out, ChartHead);
+    say_rows(log, marked, session.first(), rows, from, end, out);
+    say(
+        out,
+        (
+            ChartEnd {
+                more: to.saturating_sub(end),
+                empty: from == end,
+                ends: to == rows.len(),
+            },
+            "</table>\n",
+        ),
+    );
+}
+
+/// Says the rows from one place up to another. A body of the table begins with the first, and with each request.
+fn say_rows<S: TextSink>(
+    log: Log,
+    marked: Option<Marked<'_>>,
+    origin: u64,
+    rows: &KeptRows,
+    from: usize,
+    to: usize,
+    out: &mut S,
+)
+    ensures { S.says out.old (Spec.rows_text log (option_map marked_of marked.entry) origin true (take (to - from) (drop from rows.now))) out.new }
+{
+    'rows: for at in from..to {
+        let Some(row) = rows.row(at) else {
+            return;
+        };
+        let begins = begins_exchange(row);
+        say(out, When(at == from || begins, "<tbody>\n"));
+        say_row(log, marked, origin, row, out);
+    }
+}
+
+/// Whether an exchange begins with a row.
+fn begins_exchange(row: Row<'_>) -> bool
+    ensures { result ≡ asks (row_of row.entry) }
+{
+    match row {
+        Row::Message { role, .. } => is_request_role(role),
+        Row::NoAnswer { .. } | Row::Dropped { .. } | Row::Ended { .. } | Row::Unfinished { .. } => {
+            false
+        }
+    }
+}
+
+/// Says a row, to which no link leads.
+fn say_row<S: TextSink>(
+    log: Log,
+    marked: Option<Marked<'_>>,
+    origin: u64,
+    row: Row<'_>,
+    out: &mut S,
+)
+    ensures { S.says out.old (Spec.chart_row log (option_map marked_of marked.entry) origin (row_of row.entry)) out.new }
+{
+    match row {
+        Row::Message {
+            role,
+            dir,
+            place,
+            message,
+        } => {
+            say(
+                out,
+                (
+                    MessageFront {
+                        linked: false,
+                        origin,
+                        role,
+                        place,
+                    },
+                    CellFront(dir),
+                    RoleWords(role, dir, message),
+                ),
+            );
+            say_data(log, message, counterpart(marked, role, place.item), out);
+            say(
+                out,
+                (
+                    Note(role, place, message.len() as u64),
+                    CellEnd(dir, Arrow::Headed),
+                ),
+            );
+        }
+        Row::NoAnswer { number, silent } => say_no_answer_row(number, silent, out),
+        Row::Dropped {
+            place,
+            dir,
+            reason,
+            ..
+        } => say_dropped_row(false, origin, place, dir, reason, out),
+        Row::Ended { place, ended } => say_ended_row(false, origin, place, ended, out),
+        Row::Unfinished { dir, line, len } => say_unfinished_row(false, dir, line, len, out),
+    }
+}
+
+/// The message of the other log beside which a message is written, if it is.
+fn counterpart<'a>(marked: Option<Marked<'a>>, role: MessageRole, item: u64) -> Option<&'a [u8]>
+    ensures { option_map (λ other. other.now) result ≡ Spec.counterpart (option_map marked_of marked.entry) role item }
+{
+    let marked = marked?;
+    if item != marked.item {
+        None
+    } else if begins_item(role) {
+        marked.begin
+    } else if is_answer_role(role) {
+        marked.answer
+    } else {
+        None
+    }
+}
+
+/// Says the bytes of a message: beside the one of the other log, where there is one.
+fn say_data<S: TextSink>(log: Log, message: &[u8], other: Option<&[u8]>, out: &mut S)
+    ensures { S.says out.old (Spec.chart_data log message.now (option_map (λ bytes. bytes.now) other.entry)) out.new }
+{
+    match other {
+        Some(other) => {
+            let lettered = has_word(message) || has_word(other);
+            let columns = match log {
+                Log::A => Beside::of(message, other),
+                Log::B => Beside::of(other, message),
+            };
+            say_columns(Sides::Only(log), lettered, &columns, out);
+        }
+        None => say(out, Data(message)),
+    }
+}
+
+/// The end of a chart: how many rows more there are, or that the log ends.
+#[derive(Clone, Copy)]
+struct ChartEnd {
+    more: usize,
+    empty: bool,
+    ends: bool,
+}
+
+impl Part for ChartEnd {
+    ghost use Rattle.trace_pair.specs.First.{chart_end};
+
+    ghost text = { λ end. chart_end end.more end.empty end.ends };
+
+    fn say<S: TextSink>(self, out: &mut S) {
+        if self.more == 1 {
+            say(out, WordsRow("<i>1 row more, not shown here</i>"));
+        } else if self.more > 1 {
+            say(
+                out,
+                WordsRow((
+                    "<i>",
+                    Number(self.more as u64),
+                    " rows more, not shown here</i>",
+                )),
+            );
+        } else if self.ends {
+            say(
+                out,
+                (
+                    When(self.empty, "<tbody>\n"),
+                    WordsRow("<b>end</b> <i>of the log</i>"),
+                ),
+            );
+        }
+    }
+}
+
+/// A row of words alone.
+#[derive(Clone, Copy)]
+struct WordsRow<P>(P);
+
+impl<P: Part> Part for WordsRow<P> {
+    ghost use Rattle.trace_pair.specs.First.{words_row};
+
+    ghost text = { λ row. words_row (P.text row.0) };
+
+    fn say<S: TextSink>(self, out: &mut S) {
+        say(
+            out,
+            (
+                "<tr class=\"p\"><td><td><td><td><div class=\"t\"><div>",
+                self.0,
+                "</div></div>\n",
+            ),
+        );
+    }
+}

@@ -1,0 +1,139 @@
+//! A line of columns, as one log has it.
+ghost use Rattle.std.specs.Prelude.{◌≡◌, ◌+◌, ◌-◌, ◌≤◌, ◌<◌, length, take, drop};
+ghost use Rattle.byte_columns.specs.Laws.{listed};
+ghost use Rattle.byte_columns.specs.Lines.{line, line_count};
+ghost use Rattle.trace_report.specs.Letters.{letters};
+ghost use Rattle.trace_pair.specs.ColumnLines.{bytes_in, cells, cells_behind, line_of, whose_text};
+ghost use Rattle.trace_pair.specs.Logs as Spec;
+
+use crate::column_words::{ByteOrGap, MarkEnd, MarkStart, Whose};
+use crate::log::Log;
+use byte_columns::{Beside, Column};
+use text_parts::say;
+use trace_io::TextSink;
+use trace_report::shown_byte;
+use trace_text::Number;
+
+/// Says the line of a number, as one log has it, behind whose it is; with its letters, where the messages may be text.
+pub(crate) fn say_line_of<S: TextSink>(
+    lettered: bool,
+    whose: Whose,
+    log: Log,
+    columns: &Beside<'_>,
+    number: usize,
+    out: &mut S,
+)
+    requires { number < line_count columns.now }
+    ensures { S.says out.old (line_of lettered (whose_text whose) log columns.now number) out.new }
+{
+    let (from, to) = columns.line(number);
+    let before = bytes_before(log, columns, from);
+    if bytes_before(log, columns, to) == before {
+        say(
+            out,
+            ("<p><i></i>", whose, "<code><mark>no byte</mark></code></p>"),
+        );
+    } else {
+        say(
+            out,
+            ("<p><i>", Number(before as u64 + 1), "</i>", whose, "<code>"),
+        );
+        say_cells(log, columns, from, to, out);
+        say(out, "</code>");
+        if lettered {
+            say(out, " <samp>");
+            say_letters(log, columns, from, to, out);
+            say(out, "</samp>");
+        }
+        say(out, "</p>");
+    }
+}
+
+/// How many bytes a log has in the columns before a place.
+fn bytes_before(log: Log, columns: &Beside<'_>, at: usize) -> usize
+    requires { at ≤ length columns.now }
+    ensures { result ≡ length (bytes_in log (take at columns.now)) }
+{
+    match log {
+        Log::A => columns.left_before(at),
+        Log::B => columns.right_before(at),
+    }
+}
+
+/// Says what a log has in the columns from one place up to another: each that differs has a mark, and a run of those one.
+fn say_cells<S: TextSink>(log: Log, columns: &Beside<'_>, from: usize, to: usize, out: &mut S)
+    requires forward { from ≤ to }
+    requires inside { to ≤ length columns.now }
+    ensures { S.says out.old (cells log (take (to - from) (drop from columns.now))) out.new }
+{
+    if from < to {
+        let column = columns.column(from);
+        let differs = column.differs();
+        say(
+            out,
+            (MarkStart(false, differs), ByteOrGap(byte_of(log, column))),
+        );
+        say_cells_behind(log, columns, from + 1, to, differs, out);
+    }
+}
+
+/// Says them behind a column that has a mark or has none.
+fn say_cells_behind<S: TextSink>(
+    log: Log,
+    columns: &Beside<'_>,
+    from: usize,
+    to: usize,
+    marked: bool,
+    out: &mut S,
+)
+    requires forward { from ≤ to }
+    requires inside { to ≤ length columns.now }
+    ensures { S.says out.old (cells_behind log marked (take (to - from) (drop from columns.now))) out.new }
+{
+    let mut marked = marked;
+    'columns: for at in from..to {
+        let column = columns.column(at);
+        let differs = column.differs();
+        say(
+            out,
+            (
+                MarkEnd(marked, differs),
+                " ",
+                MarkStart(marked, differs),
+                ByteOrGap(byte_of(log, column)),
+            ),
+        );
+        marked = differs;
+    }
+    say(out, MarkEnd(marked, false));
+}
+
+/// Says its bytes there as letters.
+fn say_letters<S: TextSink>(log: Log, columns: &Beside<'_>, from: usize, to: usize, out: &mut S)
+    requires forward { from ≤ to }
+    requires inside { to ≤ length columns.now }
+    ensures { S.says out.old (letters (bytes_in log (take (to - from) (drop from columns.now)))) out.new }
+{
+    'columns: for at in from..to {
+        say_letter(byte_of(log, columns.column(at)), out);
+    }
+}
+
+/// Says a byte as a letter, if there is one.
+fn say_letter<S: TextSink>(byte: Option<u8>, out: &mut S)
+    ensures { S.says out.old (letters (listed byte)) out.new }
+{
+    if let Some(byte) = byte {
+        out.put(&[shown_byte(byte)]);
+    }
+}
+
+/// What a log has in a column, if it has a byte there.
+fn byte_of(log: Log, column: Column) -> Option<u8>
+    ensures { result ≡ Spec.byte_of log column }
+{
+    match log {
+        Log::A => column.left,
+        Log::B => column.right,
+    }
+}

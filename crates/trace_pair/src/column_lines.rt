@@ -1,0 +1,150 @@
+//! Two messages byte under byte, in lines of sixteen columns.
+ghost use Rattle.std.specs.Prelude.{◌+◌, ◌-◌, ◌≤◌, ◌<◌};
+ghost use Rattle.std.specs.List.{flat_map, range_with_len};
+ghost use Rattle.trace_pair.specs.declared.column_lines.Sides.TheVariants.{Both};
+ghost use Rattle.byte_columns.specs.Lines.{folded, hidden, line_count, stretches};
+ghost use Rattle.trace_pair.specs.ColumnLines.{hidden_text, line_text, lines_text, stretch_text};
+
+use crate::column_cells::say_line_of;
+use crate::column_words::{BytesMore, Differ, Whose};
+use crate::log::Log;
+use byte_columns::Beside;
+use text_parts::say;
+use trace_io::TextSink;
+
+/// Of which log a page shows the lines.
+#[derive(Clone, Copy, Debug)]
+pub(crate) enum Sides {
+    /// Of both: a line that differs stands twice.
+    Both,
+    /// Of one alone.
+    Only(Log),
+}
+
+/// Says two messages byte under byte: each line with its letters, where they may be text.
+pub(crate) fn say_columns<S: TextSink>(
+    sides: Sides,
+    lettered: bool,
+    columns: &Beside<'_>,
+    out: &mut S,
+)
+    ensures { S.says out.old (lines_text sides lettered columns.now) out.new }
+{
+    say(out, "<div class=\"hx\">");
+    say_stretches(sides, lettered, columns, out);
+    say_hidden(columns, out);
+    say(out, "</div>");
+}
+
+/// Says all lines, shown or folded.
+fn say_stretches<S: TextSink>(sides: Sides, lettered: bool, columns: &Beside<'_>, out: &mut S)
+    ensures { S.says out.old (flat_map (stretch_text sides lettered columns.now) (stretches columns.now)) out.new }
+{
+    let count = columns.lines();
+    let mut before: usize = 0;
+    let mut at: usize = 0;
+    'lines: while at < count {
+        let folded = columns.folded(at, before);
+        if folded == 0 {
+            say_line(sides, lettered, columns, at, out);
+            before = columns.differing_behind(at, before, 1);
+            at += 1;
+        } else {
+            say_fold(sides, lettered, columns, at, folded, out);
+            before = columns.differing_behind(at, before, folded);
+            at += folded;
+        }
+    }
+}
+
+/// Says lines that are folded together: so many, from this one on.
+fn say_fold<S: TextSink>(
+    sides: Sides,
+    lettered: bool,
+    columns: &Beside<'_>,
+    first: usize,
+    count: usize,
+    out: &mut S,
+)
+    requires { first + count ≤ line_count columns.now }
+    ensures { S.says out.old (stretch_text sides lettered columns.now (folded first count)) out.new }
+{
+    say(
+        out,
+        (
+            "<details><summary>",
+            BytesMore(columns.columns_from(first, count)),
+            ", ",
+            Differ(columns.differing_from(first, count)),
+            "</summary>",
+        ),
+    );
+    say_lines(sides, lettered, columns, first, count, out);
+    say(out, "</details>");
+}
+
+/// Says so many lines, from this one on.
+fn say_lines<S: TextSink>(
+    sides: Sides,
+    lettered: bool,
+    columns: &Beside<'_>,
+    first: usize,
+    count: usize,
+    out: &mut S,
+)
+    requires { first + count ≤ line_count columns.now }
+    ensures { S.says out.old (flat_map (line_text sides lettered columns.now) (range_with_len first count)) out.new }
+{
+    'lines: for at in first..first + count {
+        say_line(sides, lettered, columns, at, out);
+    }
+}
+
+/// Says a line.
+fn say_line<S: TextSink>(
+    sides: Sides,
+    lettered: bool,
+    columns: &Beside<'_>,
+    number: usize,
+    out: &mut S,
+)
+    requires { number < line_count columns.now }
+    ensures { S.says out.old (line_text sides lettered columns.now number) out.new }
+{
+    match sides {
+        Sides::Only(log) => say_line_of(lettered, Whose::Untold, log, columns, number, out),
+        Sides::Both => say_line_of_both(lettered, columns, number, out),
+    }
+}
+
+/// Says a line of both logs: twice, where it differs.
+fn say_line_of_both<S: TextSink>(lettered: bool, columns: &Beside<'_>, number: usize, out: &mut S)
+    requires { number < line_count columns.now }
+    ensures { S.says out.old (line_text Both lettered columns.now number) out.new }
+{
+    if columns.differing_in(number) > 0 {
+        say_line_of(lettered, Whose::Of(Log::A), Log::A, columns, number, out);
+        say_line_of(lettered, Whose::Of(Log::B), Log::B, columns, number, out);
+    } else {
+        say_line_of(lettered, Whose::OfBoth, Log::A, columns, number, out);
+    }
+}
+
+/// Says how many columns are not shown, if some are, and how many of them differ.
+fn say_hidden<S: TextSink>(columns: &Beside<'_>, out: &mut S)
+    ensures { S.says out.old (hidden_text (hidden columns.now)) out.new }
+{
+    let more = columns.len() - columns.in_lines();
+    if more > 0 {
+        say(
+            out,
+            (
+                "<p class=\"rest\"><i>",
+                BytesMore(more),
+                ", not shown; ",
+                Differ(columns.hidden_differing()),
+                "</i></p>",
+            ),
+        );
+    }
+}

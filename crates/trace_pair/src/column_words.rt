@@ -1,0 +1,117 @@
+//! The words beside two messages byte under byte.
+use crate::log::Log;
+use text_parts::{Either, Part, say};
+use trace_io::TextSink;
+use trace_text::{Byte, Number};
+
+/// Whose a line is.
+#[derive(Clone, Copy)]
+pub(crate) enum Whose {
+    Of(Log),
+    OfBoth,
+    Untold,
+}
+
+impl Part for Whose {
+    ghost use Rattle.trace_pair.specs.ColumnLines.{whose_text};
+
+    ghost text = { λ whose. whose_text whose };
+
+    fn say<S: TextSink>(self, out: &mut S) {
+        match self {
+            Whose::Of(log) => say(out, ("<span class=\"who\">", log, "</span>")),
+            Whose::OfBoth => say(out, "<span class=\"who eq\">=</span>"),
+            Whose::Untold => {}
+        }
+    }
+}
+
+/// The start of a mark: of a column that differs or does not, behind one that has a mark or has none.
+#[derive(Clone, Copy)]
+pub(crate) struct MarkStart(pub bool, pub bool);
+
+impl Part for MarkStart {
+    ghost use Rattle.trace_pair.specs.ColumnLines.{mark_start};
+
+    ghost text = { λ mark. mark_start mark.0 mark.1 };
+
+    fn say<S: TextSink>(self, out: &mut S) {
+        if self.1 {
+            if !self.0 {
+                say(out, "<mark>");
+            }
+        }
+    }
+}
+
+/// The end of a mark: behind a column that has one or has none, before one that differs or does not.
+#[derive(Clone, Copy)]
+pub(crate) struct MarkEnd(pub bool, pub bool);
+
+impl Part for MarkEnd {
+    ghost use Rattle.trace_pair.specs.ColumnLines.{mark_end};
+
+    ghost text = { λ mark. mark_end mark.0 mark.1 };
+
+    fn say<S: TextSink>(self, out: &mut S) {
+        if self.0 {
+            if !self.1 {
+                say(out, "</mark>");
+            }
+        }
+    }
+}
+
+/// A byte, or a gap.
+#[derive(Clone, Copy)]
+pub(crate) struct ByteOrGap(pub Option<u8>);
+
+impl Part for ByteOrGap {
+    ghost use Rattle.trace_pair.specs.ColumnLines.{byte_or_gap};
+
+    ghost text = { λ cell. byte_or_gap cell.0 };
+
+    fn say<S: TextSink>(self, out: &mut S) {
+        match self.0 {
+            Some(byte) => say(out, Byte(byte)),
+            None => say(out, "--"),
+        }
+    }
+}
+
+/// So many bytes more.
+#[derive(Clone, Copy)]
+pub(crate) struct BytesMore(pub usize);
+
+impl Part for BytesMore {
+    ghost use Rattle.trace_pair.specs.ColumnLines.{bytes_more};
+
+    ghost text = { λ more. bytes_more more.0 };
+
+    fn say<S: TextSink>(self, out: &mut S) {
+        let several = (Number(self.0 as u64), " bytes more");
+        say(out, Either(self.0 == 1, "1 byte more", several));
+    }
+}
+
+/// How many of some bytes differ.
+#[derive(Clone, Copy)]
+pub(crate) struct Differ(pub usize);
+
+impl Part for Differ {
+    ghost use Rattle.trace_pair.specs.ColumnLines.{differ_words};
+
+    ghost text = { λ differ. differ_words differ.0 };
+
+    fn say<S: TextSink>(self, out: &mut S) {
+        let several = (Number(self.0 as u64), " of them differ");
+        say(
+            out,
+            Either(
+                self.0 == 0,
+                "the same",
+                Either(self.0 == 1, "1 of them differs", several),
+            ),
+        );
+    }
+}

@@ -1,0 +1,87 @@
+//! How two items differ, in words.
+ghost use Rattle.std.specs.Prelude.{Some};
+ghost use Rattle.trace_pair.specs.ItemWords.{answer_bytes};
+
+use crate::byte_words::ByteWords;
+use crate::outcome::{Outcome, came_of, same_outcome};
+use text_parts::{Part, say};
+use trace_io::TextSink;
+use uds_exchange::Item;
+
+/// How two items of one service differ: in the request, in the answer, or in both.
+#[derive(Clone, Copy)]
+pub(crate) struct DifferWords<'a>(pub Item<'a>, pub Item<'a>);
+
+impl<'a> Part for DifferWords<'a> {
+    ghost use Rattle.uds_exchange.specs.ItemSeen.{item_value};
+    ghost use Rattle.trace_pair.specs.ItemWords.{differ};
+
+    ghost text = { λ items. differ (item_value items.0) (item_value items.1) };
+
+    fn say<S: TextSink>(self, out: &mut S) {
+        match (self.0, self.1) {
+            (
+                Item::Exchange { request, answer },
+                Item::Exchange {
+                    request: other,
+                    answer: reply,
+                },
+            ) => {
+                let answers = AnswersDiffer {
+                    before: if request == other { "" } else { "; " },
+                    one: came_of(request, answer),
+                    other: came_of(other, reply),
+                    answer,
+                    reply,
+                };
+                if request == other {
+                    say(out, answers);
+                } else {
+                    say(out, ("request", ByteWords(request, other), answers));
+                }
+            }
+            (Item::Stray { bytes, .. }, Item::Stray { bytes: others, .. }) => say(
+                out,
+                ("message", ByteWords(bytes, others)),
+            ),
+            (Item::Exchange { .. }, Item::Stray { .. })
+            | (Item::Stray { .. }, Item::Exchange { .. }) => {}
+        }
+    }
+}
+
+/// How the answers of two exchanges differ, behind what stands before: in what came of the request, or else in bytes.
+#[derive(Clone, Copy)]
+struct AnswersDiffer<'a> {
+    before: &'static str,
+    one: Outcome,
+    other: Outcome,
+    answer: Option<&'a [u8]>,
+    reply: Option<&'a [u8]>,
+}
+
+impl<'a> Part for AnswersDiffer<'a> {
+    ghost use Rattle.std.specs.Prelude.{option_map};
+    ghost use Rattle.trace_pair.specs.ItemWords.{answers_differ};
+
+    ghost text = { λ t. answers_differ t.before.now t.one t.other (option_map (λ answer. answer.now) t.answer) (option_map (λ reply. reply.now) t.reply) };
+
+    fn say<S: TextSink>(self, out: &mut S) {
+        if same_outcome(self.one, self.other) {
+            if let (Some(answer), Some(reply)) = (self.answer, self.reply) {
+                say_answer_bytes(self.before, answer, reply, out);
+            }
+        } else {
+            say(out, (self.before, self.one, " in A, ", self.other, " in B"));
+        }
+    }
+}
+
+/// Says at which bytes two answers differ, where they do.
+fn say_answer_bytes<S: TextSink>(before: &'static str, answer: &[u8], reply: &[u8], out: &mut S)
+    ensures { S.says out.old (answer_bytes before.now (Some answer.now) (Some reply.now)) out.new }
+{
+    if answer != reply {
+        say(out, (before, "answer", ByteWords(answer, reply)));
+    }
+}

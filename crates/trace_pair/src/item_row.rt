@@ -1,0 +1,248 @@
+//! A row of the table of items.
+ghost use Rattle.std.specs.Prelude.{◌≡◌, option_map};
+ghost use Rattle.trace_report.specs.proving.Lending.{item_of};
+ghost use Rattle.trace_pair.specs.ItemRows as Spec;
+ghost use Rattle.trace_pair.specs.Verdict as Verdict;
+
+use crate::change_top::TopIf;
+use crate::log::Log;
+use crate::losses::say_losses;
+use crate::pair_bytes::ToldPair;
+use crate::sessions::Sessions;
+use crate::told_items::{NoteOf, ToldItem};
+use text_parts::{Part, say};
+use trace_io::TextSink;
+use trace_report::{PlacedItem, Session};
+use trace_text::{Number, Place};
+use uds_difference::Row;
+
+/// Where a row stands: what it is, and how many items of both stand before it.
+#[derive(Clone, Copy)]
+pub(crate) struct RowPlace {
+    pub kind: Row,
+    pub left: usize,
+    pub right: usize,
+}
+
+/// The change that begins with a row: its number, of how many, and how many rows it has.
+#[derive(Clone, Copy)]
+pub(crate) struct Begun {
+    pub number: u64,
+    pub all: u64,
+    pub count: usize,
+}
+
+/// Says a row, with which a change may begin.
+pub(crate) fn say_item_row<S: TextSink>(
+    sessions: Sessions<'_>,
+    place: RowPlace,
+    begun: Option<Begun>,
+    out: &mut S,
+)
+    ensures { S.says out.old (Spec.row_text sessions.entry.left.now sessions.entry.right.now place begun) out.new }
+{
+    let one = left_item(sessions.left, place);
+    let other = right_item(sessions.right, place);
+    say(out, (RowStart(place.kind, begun), Numbers(place)));
+    say(out, TopIf(begun, place.kind, one, other));
+    say(
+        out,
+        (
+            "<div class=\"it\">",
+            Told(place.kind, one, other),
+            "</div><div class=\"ab\">",
+            NoteIf(Log::A, sessions.left.first(), one),
+            NoteIf(Log::B, sessions.right.first(), other),
+            "</div>",
+        ),
+    );
+    if has_left(place.kind) {
+        say_losses(Log::A, sessions.left, place.left, out);
+    }
+    if has_right(place.kind) {
+        say_losses(Log::B, sessions.right, place.right, out);
+    }
+    say(out, "\n");
+}
+
+/// Whether a row of this kind has an item of the left log.
+fn has_left(kind: Row) -> bool
+    ensures { result ≡ Verdict.has_left kind }
+{
+    match kind {
+        Row::Same | Row::Changed | Row::OnlyLeft => true,
+        Row::OnlyRight => false,
+    }
+}
+
+/// Whether it has one of the right log.
+fn has_right(kind: Row) -> bool
+    ensures { result ≡ Verdict.has_right kind }
+{
+    match kind {
+        Row::Same | Row::Changed | Row::OnlyRight => true,
+        Row::OnlyLeft => false,
+    }
+}
+
+/// The item that a row has of the left log, if it has one.
+fn left_item(session: &Session, place: RowPlace) -> Option<PlacedItem<'_>>
+    ensures { option_map item_of result ≡ Spec.left_item session.now place.kind place.left }
+{
+    if has_left(place.kind) {
+        session.rows().item(place.left)
+    } else {
+        None
+    }
+}
+
+/// The item that it has of the right log.
+fn right_item(session: &Session, place: RowPlace) -> Option<PlacedItem<'_>>
+    ensures { option_map item_of result ≡ Spec.right_item session.now place.kind place.right }
+{
+    if has_right(place.kind) {
+        session.rows().item(place.right)
+    } else {
+        None
+    }
+}
+
+/// The start of a row: what it looks like, and where a change begins, the identifier to which the list leads.
+#[derive(Clone, Copy)]
+struct RowStart(Row, Option<Begun>);
+
+impl Part for RowStart {
+    ghost use Rattle.trace_pair.specs.ItemRows.{begun_number, row_start};
+
+    ghost text = { λ t. row_start t.0 (begun_number t.1) };
+
+    fn say<S: TextSink>(self, out: &mut S) {
+        say(out, ("<tr class=\"", RowClass(self.0)));
+        match self.1 {
+            Some(begun) => say(out, ("\" id=\"d", Number(begun.number), "\">")),
+            None => say(out, "\">"),
+        }
+    }
+}
+
+/// What a row looks like.
+#[derive(Clone, Copy)]
+struct RowClass(Row);
+
+impl Part for RowClass {
+    ghost use Rattle.trace_pair.specs.ItemRows.{row_class};
+
+    ghost text = { λ t. row_class t.0 };
+
+    fn say<S: TextSink>(self, out: &mut S) {
+        match self.0 {
+            Row::Same => say(out, "same"),
+            Row::Changed => say(out, "d ch"),
+            Row::OnlyLeft => say(out, "d oa"),
+            Row::OnlyRight => say(out, "d ob"),
+        }
+    }
+}
+
+/// The numbers of a row: those of the items that it has.
+#[derive(Clone, Copy)]
+struct Numbers(RowPlace);
+
+impl Part for Numbers {
+    ghost use Rattle.trace_pair.specs.ItemRows.{numbers};
+
+    ghost text = { λ t. numbers t.0.kind t.0.left t.0.right };
+
+    fn say<S: TextSink>(self, out: &mut S) {
+        let RowPlace { kind, left, right } = self.0;
+        say(
+            out,
+            (
+                "<th scope=\"row\">",
+                NumberIf(has_left(kind), left),
+                "<td>",
+                NumberIf(has_right(kind), right),
+                "<td>",
+            ),
+        );
+    }
+}
+
+/// The number of an item, or that there is none.
+#[derive(Clone, Copy)]
+struct NumberIf(bool, usize);
+
+impl Part for NumberIf {
+    ghost use Rattle.trace_pair.specs.ItemRows.{number_if};
+
+    ghost text = { λ t. number_if t.0 t.1 };
+
+    fn say<S: TextSink>(self, out: &mut S) {
+        if self.0 {
+            say(out, Place(self.1));
+        } else {
+            say(out, "<span class=\"none\">&#8211;</span>");
+        }
+    }
+}
+
+/// The items of a row: what both have the same stands once.
+#[derive(Clone, Copy)]
+struct Told<'a>(Row, Option<PlacedItem<'a>>, Option<PlacedItem<'a>>);
+
+impl<'a> Part for Told<'a> {
+    ghost use Rattle.std.specs.Prelude.{option_map};
+    ghost use Rattle.trace_report.specs.proving.Lending.{item_of};
+    ghost use Rattle.trace_pair.specs.ItemRows.{told};
+
+    ghost text = { λ t. told t.0 (option_map item_of t.1) (option_map item_of t.2) };
+
+    fn say<S: TextSink>(self, out: &mut S) {
+        let Told(kind, one, other) = self;
+        match kind {
+            Row::Changed => {
+                if let (Some(one), Some(other)) = (one, other) {
+                    say(out, ToldPair(one, other));
+                }
+            }
+            Row::OnlyLeft => say(out, ToldIf(one)),
+            Row::Same | Row::OnlyRight => say(out, ToldIf(other)),
+        }
+    }
+}
+
+/// An item, if there is one.
+#[derive(Clone, Copy)]
+struct ToldIf<'a>(Option<PlacedItem<'a>>);
+
+impl<'a> Part for ToldIf<'a> {
+    ghost use Rattle.std.specs.Prelude.{option_map};
+    ghost use Rattle.trace_report.specs.proving.Lending.{item_of};
+    ghost use Rattle.trace_pair.specs.ItemRows.{told_if};
+
+    ghost text = { λ t. told_if (option_map item_of t.0) };
+
+    fn say<S: TextSink>(self, out: &mut S) {
+        if let Some(item) = self.0 {
+            say(out, ToldItem(item));
+        }
+    }
+}
+
+/// When an item was, if there is one.
+#[derive(Clone, Copy)]
+struct NoteIf<'a>(Log, u64, Option<PlacedItem<'a>>);
+
+impl<'a> Part for NoteIf<'a> {
+    ghost use Rattle.std.specs.Prelude.{option_map};
+    ghost use Rattle.trace_report.specs.proving.Lending.{item_of};
+    ghost use Rattle.trace_pair.specs.ItemRows.{note_if};
+
+    ghost text = { λ t. note_if t.0 t.1 (option_map item_of t.2) };
+
+    fn say<S: TextSink>(self, out: &mut S) {
+        if let Some(item) = self.2 {
+            say(out, NoteOf(self.0, self.1, item));
+        }
+    }
+}

@@ -1,0 +1,184 @@
+//! The table of items: each row of both sessions once.
+ghost use Rattle.std.specs.Prelude.{◌≡◌, ◌+◌, ◌<◌, ◌∷◌, List, length};
+ghost use Rattle.uds_difference.specs.declared.row.Row.{Row as RowValue};
+ghost use Rattle.shown_rows.specs.Changes.{changes};
+ghost use Rattle.trace_pair.specs.ItemTables.{IsRoomy};
+ghost use Rattle.trace_pair.specs.ItemTables as Spec;
+
+use crate::folds::say_fold;
+use crate::item_row::{Begun, RowPlace, say_item_row};
+use crate::sessions::Sessions;
+use crate::standing::{Standing, Table};
+use shown_rows::{change_at, count_changes, count_of, differs, folded, is_shown};
+use text_parts::{Part, When, say};
+use trace_io::TextSink;
+use trace_text::Place;
+use uds_difference::Row;
+
+/// Of the tables that fold, so many are open.
+const OPEN_BLOCKS: usize = 4;
+
+/// Says all items of two sessions with these rows.
+pub(crate) fn say_items<S: TextSink>(sessions: Sessions<'_>, rows: &[Row], out: &mut S)
+    ensures { S.says out.old (Spec.items_text sessions.entry.left.now sessions.entry.right.now rows.now) out.new }
+{
+    let filtered = differs(rows) && count_of(Row::Same, rows) != 0;
+    say(
+        out,
+        (
+            "<section id=\"items\">\n<h2>Items</h2>\n",
+            When(
+                filtered,
+                "<p class=\"filter\"><input type=\"checkbox\" id=\"apart\"> <label for=\"apart\">Show only differences</label></p>\n",
+            ),
+        ),
+    );
+    if rows.is_empty() {
+        say(out, "<p>None.</p>\n");
+    } else {
+        say_rows(sessions, rows, out);
+    }
+    say(out, "</section>\n");
+}
+
+/// Says all rows.
+fn say_rows<S: TextSink>(sessions: Sessions<'_>, rows: &[Row], out: &mut S)
+    ensures { S.says out.old (Spec.rows_text sessions.entry.left.now sessions.entry.right.now (length (changes rows.now)) Spec.at_start rows.now) out.new }
+{
+    let all = count_changes(rows);
+    let mut at = Standing::at_start();
+    'rows: for k in 0..rows.len() {
+        let rest = &rows[k..];
+        say_row_or_fold(sessions, all, at, rest, out);
+        at = at.behind(rest);
+    }
+    say(out, TableEnd(at.table));
+}
+
+/// Says the first of these rows, where it is shown, or the fold that begins with it, behind the end of the table.
+fn say_row_or_fold<S: TextSink>(
+    sessions: Sessions<'_>,
+    all: usize,
+    at: Standing,
+    rows: &[Row],
+    out: &mut S,
+)
+    requires { IsRoomy at (length rows.now) }
+    ensures { (row : RowValue) (later : List RowValue) → rows.now ≡ row ∷ later
+        → S.says out.old (Spec.row_or_fold sessions.entry.left.now sessions.entry.right.now all at row later) out.new }
+{
+    if at.folded == 0 {
+        if is_shown(at.context, rows) {
+            say_shown(sessions, all, at, rows, out);
+        } else {
+            say(out, TableEnd(at.table));
+            say_fold(sessions, at.left, at.right, folded(rows), out);
+        }
+    }
+}
+
+/// Says the first of these rows, and what begins before it.
+fn say_shown<S: TextSink>(
+    sessions: Sessions<'_>,
+    all: usize,
+    at: Standing,
+    rows: &[Row],
+    out: &mut S,
+)
+    requires { IsRoomy at (length rows.now) }
+    ensures { (row : RowValue) (later : List RowValue) → rows.now ≡ row ∷ later
+        → S.says out.old (Spec.shown_text sessions.entry.left.now sessions.entry.right.now all at row later) out.new }
+{
+    let Some(kind) = rows.first() else {
+        return;
+    };
+    let place = RowPlace {
+        kind: *kind,
+        left: at.left,
+        right: at.right,
+    };
+    say(out, Opening(at));
+    let begun = change_begun(at, all, rows);
+    say_item_row(sessions, place, begun, out);
+}
+
+/// The change that begins with the first of these rows, if one does.
+fn change_begun(at: Standing, all: usize, rows: &[Row]) -> Option<Begun>
+    requires { IsRoomy at (length rows.now) }
+    ensures { (row : RowValue) (later : List RowValue) → rows.now ≡ row ∷ later
+        → result ≡ Spec.begun at.front at.changes all row later }
+{
+    let change = change_at(at.front, at.left, at.right, rows)?;
+    Some(Begun {
+        number: at.changes as u64 + 1,
+        all: all as u64,
+        count: change.count,
+    })
+}
+
+/// What begins before a row.
+#[derive(Clone, Copy)]
+struct Opening(Standing);
+
+impl Part for Opening {
+    ghost use Rattle.trace_pair.specs.ItemTables.{opening};
+
+    ghost text = { λ t. opening t.0.table t.0.blocks t.0.left t.0.right };
+
+    fn say<S: TextSink>(self, out: &mut S) {
+        let at = self.0;
+        if at.table == Table::Closed {
+            say(out, TableStart);
+        } else if at.table.is_full() {
+            say(
+                out,
+                (
+                    TableEnd(at.table),
+                    "<details class=\"b\"",
+                    When(at.blocks < OPEN_BLOCKS, " open"),
+                    ">\n<summary>From A&#160;",
+                    Place(at.left),
+                    ", B&#160;",
+                    Place(at.right),
+                    "</summary>\n",
+                    TableStart,
+                ),
+            );
+        }
+    }
+}
+
+/// The start of a table.
+#[derive(Clone, Copy)]
+pub(crate) struct TableStart;
+
+impl Part for TableStart {
+    ghost use Rattle.trace_pair.specs.ItemTables.{table_start};
+
+    ghost text = { λ start. table_start };
+
+    fn say<S: TextSink>(self, out: &mut S) {
+        say(
+            out,
+            "<table class=\"pair\">\n<thead><tr><th scope=\"col\">A<th scope=\"col\">B<th scope=\"col\">Item</thead>\n<tbody>\n",
+        );
+    }
+}
+
+/// The end of the table that stands.
+#[derive(Clone, Copy)]
+struct TableEnd(Table);
+
+impl Part for TableEnd {
+    ghost use Rattle.trace_pair.specs.ItemTables.{table_end};
+
+    ghost text = { λ end. table_end end.0 };
+
+    fn say<S: TextSink>(self, out: &mut S) {
+        match self.0 {
+            Table::Closed => {}
+            Table::Open(_) => say(out, "</table>\n"),
+            Table::Block(_) => say(out, "</table>\n</details>\n"),
+        }
+    }
+}

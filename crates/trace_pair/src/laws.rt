@@ -1,0 +1,22 @@
+//! What holds of a page of two logs, whatever logs it is of. A law is its contract; a call does nothing. A law of a lower
+//! crate that a proof needs is called.
+ghost use Rattle.trace_pair.specs.Laws.{AgreesWithCompare, StyleHoldsNoTag, UnansweredHasNone};
+
+use trace_report::laws::items_are_the_meaning;
+
+/// The style of a page opens and closes nothing on it.
+pub fn style_holds_no_tag()
+    ensures { StyleHoldsNoTag }
+{}
+
+/// What is answered of two logs beside their page is what `compare` answers, where that accepts both.
+pub fn agrees_with_compare()
+    ensures { AgreesWithCompare }
+{
+    items_are_the_meaning();
+}
+
+/// An item that is said to have no answer has none.
+pub fn unanswered_has_none()
+    ensures { UnansweredHasNone }
+{}

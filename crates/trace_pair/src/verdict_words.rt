@@ -1,0 +1,252 @@
+//! The words of a verdict over two sessions.
+ghost use Rattle.std.specs.Prelude.{◌≡◌, ◌+◌, ◌<◌, ◌≤◌, ◌^◌, ◌||◌, false, if◌then◌else◌};
+
+use text_parts::{Either, Part, When, say};
+use trace_io::TextSink;
+use trace_text::Number;
+
+/// So many items.
+#[derive(Clone, Copy)]
+pub(crate) struct ItemsWord(pub u64);
+
+impl Part for ItemsWord {
+    ghost use Rattle.trace_pair.specs.Verdict.{items_word};
+
+    ghost text = { λ word. items_word word.0 };
+
+    fn say<S: TextSink>(self, out: &mut S) {
+        let several = (Number(self.0), " items");
+        say(out, Either(self.0 == 1, "1 item", several));
+    }
+}
+
+/// The heading of sessions that differ: how many changes there are, and how many rows of each kind.
+#[derive(Clone, Copy)]
+pub(crate) struct DifferentHeading {
+    pub differences: u64,
+    pub same: u64,
+    pub left: u64,
+    pub right: u64,
+    pub changed: u64,
+}
+
+impl Part for DifferentHeading {
+    ghost use Rattle.trace_pair.specs.Verdict.{different_heading};
+
+    ghost text = { λ h. different_heading h.differences h.same h.left h.right h.changed };
+
+    fn say<S: TextSink>(self, out: &mut S) {
+        let several = (Number(self.differences), " differences: ");
+        say(
+            out,
+            (
+                "<section id=\"verdict\" class=\"warn\">\n<h2><span aria-hidden=\"true\">&#8800;</span> ",
+                Either(self.differences == 1, "1 difference: ", several),
+                CountsWords {
+                    left: self.left,
+                    right: self.right,
+                    changed: self.changed,
+                },
+                "</h2>\n<p>",
+                SameWords(self.same),
+                " <a href=\"#difference\">",
+                Either(self.differences == 1, "See it.", "See the first."),
+                "</a></p>\n",
+            ),
+        );
+    }
+}
+
+/// How many items only one session has, and how many changed.
+#[derive(Clone, Copy)]
+struct CountsWords {
+    left: u64,
+    right: u64,
+    changed: u64,
+}
+
+impl Part for CountsWords {
+    ghost use Rattle.trace_pair.specs.Verdict.{counts_words};
+
+    ghost text = { λ c. counts_words c.left c.right c.changed };
+
+    fn say<S: TextSink>(self, out: &mut S) {
+        let CountsWords {
+            left,
+            right,
+            changed,
+        } = self;
+        say(
+            out,
+            (
+                When(left != 0, (ItemsWord(left), " only in A")),
+                When(
+                    right != 0,
+                    (
+                        Either(left == 0, ItemsWord(right), (", ", Number(right))),
+                        " only in B",
+                    ),
+                ),
+                When(
+                    changed != 0,
+                    (
+                        Either(
+                            left == 0 && right == 0,
+                            ItemsWord(changed),
+                            (", ", Number(changed)),
+                        ),
+                        " changed",
+                    ),
+                ),
+            ),
+        );
+    }
+}
+
+/// How many items are the same.
+#[derive(Clone, Copy)]
+struct SameWords(u64);
+
+impl Part for SameWords {
+    ghost use Rattle.trace_pair.specs.Verdict.{same_words};
+
+    ghost text = { λ words. same_words words.0 };
+
+    fn say<S: TextSink>(self, out: &mut S) {
+        match self.0 {
+            0 => say(out, "No item is the same."),
+            1 => say(out, "<b>1</b> item is the same."),
+            several => say(out, ("<b>", Number(several), "</b> items are the same.")),
+        }
+    }
+}
+
+/// At how many of all changes a log is not clean, and whether the left one is, and the right one.
+#[derive(Clone, Copy, Debug)]
+pub(crate) struct LossLine {
+    pub lossy: u64,
+    pub all: u64,
+    pub left: bool,
+    pub right: bool,
+}
+
+impl LossLine {
+    /// Of no change.
+    pub(crate) fn none() -> LossLine
+        ensures lossy { result.lossy ≡ 0 }
+        ensures all { result.all ≡ 0 }
+        ensures left { result.left ≡ false }
+        ensures right { result.right ≡ false }
+    {
+        LossLine {
+            lossy: 0,
+            all: 0,
+            left: false,
+            right: false,
+        }
+    }
+
+    /// With one change more, at which the logs are not clean or are.
+    pub(crate) fn with(self, left: bool, right: bool) -> LossLine
+        requires small { self.all + 1 < 2 ^ 63 }
+        requires few { self.lossy ≤ self.all }
+        ensures lossy { result.lossy ≡ (if left || right then 1 else 0) + self.lossy }
+        ensures all { result.all ≡ self.all + 1 }
+        ensures left { result.left ≡ (left || self.left) }
+        ensures right { result.right ≡ (right || self.right) }
+    {
+        LossLine {
+            lossy: if left || right {
+                self.lossy + 1
+            } else {
+                self.lossy
+            },
+            all: self.all + 1,
+            left: left || self.left,
+            right: right || self.right,
+        }
+    }
+}
+
+impl Part for LossLine {
+    ghost use Rattle.trace_pair.specs.Verdict.{loss_line_by};
+
+    ghost text = { λ line. loss_line_by line.lossy line.all line.left line.right };
+
+    fn say<S: TextSink>(self, out: &mut S) {
+        if self.lossy > 0 {
+            say(
+                out,
+                (
+                    "<p class=\"lossline\"><b>",
+                    AtWords(self.lossy, self.all),
+                    "</b> ",
+                    Either(
+                        self.left,
+                        Either(self.right, "A or B is not clean", "A is not clean"),
+                        "B is not clean",
+                    ),
+                    ": frames are missing, late, out of order or of no legal form there. The recording may differ, and not the session.</p>\n",
+                ),
+            );
+        }
+    }
+}
+
+/// At so many of so many changes.
+#[derive(Clone, Copy)]
+struct AtWords(u64, u64);
+
+impl Part for AtWords {
+    ghost use Rattle.trace_pair.specs.Verdict.{at_words};
+
+    ghost text = { λ words. at_words words.0 words.1 };
+
+    fn say<S: TextSink>(self, out: &mut S) {
+        let AtWords(lossy, all) = self;
+        if lossy == all {
+            say(
+                out,
+                Either(
+                    all == 1,
+                    "At this difference",
+                    "At each of these differences",
+                ),
+            );
+        } else {
+            say(
+                out,
+                (
+                    "At ",
+                    Number(lossy),
+                    " of these ",
+                    Number(all),
+                    " differences",
+                ),
+            );
+        }
+    }
+}
+
+/// How many rows a large page has, and what gives a part of it.
+#[derive(Clone, Copy)]
+pub(crate) struct SizeLine(pub usize);
+
+impl Part for SizeLine {
+    ghost use Rattle.trace_pair.specs.Verdict.{size_line};
+
+    ghost text = { λ line. size_line line.0 };
+
+    fn say<S: TextSink>(self, out: &mut S) {
+        if self.0 > 100_000 {
+            say(
+                out,
+                (
+                    "<p>This page has ",
+                    Number(self.0 as u64),
+                    " rows. <code>udsnorm diff</code> has the differences alone, and <code>udsnorm list</code> any part of a session.</p>\n",
+                ),
+            );
+        }
+    }
+}

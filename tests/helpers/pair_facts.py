@@ -1,0 +1,219 @@
+"""A second reading of what the page of two logs tells: its rows, changes, folds and verdict, from the items of both logs."""
+
+from collections import namedtuple
+
+import difference_oracle
+import oracle
+from difference_oracle import ADDED, CHANGED, REMOVED, SAME
+
+# How the program ends over two logs and what it tells then; the items of both, where both can be read, and else the letter of the one that
+# can't; and of both whether it is clean, and whether its sides look exchanged.
+Came = namedtuple("Came", "status fault items refused clean exchanged")
+
+# A row: what becomes of the items, and their places in both lists, counted from 0.
+Row = namedtuple("Row", "kind left right")
+
+# A change: what kind its rows are of, the first of them, and how many they are.
+Change = namedtuple("Change", "kind first count")
+
+# So many rows before a change and behind it are shown.
+CONTEXT = 3
+
+# Of more columns than so many a page shows the first line, and so many that differ; and none beyond so many.
+ALL_COLUMNS, OTHER_LINES, MOST_COLUMNS, WIDTH = 64, 8, 4095, 16
+
+
+def came_of(left, right, limit=oracle.GIBIBYTE, sides=oracle.SIDES, is_strict=False):
+    """How the program ends over two logs, of which each is refused as `explain` refuses it, the left one first. Where they have to be
+    clean, it is told which are not."""
+    for letter, side, log in (("A", "left", left), ("B", "right", right)):
+        refused = oracle.refusal(log, limit, is_long_refused=False)
+        if refused:
+            return Came(oracle.REFUSED, f"{side}: {refused.fault}", None, letter, None, None)
+    sessions = [oracle.messages(oracle.trace(oracle.cut(log), sides)) for log in (left, right)]
+    items = [oracle.meaning(session) for session in sessions]
+    unclean = [oracle.unclean(log, sides) for log in (left, right)]
+    told = [f"{side}: {fault}" for side, fault in zip(("left", "right"), unclean) if is_strict and fault]
+    status = oracle.UNCLEAN if told else oracle.DONE if items[0] == items[1] else oracle.DIFFERENT
+    exchanged = [oracle.look_exchanged(session) for session in sessions]
+    return Came(status, "\n".join(told) or None, items, None, [not fault for fault in unclean], exchanged)
+
+
+def rows_of(ours, theirs):
+    """The rows that set two lists of items side by side."""
+    rows, i, j = [], 0, 0
+    for kind in difference_oracle.rows_of(ours, theirs):
+        rows.append(Row(kind, None if kind == ADDED else i, None if kind == REMOVED else j))
+        i += kind != ADDED
+        j += kind != REMOVED
+    return rows
+
+
+def changes_of(rows):
+    """What a reader counts as one difference: a changed row, or a longest run of rows of one session alone."""
+    changes, front = [], SAME
+    for place, row in enumerate(rows):
+        if row.kind == CHANGED or row.kind in (REMOVED, ADDED) and row.kind != front:
+            changes.append(Change(row.kind, place, 1))
+        elif row.kind != SAME:
+            changes[-1] = changes[-1]._replace(count=changes[-1].count + 1)
+        front = row.kind
+    return changes
+
+
+def shown_of(rows):
+    """Which rows stand unfolded: those with a change at most three rows away."""
+    changes = [place for place, row in enumerate(rows) if row.kind != SAME]
+    return [any(abs(place - change) <= CONTEXT for change in changes) for place in range(len(rows))]
+
+
+def folds_of(rows):
+    """Each longest run of rows that are folded: how many, and the first and last numbers in both logs."""
+    folds, shown = [], shown_of(rows)
+    for place, row in enumerate(rows):
+        if shown[place]:
+            continue
+        left, right = row.left + 1, row.right + 1
+        if place and not shown[place - 1]:
+            count, (first, _), (start, _) = folds[-1]
+            folds[-1] = (count + 1, (first, left), (start, right))
+        else:
+            folds.append((1, (left, left), (right, right)))
+    return folds
+
+
+def items_words(count):
+    return "1 item" if count == 1 else f"{count} items"
+
+
+def heading_of(rows):
+    """How many differences there are, and how many items of each kind."""
+    count = {kind: sum(row.kind == kind for row in rows) for kind in (REMOVED, ADDED, CHANGED)}
+    words = []
+    for kind, what in ((REMOVED, "only in A"), (ADDED, "only in B"), (CHANGED, "changed")):
+        if count[kind]:
+            words.append(f"{count[kind] if words else items_words(count[kind])} {what}")
+    differences = len(changes_of(rows))
+    return f"{differences} difference{'' if differences == 1 else 's'}: {', '.join(words)}"
+
+
+def columns_of(one, other):
+    """Two messages byte under byte: a pair for each column, with None in a gap."""
+    head = difference_oracle.shared(one, other)
+    tail = difference_oracle.shared(one[head:][::-1], other[head:][::-1])
+    middles = [list(message[head : len(message) - tail]) for message in (one, other)]
+    for middle in middles:
+        middle += [None] * (max(map(len, middles)) - len(middle))
+    same = [[(byte, byte) for byte in part] for part in (one[:head], one[len(one) - tail :])]
+    return same[0] + list(zip(*middles)) + same[1]
+
+
+def cells_of(columns, side):
+    """What a log has in each column, as it is spelled, and whether the column differs."""
+    return [("--" if pair[side] is None else f"{pair[side]:02X}", pair[0] != pair[1]) for pair in columns]
+
+
+def lines_of(one, other):
+    """The lines of both messages: whose each is, the number of its first byte, its cells, and whether it is folded."""
+    columns = columns_of(one, other)
+    lines, other_lines = [], 0
+    for start in range(0, min(len(columns), MOST_COLUMNS), WIDTH):
+        line = columns[start : min(start + WIDTH, MOST_COLUMNS)]
+        differs = any(left != right for left, right in line)
+        is_shown = len(columns) <= ALL_COLUMNS or start == 0 or (differs and other_lines < OTHER_LINES)
+        other_lines += differs
+        for side in (0, 1) if differs else (0,):
+            before = sum(pair[side] is not None for pair in columns[:start])
+            cells = cells_of(line, side)
+            is_empty = all(cell == "--" for cell, _ in cells)
+            lines.append(("AB"[side] if differs else "=", None if is_empty else before + 1, None if is_empty else cells, not is_shown))
+    return lines
+
+
+def look_of(came):
+    """The look of a verdict: green where both sessions are the same without a doubt, and that has something to say."""
+    ours, theirs = came.items
+    asked = any(isinstance(item, oracle.Exchange) for item in ours)
+    return "good" if ours == theirs and asked and all(came.clean) and not any(came.exchanged) else "warn"
+
+
+def same_heading_of(came):
+    """The heading of two sessions that are the same."""
+    ours, _ = came.items
+    if not ours:
+        return "Neither session has an item"
+    if any(came.exchanged):
+        return "The two sessions are the same, but tester and unit look exchanged"
+    if not any(isinstance(item, oracle.Exchange) for item in ours):
+        return "The two sessions are the same, and neither has a request"
+    if all(came.clean):
+        return "The two sessions are the same"
+    who = {(False, False): "neither is clean", (False, True): "A is not clean", (True, False): "B is not clean"}[tuple(came.clean)]
+    return f"The two sessions are the same as far as they are recorded: {who}"
+
+
+# --- In words -----------------------------------------------------------------------------------------------------------
+
+
+def what_of(change, rows, ours, theirs):
+    """What a change is, in words: two items and how they differ, or those that stand alone."""
+    row = rows[change.first]
+    if change.kind == CHANGED:
+        one, other = ours[row.left], theirs[row.right]
+        return f"{title_of(one)}: {differing(one, other)}"
+    items, place = (ours, row.left) if change.kind == REMOVED else (theirs, row.right)
+    if change.count == 1:
+        return title_of(items[place]) + outcome_behind(items[place])
+    return f"{change.count} items, from {title_of(items[place])} to {title_of(items[place + change.count - 1])}"
+
+
+def title_of(item):
+    """What an item is, and how it begins."""
+    if isinstance(item, oracle.Stray):
+        is_keep_alive = item.direction == oracle.TESTER and item.message == b"\x3E\x80"
+        return ("keep-alive " if is_keep_alive else f"stray from the {item.direction} ") + front_of(item.message)
+    service = item.request[0]
+    return f"{oracle.SERVICES.get(service, f'service_{service:02X}')} {front_of(item.request)}"
+
+
+def front_of(message):
+    more = len(message) - 8
+    return message[:8].hex(" ").upper() + (f" and {more} byte{'' if more == 1 else 's'} more" if more > 0 else "")
+
+
+def outcome_behind(item):
+    return f": {outcome_of(item)}" if isinstance(item, oracle.Exchange) else ""
+
+
+def outcome_of(item):
+    """What came of a request."""
+    told = oracle.answer_text(item).split()[0]
+    if told == "negative":
+        return f"refused with {oracle.CODES.get(item.answer[2], f'code_{item.answer[2]:02X}')}"
+    return {"positive": "positive", "silent": "silent, as the request asks", "unanswered": "without an answer"}[told]
+
+
+def differing(one, other):
+    """How two items of one service differ."""
+    if isinstance(one, oracle.Stray):
+        return "message" + bytes_differing(one.message, other.message)
+    words = [] if one.request == other.request else ["request" + bytes_differing(one.request, other.request)]
+    outcomes = outcome_of(one), outcome_of(other)
+    if outcomes[0] != outcomes[1]:
+        words.append(f"{outcomes[0]} in A, {outcomes[1]} in B")
+    elif one.answer != other.answer and one.answer and other.answer:
+        words.append("answer" + bytes_differing(one.answer, other.answer))
+    return "; ".join(words)
+
+
+def bytes_differing(one, other):
+    """At which byte two messages differ first, what both have there, how many more bytes differ, and how long they are."""
+    columns = columns_of(one, other)
+    places = [place for place, (ours, theirs) in enumerate(columns) if ours != theirs]
+    names = ["no byte" if byte is None else f"{byte:02X}" for byte in columns[places[0]]]
+    words = f" byte {places[0] + 1}: {names[0]} in A, {names[1]} in B"
+    if len(places) > 1:
+        words += "; and 1 more byte" if len(places) == 2 else f"; and {len(places) - 1} more bytes"
+    if len(one) != len(other):
+        words += f"; {len(one)} byte{'' if len(one) == 1 else 's'} in A, {len(other)} in B"
+    return words

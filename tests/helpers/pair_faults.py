@@ -1,0 +1,143 @@
+"""What is wrong with a page of two logs, by a second reading of what it has to tell."""
+
+import re
+
+import oracle
+import pair_facts
+import pair_reader
+from difference_oracle import ADDED, CHANGED, REMOVED
+
+# A page lists so many differences.
+LISTED = 50
+
+
+def faults(page, ours, theirs):
+    """What is wrong with the page of two logs that have these items."""
+    read, rows = pair_reader.read(page), pair_facts.rows_of(ours, theirs)
+    changes = pair_facts.changes_of(rows)
+    return [
+        *row_faults(read, rows),
+        *change_faults(read, rows, changes),
+        *word_faults(read, rows, changes, ours, theirs),
+        *mark_faults(read, ours, theirs),
+        *link_faults(read),
+    ]
+
+
+def told_otherwise(page, came):
+    """What is wrong with the page of two logs that come to this."""
+    if came.refused:
+        fault = came.fault.split(": ", 1)[1]
+        text = f"{came.refused} is refused, so nothing is compared</h2>\n<p><em>{fault}.</em>"
+        return ([] if text in page else [f"{text!r} is not there"]) + (["a refused log has rows"] if "<tr" in page else [])
+    return faults(page, *came.items) + verdict_faults(pair_reader.read(page), came)
+
+
+def verdict_faults(read, came):
+    """Whether the verdict is green only without a doubt, and says of the same sessions how far that can be known."""
+    look = pair_facts.look_of(came)
+    wrong = [] if read.look == look else [f"the verdict looks {read.look}, not {look}"]
+    if came.items[0] == came.items[1] and read.heading != pair_facts.same_heading_of(came):
+        wrong.append(f"the heading is {read.heading!r}, not {pair_facts.same_heading_of(came)!r}")
+    return wrong
+
+
+def row_faults(read, rows):
+    """Whether the rows are those that set both lists side by side, and those are folded that stand far from each change."""
+    told = [(row.kind, row.left, row.right) for row in read.rows]
+    wanted = [(row.kind, None if row.left is None else row.left + 1, None if row.right is None else row.right + 1) for row in rows]
+    shown = pair_facts.shown_of(rows)
+    wrong = [] if told == wanted else [f"the rows are {told[:5]}.., not {wanted[:5]}.."]
+    wrong += [] if [not row.is_folded for row in read.rows] == shown else ["other rows are folded"]
+    wrong += [] if [tuple(fold) for fold in read.folds] == pair_facts.folds_of(rows) else [f"the folds are {read.folds}"]
+    return wrong
+
+
+def change_faults(read, rows, changes):
+    """Whether heading, list and identifiers count the same changes."""
+    wrong = []
+    if changes and read.heading != pair_facts.heading_of(rows):
+        wrong.append(f"the heading is {read.heading!r}, not {pair_facts.heading_of(rows)!r}")
+    if not changes and "difference" in read.heading:
+        wrong.append(f"the heading of equal sessions is {read.heading!r}")
+    begun = [place for place, row in enumerate(read.rows) if row.identifier]
+    if begun != [change.first for change in changes]:
+        wrong.append(f"changes begin in the rows {begun}")
+    if [read.rows[place].identifier for place in begun] != [f"d{number}" for number in range(1, len(begun) + 1)]:
+        wrong.append("the identifiers of changes are not their numbers")
+    listed = changes[:LISTED] if len(changes) > 1 else []
+    if [line.number for line in read.listed] != list(range(1, len(listed) + 1)):
+        wrong.append(f"the list has {len(read.listed)} differences, not {len(listed)}")
+    tags = {CHANGED: "changed", REMOVED: "only in A", ADDED: "only in B"}
+    if [line.tag for line in read.listed] != [tags[change.kind] for change in listed]:
+        wrong.append("a difference of the list is of another kind")
+    if [line.place for line in read.listed] != [place_of(rows, change) for change in listed]:
+        wrong.append("a difference of the list stands elsewhere")
+    return wrong
+
+
+def word_faults(read, rows, changes, ours, theirs):
+    """Whether list and first difference say in words what the changes are."""
+    wrong, words = [], [pair_facts.what_of(change, rows, ours, theirs) for change in changes[:LISTED]]
+    if read.listed and [line.words for line in read.listed] != words:
+        wrong += [f"{line.words!r} stands for {wanted!r}" for line, wanted in zip(read.listed, words) if line.words != wanted][:3]
+    first = read.first.words if read.first else None
+    if first != (words[0] if words else None):
+        wrong.append(f"the first difference is {first!r}, not {words[:1]}")
+    return wrong
+
+
+def place_of(rows, change):
+    """Where a change stands, as the list says it."""
+
+    def numbers(log, first):
+        return f"{log}&#160;{first + 1}" + (f"&#8211;{first + change.count}" if change.count > 1 else "")
+
+    row = rows[change.first]
+    sides = [numbers(log, place) for log, place in (("A", row.left), ("B", row.right)) if place is not None]
+    return ", ".join(sides)
+
+
+def mark_faults(read, ours, theirs):
+    """Whether each byte that differs has a mark, no other has one, and it is told how many of those that are folded differ."""
+    wrong = []
+    for row in read.rows:
+        if row.kind != CHANGED:
+            wrong += ["a row without a change has bytes under bytes"] if row.lines else []
+            continue
+        wanted = [pair_facts.lines_of(one, other) for one, other in messages_of(ours[row.left - 1], theirs[row.right - 1])]
+        told = [[tuple(line) for line in lines] for lines, _ in row.lines]
+        if told != wanted:
+            wrong.append(f"the bytes of A {row.left}, B {row.right} have other marks")
+    return wrong
+
+
+def messages_of(one, other):
+    """The messages of two items that stand byte under byte: of each pair both, where they differ."""
+    if isinstance(one, oracle.Stray):
+        return [(one.message, other.message)]
+    pairs = [(one.request, other.request)]
+    if one.answer and other.answer and same_outcome(one.answer, other.answer):
+        pairs.append((one.answer, other.answer))
+    return [pair for pair in pairs if pair[0] != pair[1]]
+
+
+def same_outcome(answer, reply):
+    """Whether two answers are positive, or negative with the same code."""
+    refusals = [message[2] if message[0] == 0x7F else None for message in (answer, reply)]
+    return refusals[0] == refusals[1]
+
+
+def link_faults(read):
+    """Whether each identifier stands once, and each link leads to one."""
+    wrong = [f"{name} stands twice" for name in sorted(set(read.identifiers)) if read.identifiers.count(name) > 1]
+    # The shapes of arrows are no links of a reader.
+    shapes = {"t", "u", "tx", "ux", "te", "ue"}
+    return wrong + [f"no {name}" for name in sorted(set(read.targets) - set(read.identifiers) - shapes)]
+
+
+def text_faults(page):
+    """What must not stand in any page: what is no ASCII, what is fetched, or an empty group of rows."""
+    wrong = [] if page.isascii() else ["a byte that is no ASCII"]
+    wrong += ["something is fetched"] if re.search(r'\b(?:src|href)="(?!#)', page) else []
+    return wrong + (["an empty group of rows"] if re.search(r"<tbody>\n(?:<tbody>|</table>)|</thead>\n</table>", page) else [])

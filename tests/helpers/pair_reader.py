@@ -1,0 +1,146 @@
+"""A reader of the page that `udsnorm report` writes of two logs: what it tells of their items, row by row.
+
+What has none of the forms below is an error, so that nothing of a row is passed over.
+"""
+
+import re
+from collections import namedtuple
+
+# The heading, the sentence below it, the lines of the list, what the first difference is said to be, and the rows of the table of items.
+Page = namedtuple("Page", "look heading same_line notes listed first rows folds identifiers targets")
+
+# What becomes of the items, their numbers, the identifier, whether it stands in a fold of equal items, what stands above its items, the lines
+# of bytes that stand under each other, what is missing of each log, and all its text.
+Row = namedtuple("Row", "kind left right identifier is_folded top lines losses text")
+
+# A line of bytes: whose it is, the number of its first byte, and its cells, each with whether it has a mark; and whether it is folded.
+Line = namedtuple("Line", "whose first cells is_folded")
+
+# A fold of equal items: how many, and the first and last numbers of both logs.
+Fold = namedtuple("Fold", "count left right")
+
+# A line of the list: the number of the difference, where it stands, what kind it is of, and what it says.
+Listed = namedtuple("Listed", "number place tag words")
+
+KINDS = {"same": "same", "d ch": "changed", "d oa": "removed", "d ob": "added"}
+
+VERDICT = re.compile(r'<section id="verdict" class="(\w+)">\n<h2><span aria-hidden="true">(.*?)</span> (.*?)</h2>\n(.*?)<table class="recs">', re.DOTALL)
+ROW = re.compile(
+    r'<tr class="(same|d ch|d oa|d ob)"(?: id="(d\d+)")?><th scope="row">(\d+|<span class="none">&#8211;</span>)'
+    r'<td>(\d+|<span class="none">&#8211;</span>)<td>(.*)\n'
+)
+TOP = re.compile(r'<p class="top">(.*?)</p>')
+LOST = re.compile(r'<p class="lost">(.*?)</p>')
+LISTED = re.compile(
+    r'<li><span class="where"><a href="#d(\d+)">(.*?)</a></span> <b class="tag">(.*?)</b> <span class="what">(.*?)</span>\n'
+)
+FIRST = re.compile(r'<section id="difference">\n<h2>(.*?)</h2>\n<p><span class="where">(.*?)</span> <b class="tag">(.*?)</b> <span class="what">(.*?)</span></p>\n')
+TAG = re.compile(r"<[^>]*>")
+FOLD = re.compile(
+    r'<details class="b same(?: long)?">\n<summary><b>(\d+) items?, the same</b> <i>A&#160;(\d+)(?:&#8211;(\d+))?, B&#160;(\d+)(?:&#8211;(\d+))?</i>'
+)
+LINES = re.compile(r'<div class="hx">(.*?)</div>')
+LINE = re.compile(r'<p><i>(\d*)</i>(?:<span class="who(?: eq)?">([AB=])</span>)?<code>(.*?)</code>(?: <samp>([^<]*)</samp>)?</p>')
+MORE = re.compile(r"<details><summary>(\d+) bytes? more, (the same|(\d+) of them differs?)</summary>(.*?)</details>")
+HIDDEN = re.compile(r'<p class="rest"><i>(\d+) bytes? more, not shown; (the same|(\d+) of them differs?)</i></p>')
+
+
+def cells_of(text):
+    """The cells of a line, each with whether it has a mark."""
+    if text == "<mark>no byte</mark>":
+        return None
+    cells, marked = [], False
+    for word in re.findall(r"</?mark>|[0-9A-F]{2}|--| |.", text):
+        if word == "<mark>":
+            marked = True
+        elif word == "</mark>":
+            marked = False
+        elif word != " ":
+            if not re.fullmatch(r"[0-9A-F]{2}|--", word):
+                raise ValueError(f"no cell: {word!r} of {text!r}")
+            cells.append((word, marked))
+    return cells
+
+
+def lines_of(text, is_folded=False):
+    """The lines of bytes of a text, which holds nothing else, and of each fold of them how many bytes it tells, and how many differ."""
+    lines, told, rest = [], [], text
+    while rest:
+        more, line, hidden = MORE.match(rest), LINE.match(rest), HIDDEN.match(rest)
+        if line:
+            lines.append(Line(line[2], int(line[1]) if line[1] else None, cells_of(line[3]), is_folded))
+        elif more:
+            inner, _ = lines_of(more[4], True)
+            lines += inner
+            told.append((int(more[1]), int(more[3] or 0)))
+        elif hidden:
+            told.append((int(hidden[1]), int(hidden[3] or 0)))
+        else:
+            raise ValueError(f"no line of bytes: {rest[:80]!r}")
+        rest = rest[(more or line or hidden).end() :]
+    return lines, told
+
+
+def number(text):
+    return int(text) if text.isdigit() else None
+
+
+def row_of(match, is_folded):
+    top = TOP.search(match[5])
+    lines = [lines_of(block) for block in LINES.findall(match[5])]
+    return Row(
+        KINDS[match[1]], number(match[3]), number(match[4]), match[2], is_folded, top and top[1], lines, LOST.findall(match[5]), match[5]
+    )
+
+
+def fold_of(match):
+    count, left, left_end, right, right_end = (int(part) if part else None for part in match.groups())
+    return Fold(count, (left, left_end or left), (right, right_end or right))
+
+
+def fold_spans(page):
+    """From where to where each fold of equal items goes, with the folds within."""
+    spans = []
+    for match in FOLD.finditer(page):
+        depth, at = 1, match.end()
+        while depth:
+            tag = re.compile(r"<details\b|</details>").search(page, at)
+            depth += 1 if tag[0] == "<details" else -1
+            at = tag.end()
+        spans.append((match.start(), at))
+    return spans
+
+
+def words_of(text):
+    """The words of a text, without what is said of a loss behind them."""
+    return TAG.sub("", re.sub(r' <em class="loss">.*?</em>', "", text))
+
+
+def first_of(page):
+    """What the first difference is said to be, if there is one."""
+    match = FIRST.search(page)
+    return Listed(1, match[2], match[3], words_of(match[4])) if match else None
+
+
+def read(page):
+    """What a page of two logs that can be read tells."""
+    verdict = VERDICT.search(page)
+    if not verdict:
+        raise ValueError("no verdict")
+    spans = fold_spans(page)
+    rows = [row_of(match, any(start < match.start() < end for start, end in spans)) for match in ROW.finditer(page)]
+    if len(rows) != len(re.findall(r'<tr class="(?:same|d )', page)):
+        raise ValueError("a row of another form")
+    paragraphs = re.findall(r"<p[^>]*>(.*?)</p>\n", verdict[4])
+    return Page(
+        verdict[1],
+        verdict[3],
+        paragraphs[0] if paragraphs else None,
+        paragraphs[1:],
+        [Listed(int(match[1]), match[2], match[3], words_of(match[4])) for match in LISTED.finditer(page)],
+        first_of(page),
+        rows,
+        [fold_of(match) for match in FOLD.finditer(page)],
+        re.findall(r' id="(\w+)"', page),
+        re.findall(r' href="#(\w+)"', page),
+    )
