@@ -46,21 +46,24 @@ begun-next (dropped place d linked why) places waiting at = sym (append-nil (map
 begun-next (ended place end) places waiting at = sym (append-nil (map begin_of places))
 begun-next (unfinished d line len) places waiting at = sym (append-nil (map begin_of places))
 
--- what is found by these places
+-- an item that begins behind one row
+one-behind : (before number : ℕ) (rest : List RowValue)
+    → ((number : ℕ) → before + 1 + rows_before number rest ≡ place_or (before + 1 + length rest) (slice_get (begin_places (before + 1) rest) number))
+    → before + (1 + rows_before number rest) ≡ place_or (before + suc (length rest)) (slice_get (begin_places (before + 1) rest) number)
+one-behind before number rest behind =
+    let end : before + 1 + length rest ≡ before + suc (length rest) = omega arith in
+    let more : before + (1 + rows_before number rest) ≡ before + 1 + rows_before number rest = omega arith in
+    more ∙ behind number ∙ ap (λ (last : ℕ). place_or last (slice_get (begin_places (before + 1) rest) number)) end
+
+-- what is found by these places: of the rows behind one row, and so of all
+found-at : (is : Bool) (before item : ℕ) (rest : List RowValue)
+    → ((number : ℕ) → before + 1 + rows_before number rest ≡ place_or (before + 1 + length rest) (slice_get (begin_places (before + 1) rest) number))
+    → before + (if is then (if item == 0 then 0 else 1 + rows_before (item - 1) rest) else 1 + rows_before item rest)
+      ≡ place_or (before + suc (length rest)) (slice_get (if is then before ∷ begin_places (before + 1) rest else begin_places (before + 1) rest) item)
+found-at true before zero rest behind = let none : before + 0 ≡ before = omega arith in none
+found-at true before (suc number) rest behind = one-behind before number rest behind
+found-at false before number rest behind = one-behind before number rest behind
+
 pub before-found : (rows : List RowValue) (before item : ℕ) → before + rows_before item rows ≡ place_or (before + length rows) (slice_get (begin_places before rows) item)
 before-found [] before item = refl
-before-found (row ∷ rest) before item = by (begins row) item
-  where
-    end : before + 1 + length rest ≡ before + suc (length rest)
-    end = omega arith
-
-    later : (number : ℕ) → before + (1 + rows_before number rest) ≡ place_or (before + suc (length rest)) (slice_get (begin_places (before + 1) rest) number)
-    later number =
-        let more : before + (1 + rows_before number rest) ≡ before + 1 + rows_before number rest = omega arith in
-        more ∙ before-found rest (before + 1) number ∙ ap (λ (last : ℕ). place_or last (slice_get (begin_places (before + 1) rest) number)) end
-
-    by : (is : Bool) (number : ℕ) → before + (if is then (if number == 0 then 0 else 1 + rows_before (number - 1) rest) else 1 + rows_before number rest)
-        ≡ place_or (before + suc (length rest)) (slice_get (if is then before ∷ begin_places (before + 1) rest else begin_places (before + 1) rest) number)
-    by true zero = let none : before + 0 ≡ before = omega arith in none
-    by true (suc number) = later number
-    by false number = later number
+before-found (row ∷ rest) before item = found-at (begins row) before item rest (λ (number : ℕ). before-found rest (before + 1) number)

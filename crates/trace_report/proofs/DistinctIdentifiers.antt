@@ -20,8 +20,8 @@ use Rattle.trace_report.specs.Page.{all_rows}
 use Rattle.trace_report.specs.Rows.{RowValue}
 use Rattle.trace_report.specs.Sorts.{is_of, most_links, rank, sort_of, target_of, targets_of}
 use Rattle.trace_report.specs.Targets.{identifier}
-use Rattle.trace_report.specs.declared.targets.Target.{Target}
-use Rattle.trace_report.specs.declared.targets.Target.TheVariants.{Item as of_item, Line as of_line, Side as of_side}
+use Rattle.trace_report.specs.declared.targets.LinkTarget.{LinkTarget}
+use Rattle.trace_report.specs.declared.targets.LinkTarget.TheVariants.{Item as of_item, Line as of_line, Side as of_side}
 use Rattle.trace_report.specs.declared.sorts.Sort.{Sort}
 use Rattle.trace_report.specs.declared.sorts.Sort.TheVariants as sort
 use Rattle.trace_report.proofs.Distinct.{distinct-append, distinct-texts, each-of-first}
@@ -31,7 +31,7 @@ use Rattle.trace_report.proofs.RowTargets.{ArePlaced, IsWithin, Leads, all-place
 -- Different places have different identifiers.
 
 -- a place whose number has 64 bits
-abbrev IsNumbered : Target → Type 0
+abbrev IsNumbered : LinkTarget → Type 0
 IsNumbered (of_item number) = number < 2 ^ 64
 IsNumbered (of_line number) = number < 2 ^ 64
 IsNumbered (of_side d) = ⊤
@@ -44,7 +44,7 @@ abbrev behind : List ℕ → List ℕ
 behind [] = []
 behind (c ∷ text) = text
 
-identified : (a b : Target) → IsNumbered a → IsNumbered b → a ≢ b → identifier a ≢ identifier b
+identified : (a b : LinkTarget) → IsNumbered a → IsNumbered b → a ≢ b → identifier a ≢ identifier b
 identified (of_item m) (of_item n) low high other same = other (ap of_item (decimal_injective m n low high (ap behind same)))
 identified (of_item m) (of_line n) low high other same = let heads : 105 ≡ 108 = ap head same in omega (arith, heads)
 identified (of_item m) (of_side d) low high other same = let heads : 105 ≡ 101 = ap head same in omega (arith, heads)
@@ -64,7 +64,7 @@ differs : (text other : List ℕ) → not (bytes_eq text other) ≡ true → tex
 differs text other test same = let equal : bytes_eq text other ≡ true = (bytes_eq-Decides text other).1 same in cc
 
 -- none of these texts is that of a place
-abbrev is_apart : Target → List ℕ → Bool
+abbrev is_apart : LinkTarget → List ℕ → Bool
 is_apart (of_item number) text = not (head text == 105)
 is_apart (of_line number) text = not (head text == 108)
 is_apart (of_side d) text = not (bytes_eq text (identifier (of_side d)))
@@ -73,27 +73,27 @@ first-differs : (first : ℕ) (text other : List ℕ) → not (head text == firs
 first-differs first text other test is same =
     let equal : (head text == first) ≡ true = eq-eqb (head text) first (ap head same ∙ is) in cc
 
-apart-from : (place : Target) (text : List ℕ) → is_apart place text ≡ true → text ≢ identifier place
+apart-from : (place : LinkTarget) (text : List ℕ) → is_apart place text ≡ true → text ≢ identifier place
 apart-from (of_item number) text test = first-differs 105 text (identifier (of_item number)) test refl
 apart-from (of_line number) text test = first-differs 108 text (identifier (of_line number)) test refl
 apart-from (of_side d) text test = differs text (identifier (of_side d)) test
 
-fixed-apart : (place : Target) → list_all (is_apart place) fixed_identifiers ≡ true
+fixed-apart : (place : LinkTarget) → list_all (is_apart place) fixed_identifiers ≡ true
 fixed-apart (of_item number) = refl
 fixed-apart (of_line number) = refl
 fixed-apart (of_side dir.Tester) = refl
 fixed-apart (of_side dir.Unit) = refl
 
-each-apart : (place : Target) → AllByRecursion (λ text. text ≢ identifier place) fixed_identifiers
+each-apart : (place : LinkTarget) → AllByRecursion (λ text. text ≢ identifier place) fixed_identifiers
 each-apart place =
     AllByRecursion-weaker (λ text. is_apart place text ≡ true) (λ text. text ≢ identifier place) (apart-from place) fixed_identifiers
     (AllByRecursion-tested (is_apart place) fixed_identifiers (fixed-apart place))
 
-one-apart : (text : List ℕ) (places : List Target) → ((place : Target) → text ≢ identifier place) → AllByRecursion (λ later. text ≢ later) (map identifier places)
+one-apart : (text : List ℕ) (places : List LinkTarget) → ((place : LinkTarget) → text ≢ identifier place) → AllByRecursion (λ later. text ≢ later) (map identifier places)
 one-apart text [] apart = tt
 one-apart text (place ∷ places) apart = (apart place, one-apart text places apart)
 
-all-apart : (texts : List (List ℕ)) (places : List Target) → ((place : Target) → AllByRecursion (λ text. text ≢ identifier place) texts)
+all-apart : (texts : List (List ℕ)) (places : List LinkTarget) → ((place : LinkTarget) → AllByRecursion (λ text. text ≢ identifier place) texts)
     → AllByRecursion (λ text. AllByRecursion (λ later. text ≢ later) (map identifier places)) texts
 all-apart [] places apart = tt
 all-apart (text ∷ texts) places apart = (one-apart text places (λ place. (apart place).0), all-apart texts places (λ place. (apart place).1))
@@ -117,7 +117,7 @@ fixed-distinct = differing fixed_identifiers refl
 
 -- The identifiers of a page.
 
-numbered : (items lines sides : ℕ) → items < 2 ^ 64 → lines ≤ 2 ^ 64 → (place : Target) → IsWithin items lines sides place → IsNumbered place
+numbered : (items lines sides : ℕ) → items < 2 ^ 64 → lines ≤ 2 ^ 64 → (place : LinkTarget) → IsWithin items lines sides place → IsNumbered place
 numbered items lines sides few some (of_item number) within = omega (arith, few, within)
 numbered items lines sides few some (of_line number) within = omega (arith, some, within)
 numbered items lines sides few some (of_side d) within = tt
@@ -170,12 +170,12 @@ ranked sort.Unfinished = refl
 same-sort : (kind other : Sort) → (rank kind == rank other) ≡ true → other ≡ kind
 same-sort kind other same = sym (ranked other) ∙ ap sort_at (sym (eqb-true (rank kind) (rank other) same)) ∙ ranked kind
 
-module _ (kind : Sort) (leads : (place : Target) → led_to kind place ≡ Some place) (places : List Target) where
+module _ (kind : Sort) (leads : (place : LinkTarget) → led_to kind place ≡ Some place) (places : List LinkTarget) where
   leads-there : (one : RowValue) → is_of kind one ≡ true → Leads places one → IsAmong (target_of one) places
   leads-there one is lead =
       subst (λ o. IfSome o (λ place. IsAmong place places)) (ap (λ s. led_to s (target_of one)) (same-sort kind (sort_of one) is) ∙ leads (target_of one)) lead
 
-  each-leads : (rows : List RowValue) → AllByRecursion (Leads places) rows → AllByRecursion (λ (place : Target). IsAmong place places) (targets_of kind rows)
+  each-leads : (rows : List RowValue) → AllByRecursion (Leads places) rows → AllByRecursion (λ (place : LinkTarget). IsAmong place places) (targets_of kind rows)
   each-leads [] lead = tt
   each-leads (one ∷ rows) lead =
       elim (cases_Bool (is_of kind one)) [
@@ -183,8 +183,8 @@ module _ (kind : Sort) (leads : (place : Target) → led_to kind place ≡ Some 
         | inr e ↦ rw e (each-leads rows lead.1)
       ]
 
-  pub first-lead : (rows : List RowValue) → AllByRecursion (Leads places) rows → AllByRecursion (λ (place : Target). IsAmong place places) (take most_links (targets_of kind rows))
-  first-lead rows lead = each-of-first (λ (place : Target). IsAmong place places) most_links (targets_of kind rows) (each-leads rows lead)
+  pub first-lead : (rows : List RowValue) → AllByRecursion (Leads places) rows → AllByRecursion (λ (place : LinkTarget). IsAmong place places) (take most_links (targets_of kind rows))
+  first-lead rows lead = each-of-first (λ (place : LinkTarget). IsAmong place places) most_links (targets_of kind rows) (each-leads rows lead)
 
 has-each : (items lines sides : ℕ) (rows : List RowValue) → ArePlaced items lines sides rows → HasEachTarget rows
 has-each items lines sides rows are = record {

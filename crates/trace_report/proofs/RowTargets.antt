@@ -31,8 +31,8 @@ use Rattle.trace_report.specs.Page.{all_rows}
 use Rattle.trace_report.specs.Rows.{RowValue}
 use Rattle.trace_report.specs.Rows as row
 use Rattle.trace_report.specs.Sorts.{sort_of, target_of}
-use Rattle.trace_report.specs.declared.targets.Target.{Target}
-use Rattle.trace_report.specs.declared.targets.Target.TheVariants.{Item as of_item, Line as of_line, Side as of_side}
+use Rattle.trace_report.specs.declared.targets.LinkTarget.{LinkTarget}
+use Rattle.trace_report.specs.declared.targets.LinkTarget.TheVariants.{Item as of_item, Line as of_line, Side as of_side}
 use Rattle.trace_report.specs.declared.sorts.Sort.{Sort}
 use Rattle.trace_report.specs.declared.sorts.Sort.TheVariants as sort
 use Rattle.trace_report.proofs.Distinct.{among-front, among-last, distinct-more, found-append}
@@ -40,7 +40,7 @@ use Rattle.trace_report.proofs.LineOrder.{Grow}
 use Rattle.trace_report.proofs.Steps.{rows_next}
 
 -- the place, where rows of this sort are linked to
-abbrev pub led_to : Sort → Target → Option Target
+abbrev pub led_to : Sort → LinkTarget → Option LinkTarget
 led_to sort.Requests place = None
 led_to sort.Positives place = None
 led_to sort.Negatives place = Some place
@@ -54,7 +54,7 @@ led_to sort.Ended place = Some place
 led_to sort.Unfinished place = Some place
 
 -- the link to this row leads to one of these places
-abbrev pub Leads : List Target → RowValue → Type 0
+abbrev pub Leads : List LinkTarget → RowValue → Type 0
 Leads places one = IfSome (led_to (sort_of one) (target_of one)) (λ place. IsAmong place places)
 
 -- the number of a side: its row stands before or behind that of the other
@@ -63,7 +63,7 @@ side_number dir.Tester = 0
 side_number dir.Unit = 1
 
 -- the place is one of the first items, of the lines before, or of the first sides
-abbrev pub IsWithin : ℕ → ℕ → ℕ → Target → Type 0
+abbrev pub IsWithin : ℕ → ℕ → ℕ → LinkTarget → Type 0
 IsWithin items lines sides (of_item number) = number ≤ items
 IsWithin items lines sides (of_line number) = number < lines
 IsWithin items lines sides (of_side d) = side_number d < sides
@@ -77,14 +77,14 @@ pub record ArePlaced (items lines sides : ℕ) (rows : List RowValue) : Type 0 w
 
 -- One more row.
 
-leads-still : (places more : List Target) (one : RowValue) → Leads places one → Leads (places ++ more) one
+leads-still : (places more : List LinkTarget) (one : RowValue) → Leads places one → Leads (places ++ more) one
 leads-still places more one is = by (led_to (sort_of one) (target_of one)) is
   where
-    by : (o : Option Target) → IfSome o (λ place. IsAmong place places) → IfSome o (λ place. IsAmong place (places ++ more))
+    by : (o : Option LinkTarget) → IfSome o (λ place. IsAmong place places) → IfSome o (λ place. IsAmong place (places ++ more))
     by None leads = tt
     by (Some place) leads = among-front place places more leads
 
-lead-all : (places more : List Target) (rows : List RowValue) (one : RowValue) → AllByRecursion (Leads places) rows → Leads (places ++ more) one
+lead-all : (places more : List LinkTarget) (rows : List RowValue) (one : RowValue) → AllByRecursion (Leads places) rows → Leads (places ++ more) one
     → AllByRecursion (Leads (places ++ more)) (rows ++ one ∷ [])
 lead-all places more rows one lead leads =
     AllByRecursion-append (Leads (places ++ more)) rows (one ∷ []) (AllByRecursion-weaker (Leads places) (Leads (places ++ more)) (leads-still places more) rows lead) (leads, tt)
@@ -94,11 +94,11 @@ quiet-places : (rows : List RowValue) (one : RowValue) → target_at one ≡ Non
 quiet-places rows one none = found-append target_at rows (one ∷ []) ∙ rw none (append-nil (targets_in rows))
 
 -- and with one that is
-new-places : (rows : List RowValue) (one : RowValue) (place : Target) → target_at one ≡ Some place → targets_in (rows ++ one ∷ []) ≡ targets_in rows ++ place ∷ []
+new-places : (rows : List RowValue) (one : RowValue) (place : LinkTarget) → target_at one ≡ Some place → targets_in (rows ++ one ∷ []) ≡ targets_in rows ++ place ∷ []
 new-places rows one place is = found-append target_at rows (one ∷ []) ∙ rw is refl
 
 -- what is there stays where bounds grow
-later-within : (items lines sides items' lines' sides' : ℕ) → items ≤ items' → lines ≤ lines' → sides ≤ sides' → (place : Target)
+later-within : (items lines sides items' lines' sides' : ℕ) → items ≤ items' → lines ≤ lines' → sides ≤ sides' → (place : LinkTarget)
     → IsWithin items lines sides place → IsWithin items' lines' sides' place
 later-within items lines sides items' lines' sides' i l s (of_item number) is = omega (arith, i, is)
 later-within items lines sides items' lines' sides' i l s (of_line number) is = omega (arith, l, is)
@@ -116,9 +116,9 @@ placed-quiet items lines sides rows one are none leads =
           (AllByRecursion-append (Leads (targets_in rows)) rows (one ∷ []) are.lead (leads, tt));
     }
 
-placed-new : (items lines sides items' lines' sides' : ℕ) (rows : List RowValue) (one : RowValue) (place : Target) → ArePlaced items lines sides rows
+placed-new : (items lines sides items' lines' sides' : ℕ) (rows : List RowValue) (one : RowValue) (place : LinkTarget) → ArePlaced items lines sides rows
     → target_at one ≡ Some place → items ≤ items' → lines ≤ lines' → sides ≤ sides' → IsWithin items' lines' sides' place
-    → ((other : Target) → IsWithin items lines sides other → other ≢ place)
+    → ((other : LinkTarget) → IsWithin items lines sides other → other ≢ place)
     → ((number : ℕ) → number ≤ items' → (number ≤ items) ⊎ (of_item number ≡ place))
     → Leads (targets_in rows ++ place ∷ []) one → ArePlaced items' lines' sides' (rows ++ one ∷ [])
 placed-new items lines sides items' lines' sides' rows one place are is i l s here new all leads =
@@ -137,17 +137,17 @@ placed-new items lines sides items' lines' sides' rows one place are is i l s he
       lead = subst (λ places. AllByRecursion (Leads places) (rows ++ one ∷ [])) (sym same) (lead-all before (place ∷ []) rows one are.lead leads);
     }
 
-abbrev number_of : Target → ℕ
+abbrev number_of : LinkTarget → ℕ
 number_of (of_item number) = number
 number_of (of_line number) = number
 number_of (of_side d) = 0
 
-abbrev side_in : Target → Dir
+abbrev side_in : LinkTarget → Dir
 side_in (of_item number) = dir.Tester
 side_in (of_line number) = dir.Tester
 side_in (of_side d) = d
 
-new-line : (items lines sides line : ℕ) → lines ≤ line → (other : Target) → IsWithin items lines sides other → other ≢ of_line line
+new-line : (items lines sides line : ℕ) → lines ≤ line → (other : LinkTarget) → IsWithin items lines sides other → other ≢ of_line line
 new-line items lines sides line is (of_item number) within same = cc
 new-line items lines sides line is (of_line number) within same = let equal : number ≡ line = ap number_of same in omega (arith, equal, within, is)
 new-line items lines sides line is (of_side d) within same = cc
@@ -158,7 +158,7 @@ placed-line items lines sides line rows one are is late leads =
     placed-new items lines sides items (line + 1) sides rows one (of_line line) are is (omega arith) (omega (arith, late)) (omega arith) (omega arith)
     (new-line items lines sides line late) (λ number high. inl high) leads
 
-new-item : (items lines sides : ℕ) → (other : Target) → IsWithin items lines sides other → other ≢ of_item (items + 1)
+new-item : (items lines sides : ℕ) → (other : LinkTarget) → IsWithin items lines sides other → other ≢ of_item (items + 1)
 new-item items lines sides (of_item number) within same = let equal : number ≡ items + 1 = ap number_of same in omega (arith, equal, within)
 new-item items lines sides (of_line number) within same = cc
 new-item items lines sides (of_side d) within same = cc
@@ -176,7 +176,7 @@ placed-item items lines sides rows one are is leads =
     placed-new items lines sides (items + 1) lines sides rows one (of_item (items + 1)) are is (omega arith) (omega arith) (omega arith) (omega arith)
     (new-item items lines sides) (each-item items) leads
 
-new-side : (items lines sides : ℕ) (d : Dir) → sides ≤ side_number d → (other : Target) → IsWithin items lines sides other → other ≢ of_side d
+new-side : (items lines sides : ℕ) (d : Dir) → sides ≤ side_number d → (other : LinkTarget) → IsWithin items lines sides other → other ≢ of_side d
 new-side items lines sides d late (of_item number) within same = cc
 new-side items lines sides d late (of_line number) within same = cc
 new-side items lines sides d late (of_side e) within same = let equal : side_number e ≡ side_number d = ap (λ place. side_number (side_in place)) same in omega (arith, equal, within, late)
@@ -254,7 +254,7 @@ module _ (T : List Entry) (e : Entry) where
   -- a message that begins an item
   placed-begin : (lines sides : ℕ) (rows : List RowValue) (bytes : List ℕ) (step : Step) → ArePlaced count lines sides rows
       → number_after M (e.dir, bytes) ≡ count + 1 → target_at (sent bytes step) ≡ Some (of_item (number_after M (e.dir, bytes)))
-      → ((places : List Target) → IsAmong (of_item (number_after M (e.dir, bytes))) places → Leads places (sent bytes step))
+      → ((places : List LinkTarget) → IsAmong (of_item (number_after M (e.dir, bytes))) places → Leads places (sent bytes step))
       → ArePlaced (count + 1) lines sides (rows ++ sent bytes step ∷ [])
   placed-begin lines sides rows bytes step are next is leads =
       placed-item count lines sides rows (sent bytes step) are (is ∙ ap (λ n. Some (of_item n)) next)
@@ -268,7 +268,7 @@ module _ (T : List Entry) (e : Entry) where
       elim (cases_Bool (is_keep_alive bytes)) [ inl e ↦ rw (is, e) refl | inr e ↦ rw (is, e) refl ]
 
   other-leads : (bytes : List ℕ) (step : Step) (d : Dir) → role_of_step (asked_in MESSAGE_LIMIT T) step e.dir bytes ≡ other_role d bytes
-      → (places : List Target) → IsAmong (of_item (number_after M (e.dir, bytes))) places → Leads places (sent bytes step)
+      → (places : List LinkTarget) → IsAmong (of_item (number_after M (e.dir, bytes))) places → Leads places (sent bytes step)
   other-leads bytes step dir.Unit is places among = rw is among
   other-leads bytes step dir.Tester is places among =
       elim (cases_Bool (is_keep_alive bytes)) [ inl e ↦ rw (is, e) tt | inr e ↦ rw (is, e) among ]

@@ -10,7 +10,7 @@ use Rattle.isotp_receive.specs.declared.event.Reason.{Reason}
 use Rattle.trace_canon.specs.declared.reception_starts.FramePlace.{FramePlace}
 use Rattle.trace_text.specs.RemarkLines.{cause_text, reason_text}
 use Rattle.trace_report.specs.Targets.{identifier}
-use Rattle.trace_report.specs.declared.targets.Target.TheVariants as target
+use Rattle.trace_report.specs.declared.targets.LinkTarget.TheVariants as target
 use Rattle.trace_report.specs.Durations.{seconds_between}
 use Rattle.trace_text.specs.Words.{direction_text}
 use Rattle.trace_report.specs.Rows.{cell_front, cell_end}

@@ -6,7 +6,7 @@ use Rattle.uds_message.specs.Message.{sid, response_code}
 use Rattle.trace_report.specs.declared.row.MessagePlace.{MessagePlace}
 use Rattle.trace_report.specs.declared.roles.MessageRole.{MessageRole}
 use Rattle.trace_report.specs.Targets.{identifier}
-use Rattle.trace_report.specs.declared.targets.Target.TheVariants as target
+use Rattle.trace_report.specs.declared.targets.LinkTarget.TheVariants as target
 use Rattle.trace_report.specs.Data.{data_text}
 use Rattle.trace_report.specs.Durations.{milliseconds_between, seconds_between}
 use Rattle.trace_text.specs.Words.{direction_text, service_text, code_text}

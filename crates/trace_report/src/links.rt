@@ -1,6 +1,6 @@
 //! The links of a report to what needs attention.
 use crate::tally::{MOST_LINKS, Targets};
-use crate::targets::Target;
+use crate::targets::LinkTarget;
 use direction::Dir;
 use text_parts::{Part, say};
 use trace_io::TextSink;
@@ -38,7 +38,7 @@ impl<'a> Part for AttentionLine<'a> {
 
 /// Links to these places, with commas between.
 #[derive(Clone, Copy)]
-struct Links<'a>(&'a [Target]);
+struct Links<'a>(&'a [LinkTarget]);
 
 impl<'a> Part for Links<'a> {
     ghost use Rattle.trace_report.specs.Links.{links_text};
@@ -54,7 +54,7 @@ impl<'a> Part for Links<'a> {
 
 /// Links to these places, each behind another link.
 #[derive(Clone, Copy)]
-struct LinksBehind<'a>(&'a [Target]);
+struct LinksBehind<'a>(&'a [LinkTarget]);
 
 impl<'a> Part for LinksBehind<'a> {
     ghost use Rattle.trace_report.specs.Links.{links_behind};
@@ -70,7 +70,7 @@ impl<'a> Part for LinksBehind<'a> {
 
 /// A link to a place: where it leads, and how it is called.
 #[derive(Clone, Copy)]
-struct LinkTo(Target);
+struct LinkTo(LinkTarget);
 
 impl Part for LinkTo {
     ghost use Rattle.trace_report.specs.Links.{link_text};
@@ -79,16 +79,16 @@ impl Part for LinkTo {
 
     fn say<S: TextSink>(self, out: &mut S) {
         match self.0 {
-            Target::Item(number) => {
+            LinkTarget::Item(number) => {
                 let number = Number(number);
                 say(out, ("<a href=\"#i", number, "\">item ", number, "</a>"));
             }
-            Target::Line(number) => {
+            LinkTarget::Line(number) => {
                 let number = Number(number);
                 say(out, ("<a href=\"#l", number, "\">line ", number, "</a>"));
             }
-            Target::Side(Dir::Tester) => say(out, "<a href=\"#et\">of the tester</a>"),
-            Target::Side(Dir::Unit) => say(out, "<a href=\"#eu\">of the unit</a>"),
+            LinkTarget::Side(Dir::Tester) => say(out, "<a href=\"#et\">of the tester</a>"),
+            LinkTarget::Side(Dir::Unit) => say(out, "<a href=\"#eu\">of the unit</a>"),
         }
     }
 }

@@ -5,7 +5,7 @@ ghost use Rattle.trace_report.specs.proving.Pages.{row_of};
 
 use crate::roles::MessageRole;
 use crate::row::Row;
-use crate::targets::Target;
+use crate::targets::LinkTarget;
 
 /// What needs attention, and what else is counted.
 #[derive(Clone, Copy, Debug)]
@@ -87,14 +87,14 @@ fn sort_of_silence(silent: bool) -> Sort
 }
 
 /// Where a link to a row leads: to its item or to its line, or to what stands of its side.
-pub(crate) fn target_of(row: Row<'_>) -> Target
+pub(crate) fn target_of(row: Row<'_>) -> LinkTarget
     ensures { result ≡ Spec.target_of (row_of row.entry) }
 {
     match row {
-        Row::Message { place, .. } => Target::Item(place.item),
-        Row::NoAnswer { number, .. } => Target::Item(number),
-        Row::Dropped { place, .. } => Target::Line(place.line),
-        Row::Ended { place, .. } => Target::Line(place.line),
-        Row::Unfinished { dir, .. } => Target::Side(dir),
+        Row::Message { place, .. } => LinkTarget::Item(place.item),
+        Row::NoAnswer { number, .. } => LinkTarget::Item(number),
+        Row::Dropped { place, .. } => LinkTarget::Line(place.line),
+        Row::Ended { place, .. } => LinkTarget::Line(place.line),
+        Row::Unfinished { dir, .. } => LinkTarget::Side(dir),
     }
 }
