@@ -15,6 +15,7 @@ pub mod Asking
 mod Beside
 mod FirstChanges
 mod Agreeing
+mod ChartItems
 mod ToldOutcomes
 mod PagesInMemory
 mod PageStyle
