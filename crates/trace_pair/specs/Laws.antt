@@ -38,7 +38,7 @@ abbrev pub ChartHasTheItem : Type 0
 ChartHasTheItem = (item : ℕ) (rows : List RowValue)
     → ((front more : List RowValue) × (rows ≡ front ++ (chart_rows item rows ++ more)))
     × (rows_before item rows < length rows → rows_before item rows < chart_from item rows + 40
-       → slice_get (chart_rows item rows) (rows_before item rows - chart_from item rows) ≡ slice_get rows (rows_before item rows))
+    → slice_get (chart_rows item rows) (rows_before item rows - chart_from item rows) ≡ slice_get rows (rows_before item rows))
 
 -- an exchange that is told as one without an answer, or as silent, has none
 abbrev pub UnansweredHasNone : Type 0
