@@ -40,7 +40,7 @@ get-taken (suc count) (x ∷ xs) zero low = refl
 get-taken (suc count) (x ∷ xs) (suc at) low = get-taken count xs at (omega (arith, low))
 
 pub has-the-item : ChartHasTheItem
-has-the-item item rows = (take from rows, drop count (drop from rows), whole), there
+has-the-item item rows = ((take from rows, drop count (drop from rows), whole), there)
   where
     from : ℕ
     from = chart_from item rows
