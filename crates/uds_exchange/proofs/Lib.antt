@@ -21,6 +21,7 @@ pub mod Putting
 pub mod NextStep
 pub mod PutIn
 pub mod ItemNumbers
+pub mod RolesOfSteps
 pub mod Fronts
 pub mod OpenRequestOfMore
 pub mod Deciding

@@ -9,6 +9,7 @@ use Rattle.uds_exchange.proofs.MadeUp.{all-over}
 use Rattle.uds_exchange.proofs.RolesFound.{role_behind, has-role, only-role}
 pub use Rattle.uds_exchange.proofs.ByRoles.{each-has-roles as each_list_has_roles}
 use Rattle.uds_exchange.proofs.ByRoles.{by-roles}
+pub use Rattle.uds_exchange.proofs.RolesOfSteps.{step_tells_the_role}
 pub use Rattle.uds_exchange.proofs.Early.{early-then-held as early_then_held, early-front as early_stays, early-grows as early_grows}
 pub use Rattle.uds_exchange.proofs.MustWait.{open-request-behind as open_request_is_last, answer-first as held_must_wait, none-lost-in-order as none_is_lost_in_order}
 use Rattle.uds_exchange.proofs.MustWait.{nothing-held}

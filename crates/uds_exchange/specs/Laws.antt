@@ -4,7 +4,7 @@ use Rattle.std.specs.List.{list_all}
 use Rattle.direction.specs.Dir.{Message}
 use Rattle.uds_exchange.specs.Meaning.{is_tester_request, is_answer_to, is_pending_reply_to, ItemValue, exchange, stray_of, meaning, flattened, removed_messages}
 use Rattle.uds_exchange.specs.Decided.{decided, undecided}
-use Rattle.uds_exchange.specs.Roles.{MessageRole, IsOpenBehind, HasRole, AreRoles, arranged, those_removed}
+use Rattle.uds_exchange.specs.Roles.{MessageRole, as_request, as_answer, as_removed, as_stray, IsOpenBehind, HasRole, AreRoles, arranged, those_removed}
 use Rattle.uds_exchange.specs.Judging.{step_after}
 use Rattle.uds_exchange.specs.Order.{open_request, held, early, rejection_of}
 use Rattle.uds_exchange.specs.declared.step.Step.{Step}
@@ -38,6 +38,18 @@ EachListHasRoles = (M : List Message)
 abbrev pub MessagesByRoles : Type 0
 MessagesByRoles = (M : List Message) (roles : List MessageRole) → AreRoles [] M roles
     → (flattened (meaning M) ≡ arranged [] M roles) × (removed_messages M ≡ those_removed M roles)
+
+-- the role that a message has by what becomes of it
+abbrev pub role_of_step : Step → MessageRole
+role_of_step (step.Request service) = as_request
+role_of_step step.Answer = as_answer
+role_of_step step.Removed = as_removed
+role_of_step step.Hold = as_stray
+role_of_step step.Pass = as_stray
+
+-- what becomes of a message, by the first byte of the open request alone, tells its role, which `HasRole` finds by looking back
+abbrev pub StepTellsTheRole : Type 0
+StepTellsTheRole = (M : List Message) (message : Message) → HasRole M message (role_of_step (step_after M message))
 
 -- the open request is the last one, and none after it is its answer
 abbrev pub OpenRequestIsLast : Type 0
