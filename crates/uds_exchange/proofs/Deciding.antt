@@ -11,17 +11,17 @@ use Rattle.uds_exchange.specs.Decider.{DeciderValue, decider_after, AreDecidedBy
 use Rattle.uds_exchange.specs.Laws.{open_with, DecidedThenUndecided, DecidedGrows, UndecidedMustWait}
 use Rattle.uds_exchange.specs.Meaning.{ItemValue, exchange, stray, stray_of, is_tester_request, is_answer_to, is_pending_reply_to, meaning, flattened}
 use Rattle.uds_exchange.specs.Order.{has_exchange, open_request_in, open_request, held_in, held, rejection_of}
-use Rattle.uds_exchange.specs.proving.Deciding.{step_in, decided_for, decided_by, decider_after_step, decider_with, Refuses}
+use Rattle.uds_exchange.specs.proving.Deciding.{decided_for, decided_by, request_after_step, decider_after_step, decider_with, Keeps}
 use Rattle.uds_message.specs.Message.{sid}
+use Rattle.uds_exchange.specs.OneMessage.{step_of}
 use Rattle.uds_exchange.specs.Judging.{step_after}
 use Rattle.uds_exchange.proofs.Kept.{not-request}
 use Rattle.uds_exchange.specs.proving.OpenExchange.{one_later, open_exchange_in}
 use Rattle.uds_exchange.specs.proving.Pairing.{items_with_other, items_with}
-use Rattle.uds_exchange.specs.proving.Steps.{Standing, standing_after, standing_after_step}
 use Rattle.uds_exchange.specs.declared.step.Step.{Step}
 use Rattle.uds_exchange.specs.declared.step.Step.TheVariants as step
 use Rattle.uds_exchange.proofs.MustWait.{open-request-waits, open-request-behind, rejects}
-use Rattle.uds_exchange.proofs.NextStep.{stands-next}
+use Rattle.uds_exchange.proofs.NextStep.{held-next, held-with}
 use Rattle.uds_exchange.proofs.OneMore.{meaning-append}
 use Rattle.uds_exchange.proofs.OpenRequestOfMore.{open_request_goes_on}
 use Rattle.uds_exchange.proofs.OpenExchange.{has-more, has-last, has-set, open_exchange-at, one_later-none, one_later-some, request_of}
@@ -107,11 +107,11 @@ decided-answered (exchange q None ∷ its) w a h =
     decided-alone (stray d m ∷ xs) none = ap (λ l. stray d m ∷ l) (decided-alone xs none)
 
 -- a decider, by the exchange that waits
-abbrev standing : Option (ℕ × List ℕ) → List Message → DeciderValue
-standing w holds = record { request = request_of w; holds = holds }
+abbrev decider-by : Option (ℕ × List ℕ) → List Message → DeciderValue
+decider-by w holds = record { request = request_of w; holds = holds }
 
 joined : (its : List ItemValue) (x : Message) (w : Option (ℕ × List ℕ)) → is_tester_request x ≡ false → open_exchange_in its ≡ w
-    → decided_in (items_with_other w its x) ≡ decided_in its ++ decided_by (standing w (held_in its)) x
+    → decided_in (items_with_other w its x) ≡ decided_in its ++ decided_by (decider-by w (held_in its)) x
 joined its x None r h = rw r (decided-stray its x.0 x.1 h ∙ ap (λ l. l ++ stray_of x ∷ []) (sym (decided-all its h)))
 joined its x (Some w) r h =
     elim (cases_Bool (is_answer_to w.1 x)) [
@@ -122,7 +122,7 @@ joined its x (Some w) r h =
       ]
     ]
 
-more : (its : List ItemValue) (x : Message) → decided_in (items_with its x) ≡ decided_in its ++ decided_by (standing (open_exchange_in its) (held_in its)) x
+more : (its : List ItemValue) (x : Message) → decided_in (items_with its x) ≡ decided_in its ++ decided_by (decider-by (open_exchange_in its) (held_in its)) x
 more its x =
     elim (cases_Bool (is_tester_request x)) [
       | inl e ↦ rw e (decided-request its x.1 ∙ sym (whole its) ∙ ap (λ o. decided_in its ++ exchange_items o None (held_in its)) (open-request-waits its))
@@ -138,9 +138,9 @@ decided-by M x d is =
 
 -- ---- what a decider keeps
 
-request-kept : (o : Option (List ℕ)) (holds : List Message) (x : Message) → (decider_with (record { request = o; holds = holds }) x).request ≡ open_with o x
-request-kept None holds x = elim (cases_Bool (is_tester_request x)) [ inl e ↦ rw e refl | inr e ↦ rw e refl ]
-request-kept (Some r) holds x =
+request-kept : (o : Option (List ℕ)) (x : Message) → request_after_step (step_of (option_map sid o) x) o x ≡ open_with o x
+request-kept None x = elim (cases_Bool (is_tester_request x)) [ inl e ↦ rw e refl | inr e ↦ rw e refl ]
+request-kept (Some r) x =
     elim (cases_Bool (is_tester_request x)) [
       | inl e ↦ rw e refl
       | inr e ↦ elim (cases_Bool (is_answer_to r x)) [
@@ -149,21 +149,11 @@ request-kept (Some r) holds x =
       ]
     ]
 
-holds-same : (s : Step) (d : DeciderValue) (o : Standing) (x : Message) → d.holds ≡ o.holds → (decider_after_step s d x).holds ≡ (standing_after_step s o x).holds
-holds-same (step.Request service) d o x is = refl
-holds-same step.Answer d o x is = refl
-holds-same step.Removed d o x is = is
-holds-same step.Hold d o x is = ap (λ l. l ++ x ∷ []) is
-holds-same step.Pass d o x is = is
-
-holds-kept : (M : List Message) (x : Message) → (decider_with (decider_after M) x).holds ≡ held (M ++ x ∷ [])
-holds-kept M x = holds-same (step_in (decider_after M) x) (decider_after M) (standing_after M) x refl ∙ ap (λ (o : Standing). o.holds) (stands-next M x)
-
 -- it is where it stands after the longer list
 pub keeps-next : (M : List Message) (x : Message) → decider_with (decider_after M) x ≡ decider_after (M ++ x ∷ [])
 keeps-next M x =
-    let request = request-kept (open_request M) (held M) x ∙ sym (open_request_goes_on M x) in
-    let holds = holds-kept M x in
+    let request = request-kept (open_request M) x ∙ sym (open_request_goes_on M x) in
+    let holds = sym (held-next M x) in
     (λ i. record { request = request i; holds = holds i })
 
 -- by the step that was found
@@ -182,10 +172,9 @@ asks M x service is =
     ]
 
 -- where memory is refused, the message is one that is kept
-pub refuses-kept : (M : List Message) (x : Message) (s : Step) (d : DeciderValue) → d ≡ decider_after M → s ≡ step_after M x → Refuses s d x → IsKept M x
-refuses-kept M x s d is step_is (inl begins) = inl (asks M x begins.0 (sym step_is ∙ begins.1))
-refuses-kept M x s d is step_is (inr holds) =
-    inr (sym (ap (λ (d : DeciderValue). d.holds) (keeps-found M x s d is step_is)) ∙ holds ∙ ap (λ (d : DeciderValue). d.holds ++ x ∷ []) is)
+pub kept-with : (M : List Message) (x : Message) (s : Step) → s ≡ step_after M x → Keeps s → IsKept M x
+kept-with M x s step_is (inl begins) = inl (asks M x begins.0 (sym step_is ∙ begins.1))
+kept-with M x s step_is (inr holds) = inr (held-with M x s step_is holds)
 
 -- ---- the laws
 

@@ -13,7 +13,7 @@ use Rattle.uds_exchange.specs.Order.{has_exchange, held, held_in, early, open_re
 use Rattle.uds_exchange.specs.proving.OpenExchange.{open_exchange_in, open_sid_in}
 use Rattle.uds_exchange.specs.proving.Pairing.{items_after_step, items_with_other, items_with}
 use Rattle.uds_exchange.specs.OneMessage.{step_of}
-use Rattle.uds_exchange.specs.proving.Steps.{Standing, standing_after, standing_after_step}
+use Rattle.uds_exchange.specs.proving.Steps.{open_sid_after_step, held_after_step}
 use Rattle.uds_exchange.specs.Judging.{step_after, number_by, number_after, open_number_if_any, IsOpenSid, HasCounted}
 use Rattle.uds_exchange.specs.declared.judge.Judge.{Judge}
 use Rattle.uds_exchange.specs.Exchanged.{is_tester_response, is_unit_non_response, sides_of}
@@ -25,7 +25,7 @@ use Rattle.uds_exchange.specs.declared.step.Step.TheVariants as step
 use Rattle.uds_exchange.proofs.Kept.{join-step}
 use Rattle.uds_exchange.proofs.Counts.{none-lost}
 use Rattle.uds_exchange.proofs.MustWait.{none-lost-in-order}
-use Rattle.uds_exchange.proofs.NextStep.{stands-is, stands-next}
+use Rattle.uds_exchange.proofs.NextStep.{open-sid-is, open-sid-next, held-next}
 use Rattle.uds_exchange.proofs.OneMore.{meaning-append}
 use Rattle.uds_exchange.proofs.OpenRequestOfMore.{removed_go_on}
 use Rattle.uds_exchange.proofs.OpenExchange.{sid_of}
@@ -58,7 +58,7 @@ join-length its x =
     ]
 
 pub step-is : (M : List Message) (x : Message) → step_of (open_sid_in (meaning M)) x ≡ step_after M x
-step-is M x = ap (λ (o : Standing). step_of o.open_sid x) (sym (stands-is M))
+step-is M x = ap (λ o. step_of o x) (sym (open-sid-is M))
 
 -- the items with one more message, by the step that was found
 pub items-found : (M : List Message) (x : Message) (s : Step) (its : List ItemValue) → its ≡ meaning M → s ≡ step_after M x → items_after_step s (open_exchange_in its) its x ≡ meaning (M ++ x ∷ [])
@@ -140,43 +140,44 @@ sides-next M x =
     rw (sym (any-next is_tester_request), sym (any-next is_tester_response), sym (any-next is_unit_non_response)) refl
 
 next-by : (s : Step) (M : List Message) (x : Message) (judge : Judge) (seen : Sides) → length M < 2 ^ 62 → HasCounted M judge
-    → standing_after (M ++ x ∷ []) ≡ standing_after_step s (standing_after M) x → length (meaning (M ++ x ∷ [])) ≡ item_count_after_step s (length (meaning M))
+    → option_map sid (open_request (M ++ x ∷ [])) ≡ open_sid_after_step s (option_map sid (open_request M))
+    → held (M ++ x ∷ []) ≡ held_after_step s (held M) x → length (meaning (M ++ x ∷ [])) ≡ item_count_after_step s (length (meaning M))
     → length (removed_messages (M ++ x ∷ [])) ≡ length (removed_messages M) + left-out-by s
     → HasCounted (M ++ x ∷ []) (judge_after_step s (record judge { sides = seen }))
-next-by (step.Request service) M x judge seen few counts stands grown gone =
+next-by (step.Request service) M x judge seen few counts opened held_now grown gone =
     let few_items = few-items M in let is = counts.items in record {
-      is_open = ap (λ (o : Standing). o.open_sid) (sym stands);
+      is_open = sym opened;
       items = omega arith;
-      held_count = ap (λ (o : Standing). length o.holds) (sym stands);
+      held_count = ap length (sym held_now);
       removed = omega (arith, counts.removed, gone);
     }
-next-by step.Answer M x judge seen few counts stands grown gone =
+next-by step.Answer M x judge seen few counts opened held_now grown gone =
     record {
-      is_open = ap (λ (o : Standing). o.open_sid) (sym stands);
+      is_open = sym opened;
       items = counts.items ∙ sym grown;
-      held_count = ap (λ (o : Standing). length o.holds) (sym stands);
+      held_count = ap length (sym held_now);
       removed = omega (arith, counts.removed, gone);
     }
-next-by step.Removed M x judge seen few counts stands grown gone =
+next-by step.Removed M x judge seen few counts opened held_now grown gone =
     let few_removed = few-removed M in let removed_were = counts.removed in record {
-      is_open = counts.is_open ∙ ap (λ (o : Standing). o.open_sid) (sym stands);
+      is_open = counts.is_open ∙ sym opened;
       items = counts.items ∙ sym grown;
-      held_count = counts.held_count ∙ ap (λ (o : Standing). length o.holds) (sym stands);
+      held_count = counts.held_count ∙ ap length (sym held_now);
       removed = omega arith;
     }
-next-by step.Hold M x judge seen few counts stands grown gone =
+next-by step.Hold M x judge seen few counts opened held_now grown gone =
     let few_items = few-items M in let few_held = few-held M in let items_were = counts.items in let held_were = counts.held_count in
-    let more = length-append (held M) (x ∷ []) in let now = ap (λ (o : Standing). length o.holds) stands in record {
-      is_open = counts.is_open ∙ ap (λ (o : Standing). o.open_sid) (sym stands);
+    let more = length-append (held M) (x ∷ []) in let now = ap length held_now in record {
+      is_open = counts.is_open ∙ sym opened;
       items = omega arith;
       held_count = omega arith;
       removed = omega (arith, counts.removed, gone);
     }
-next-by step.Pass M x judge seen few counts stands grown gone =
+next-by step.Pass M x judge seen few counts opened held_now grown gone =
     let few_items = few-items M in let is = counts.items in record {
-      is_open = counts.is_open ∙ ap (λ (o : Standing). o.open_sid) (sym stands);
+      is_open = counts.is_open ∙ sym opened;
       items = omega arith;
-      held_count = counts.held_count ∙ ap (λ (o : Standing). length o.holds) (sym stands);
+      held_count = counts.held_count ∙ ap length (sym held_now);
       removed = omega (arith, counts.removed, gone);
     }
 
@@ -185,7 +186,7 @@ pub counts-next : (M : List Message) (x : Message) (judge now : Judge) (s : Step
     → s ≡ step_of judge.open_sid x → now ≡ judge_after_step s (record judge { sides = seen }) → HasCounted (M ++ x ∷ []) now
 counts-next M x judge now s seen few counts s_is now_is =
     let found : s ≡ step_after M x = s_is ∙ ap (λ o. step_of o x) counts.is_open in
-    rw (now_is, found) (next-by (step_after M x) M x judge seen few counts (sym (stands-next M x)) (items-next M x) (removed-next M x))
+    rw (now_is, found) (next-by (step_after M x) M x judge seen few counts (open-sid-next M x) (held-next M x) (items-next M x) (removed-next M x))
 
 sides-kept : (s : Step) (judge : Judge) (seen : Sides) → (judge_after_step s (record judge { sides = seen })).sides ≡ seen
 sides-kept (step.Request service) judge seen = refl
@@ -212,21 +213,21 @@ pub step-found : (M : List Message) (x : Message) (judge : Judge) (s : Step) →
 step-found M x judge s waits s_is = s_is ∙ ap (λ o. step_of o x) waits
 
 -- which request waits then
-waits-by : (s : Step) (judge : Judge) (seen : Sides) (standing : Standing) (x : Message) → judge.open_sid ≡ standing.open_sid
-    → (judge_after_step s (record judge { sides = seen })).open_sid ≡ (standing_after_step s standing x).open_sid
-waits-by (step.Request service) judge seen standing x waits = refl
-waits-by step.Answer judge seen standing x waits = refl
-waits-by step.Removed judge seen standing x waits = waits
-waits-by step.Hold judge seen standing x waits = waits
-waits-by step.Pass judge seen standing x waits = waits
+waits-by : (s : Step) (judge : Judge) (seen : Sides) → (judge_after_step s (record judge { sides = seen })).open_sid ≡ open_sid_after_step s judge.open_sid
+waits-by (step.Request service) judge seen = refl
+waits-by step.Answer judge seen = refl
+waits-by step.Removed judge seen = refl
+waits-by step.Hold judge seen = refl
+waits-by step.Pass judge seen = refl
 
 pub waits-found : (M : List Message) (x : Message) (judge now : Judge) (s : Step) (seen : Sides) → IsOpenSid M judge.open_sid → s ≡ step_of judge.open_sid x
     → now ≡ judge_after_step s (record judge { sides = seen }) → IsOpenSid (M ++ x ∷ []) now.open_sid
 waits-found M x judge now s seen waits s_is now_is =
+    let found = step-found M x judge s waits s_is in
     ap (λ (j : Judge). j.open_sid) now_is
-    ∙ waits-by s judge seen (standing_after M) x waits
-    ∙ ap (λ r. (standing_after_step r (standing_after M) x).open_sid) (step-found M x judge s waits s_is)
-    ∙ ap (λ (o : Standing). o.open_sid) (stands-next M x)
+    ∙ waits-by s judge seen
+    ∙ (λ i. open_sid_after_step (found i) (waits i))
+    ∙ sym (open-sid-next M x)
 
 -- and the number of its item
 pub number-found : (M : List Message) (x : Message) (judge : Judge) (s : Step) (seen : Sides) (number : ℕ) → length M < 2 ^ 62 → HasCounted M judge
@@ -236,8 +237,8 @@ number-found M x judge s seen number few counts s_is is =
 
 -- ---- the number of the exchange that waits
 
-abbrev number-of : Standing → ℕ → Option ℕ
-number-of standing items = option_map (λ service. items - length standing.holds) standing.open_sid
+abbrev number-of : Option ℕ → List Message → ℕ → Option ℕ
+number-of open_sid holds items = option_map (λ service. items - length holds) open_sid
 
 -- where one waits no message passes by
 never-passes : (service : ℕ) (x : Message) → step_of (Some service) x ≡ step.Pass → ⊥
@@ -264,7 +265,8 @@ passed-by None items held_ones x is = refl
 passed-by (Some service) items held_ones x is = absurd (never-passes service x is)
 
 number-by-step : (s : Step) (M : List Message) (x : Message) → step_after M x ≡ s
-    → number-of (standing_after_step s (standing_after M) x) (item_count_after_step s (length (meaning M))) ≡ open_number_after_step s (number_by s M) (open_number_if_any M)
+    → number-of (open_sid_after_step s (option_map sid (open_request M))) (held_after_step s (held M) x) (item_count_after_step s (length (meaning M)))
+    ≡ open_number_after_step s (number_by s M) (open_number_if_any M)
 number-by-step (step.Request service) M x is = ap (λ n. Some n) (omega arith)
 number-by-step step.Answer M x is = refl
 number-by-step step.Removed M x is = refl
@@ -273,4 +275,4 @@ number-by-step step.Pass M x is = passed-by (option_map sid (open_request M)) (l
 
 pub waits-next : (M : List Message) (x : Message) → open_number_if_any (M ++ x ∷ []) ≡ open_number_after_step (step_after M x) (number_after M x) (open_number_if_any M)
 waits-next M x =
-    (λ i. number-of (sym (stands-next M x) i) (items-next M x i)) ∙ number-by-step (step_after M x) M x refl
+    (λ i. number-of (open-sid-next M x i) (held-next M x i) (items-next M x i)) ∙ number-by-step (step_after M x) M x refl

@@ -1,15 +1,15 @@
--- What an orderer does with one more message is what the longer list means.
+-- What one more message does to the open request and to what is held, and that an orderer does just that.
 use Rattle.std.proofs.Common.{◌≡◌, ℕ, false, List, [], ◌∷◌, ◌++◌, Option, Some, None, refl, sym, ◌∙◌, ap, subst, inl, inr, option_map}
 use Rattle.std.proofs.lemmas.Bool.{cases_Bool, false≢true}
 use Rattle.direction.specs.Dir.{Message}
 use Rattle.uds_message.specs.Message.{sid}
 use Rattle.uds_exchange.specs.Meaning.{ItemValue, is_tester_request, is_answer_to, is_pending_reply_to, meaning, flattened}
-use Rattle.uds_exchange.specs.Order.{held_in, held, early}
+use Rattle.uds_exchange.specs.Order.{held_in, held, early, open_request}
 use Rattle.uds_exchange.specs.Orderer.{JudgedOrdererValue, judged_orderer_after, IsDue, PutsDue, IsHeld, StopsDue}
 use Rattle.uds_exchange.specs.proving.OpenExchange.{open_exchange_in, open_sid_in}
 use Rattle.uds_exchange.specs.proving.Pairing.{items_with_other, items_with}
 use Rattle.uds_exchange.specs.OneMessage.{step_of}
-use Rattle.uds_exchange.specs.proving.Steps.{Standing, standing_after, due_for, due, standing_after_step, orderer_after_step, standing_with, Stops}
+use Rattle.uds_exchange.specs.proving.Steps.{open_sid_after_step, held_after_step, due_for, orderer_after_step, Stops}
 use Rattle.uds_exchange.specs.Judging.{step_after}
 use Rattle.uds_exchange.specs.declared.step.Step.{Step}
 use Rattle.uds_exchange.specs.declared.step.Step.TheVariants as step
@@ -22,17 +22,13 @@ use Rattle.uds_exchange.proofs.Early.{early-then-held, due_by, due_in, early-app
 use Rattle.uds_exchange.proofs.Putting.{puts-append}
 use Rattle.uds_exchange.proofs.MustWait.{open-request-waits}
 
-abbrev standing : List ItemValue → Standing
-standing its = record { open_sid = open_sid_in its; holds = held_in its }
-
 sid-of-request : (w : Option (ℕ × List ℕ)) → option_map sid (option_map (λ w. w.1) w) ≡ sid_of w
 sid-of-request None = refl
 sid-of-request (Some w) = refl
 
-pub stands-is : (M : List Message) → standing_after M ≡ standing (meaning M)
-stands-is M =
-    ap (λ (o : Option ℕ). let s : Standing = record { open_sid = o; holds = held M } in s)
-    (ap (option_map sid) (open-request-waits (meaning M)) ∙ sid-of-request (open_exchange_in (meaning M)))
+-- the first byte of the open request is that of the exchange which waits
+pub open-sid-is : (M : List Message) → option_map sid (open_request M) ≡ open_sid_in (meaning M)
+open-sid-is M = ap (option_map sid) (open-request-waits (meaning M)) ∙ sid-of-request (open_exchange_in (meaning M))
 
 due-by-same : (w : Option (ℕ × List ℕ)) (xs : List Message) (x : Message) → is_tester_request x ≡ false
     → due_for (step_of (sid_of w) x) xs x ≡ due_by w xs x
@@ -43,73 +39,67 @@ due-by-same (Some w) xs x r =
       | inr e ↦ elim (cases_Bool (is_pending_reply_to w.1 x)) [ inl q ↦ rw (r, e, q) refl | inr q ↦ rw (r, e, q) refl ]
     ]
 
-due-same : (its : List ItemValue) (x : Message) → due (standing its) x ≡ due_in its x
+due-same : (its : List ItemValue) (x : Message) → due_for (step_of (open_sid_in its) x) (held_in its) x ≡ due_in its x
 due-same its x =
     elim (cases_Bool (is_tester_request x)) [ inl e ↦ rw e refl | inr e ↦ (due-by-same (open_exchange_in its) (held_in its) x e ∙ rw e refl) ]
 
 next-by : (its : List ItemValue) (x : Message) (w : Option (ℕ × List ℕ)) → is_tester_request x ≡ false → open_exchange_in its ≡ w
-    → standing (items_with_other w its x) ≡ standing_after_step (step_of (sid_of w) x) (standing its) x
-next-by its x None r h = rw (r, open_exchange-stray its x.0 x.1, h, (early-stray its x.0 x.1 h).1, none-held its h) refl
+    → (open_sid_in (items_with_other w its x) ≡ open_sid_after_step (step_of (sid_of w) x) (open_sid_in its))
+    × (held_in (items_with_other w its x) ≡ held_after_step (step_of (sid_of w) x) (held_in its) x)
+next-by its x None r h = rw (r, open_exchange-stray its x.0 x.1, h, (early-stray its x.0 x.1 h).1, none-held its h) (refl, refl)
 next-by its x (Some w) r h =
     elim (cases_Bool (is_answer_to w.1 x)) [
-      | inl e ↦ rw (r, e, open_exchange-answered its w x.1 h, (early-answered its w x.1 h).1) refl
+      | inl e ↦ rw (r, e, open_exchange-answered its w x.1 h, (early-answered its w x.1 h).1) (refl, refl)
       | inr e ↦ elim (cases_Bool (is_pending_reply_to w.1 x)) [
-        | inl q ↦ rw (r, e, q) refl
-        | inr q ↦ rw (r, e, q, open_exchange-stray its x.0 x.1, (early-kept its w x.0 x.1 h).1) refl
+        | inl q ↦ rw (r, e, q) (refl, refl)
+        | inr q ↦ rw (r, e, q, open_exchange-stray its x.0 x.1, (early-kept its w x.0 x.1 h).1) (refl, refl)
       ]
     ]
 
-next-same : (its : List ItemValue) (x : Message) → standing (items_with its x) ≡ standing_with (standing its) x
+next-same : (its : List ItemValue) (x : Message)
+    → (open_sid_in (items_with its x) ≡ open_sid_after_step (step_of (open_sid_in its) x) (open_sid_in its))
+    × (held_in (items_with its x) ≡ held_after_step (step_of (open_sid_in its) x) (held_in its) x)
 next-same its x =
     elim (cases_Bool (is_tester_request x)) [
-      | inl e ↦ rw (e, open_exchange-request its x.1, (early-request its x.1).1) refl
-      | inr e ↦ (ap (λ l. standing l) (let j : items_with its x ≡ items_with_other (open_exchange_in its) its x = rw e refl in j) ∙ next-by its x (open_exchange_in its) e refl)
+      | inl e ↦ rw (e, open_exchange-request its x.1, (early-request its x.1).1) (refl, refl)
+      | inr e ↦
+          (let other : items_with its x ≡ items_with_other (open_exchange_in its) its x = rw e refl in
+          let by = next-by its x (open_exchange_in its) e refl in
+          (ap open_sid_in other ∙ by.0, ap held_in other ∙ by.1))
     ]
 
--- what an orderer does leads to where it stands after the longer list
-pub stands-next : (M : List Message) (x : Message) → standing_with (standing_after M) x ≡ standing_after (M ++ x ∷ [])
-stands-next M x =
-    ap (λ o. standing_with o x) (stands-is M)
-    ∙ sym (next-same (meaning M) x)
-    ∙ ap standing (sym (meaning-append M x))
-    ∙ sym (stands-is (M ++ x ∷ []))
+-- the first byte of the open request, and what is held, after the longer list
+pub open-sid-next : (M : List Message) (x : Message)
+    → option_map sid (open_request (M ++ x ∷ [])) ≡ open_sid_after_step (step_after M x) (option_map sid (open_request M))
+open-sid-next M x =
+    open-sid-is (M ++ x ∷ [])
+    ∙ ap open_sid_in (meaning-append M x)
+    ∙ (next-same (meaning M) x).0
+    ∙ ap (λ o. open_sid_after_step (step_of o x) o) (sym (open-sid-is M))
 
--- an orderer holds the same, by the step alone
-holds-same : (s : Step) (o : JudgedOrdererValue) (p : Standing) (x : Message) → o.holds ≡ p.holds → (orderer_after_step s o x).holds ≡ (standing_after_step s p x).holds
-holds-same (step.Request service) o p x is = refl
-holds-same step.Answer o p x is = refl
-holds-same step.Removed o p x is = is
-holds-same step.Hold o p x is = ap (λ l. l ++ x ∷ []) is
-holds-same step.Pass o p x is = is
+pub held-next : (M : List Message) (x : Message) → held (M ++ x ∷ []) ≡ held_after_step (step_after M x) (held M) x
+held-next M x =
+    ap held_in (meaning-append M x)
+    ∙ (next-same (meaning M) x).1
+    ∙ ap (λ o. held_after_step (step_of o x) (held M) x) (sym (open-sid-is M))
 
-well-still : (s : Step) (o : JudgedOrdererValue) (x : Message) → (orderer_after_step s o x).has_failed ≡ o.has_failed
-well-still (step.Request service) o x = refl
-well-still step.Answer o x = refl
-well-still step.Removed o x = refl
-well-still step.Hold o x = refl
-well-still step.Pass o x = refl
+orderer-grows : (M : List Message) (x : Message) → orderer_after_step (step_after M x) (judged_orderer_after M) x ≡ judged_orderer_after (M ++ x ∷ [])
+orderer-grows M x = let holds = sym (held-next M x) in (λ i. record { has_failed = false; holds = holds i })
 
-holds-next : (M : List Message) (x : Message) (s : Step) (o : JudgedOrdererValue) → o ≡ judged_orderer_after M → s ≡ step_after M x → (orderer_after_step s o x).holds ≡ held (M ++ x ∷ [])
-holds-next M x s o is step_is =
-    ap (λ r. (orderer_after_step r o x).holds) step_is
-    ∙ holds-same (step_after M x) o (standing_after M) x (ap (λ (q : JudgedOrdererValue). q.holds) is)
-    ∙ ap (λ (p : Standing). p.holds) (stands-next M x)
+-- an orderer is where it stands after the longer list
+pub ordered-next : (M : List Message) (x : Message) (s : Step) (o : JudgedOrdererValue) → o ≡ judged_orderer_after M → s ≡ step_after M x
+    → orderer_after_step s o x ≡ judged_orderer_after (M ++ x ∷ [])
+ordered-next M x s o is step_is = (λ i. orderer_after_step (step_is i) (is i) x) ∙ orderer-grows M x
 
--- so it is where it stands after the longer list
-pub ordered-next : (M : List Message) (x : Message) (s : Step) (o : JudgedOrdererValue) → o ≡ judged_orderer_after M → s ≡ step_after M x → orderer_after_step s o x ≡ judged_orderer_after (M ++ x ∷ [])
-ordered-next M x s o is step_is =
-    let well = well-still s o x ∙ ap (λ (q : JudgedOrdererValue). q.has_failed) is in
-    let holds = holds-next M x s o is step_is in
-    (λ i. record { has_failed = well i; holds = holds i })
+-- a message that a step holds is held after the longer list
+pub held-with : (M : List Message) (x : Message) (s : Step) → s ≡ step_after M x → s ≡ step.Hold → IsHeld M x
+held-with M x s step_is holds = held-next M x ∙ ap (λ r. held_after_step r (held M) x) (sym step_is ∙ holds)
 
--- and what it holds with one more message is what is held after the longer list
-pub held-with : (M : List Message) (x : Message) (s : Step) (o : JudgedOrdererValue) → o ≡ judged_orderer_after M → s ≡ step_after M x → (orderer_after_step s o x).holds ≡ o.holds ++ x ∷ []
-    → IsHeld M x
-held-with M x s o is step_is holds =
-    sym (holds-next M x s o is step_is) ∙ holds ∙ ap (λ (q : JudgedOrdererValue). q.holds ++ x ∷ []) is
-
-pub early-due : (M : List Message) (x : Message) → early (M ++ x ∷ []) ≡ early M ++ due (standing_after M) x
-early-due M x = early-append M x ∙ ap (λ l. early M ++ l) (sym (due-same (meaning M) x) ∙ ap (λ o. due o x) (sym (stands-is M)))
+-- what has its place with one more message
+pub early-due : (M : List Message) (x : Message) → early (M ++ x ∷ []) ≡ early M ++ due_for (step_after M x) (held M) x
+early-due M x =
+    early-append M x
+    ∙ ap (λ l. early M ++ l) (sym (due-same (meaning M) x) ∙ ap (λ o. due_for (step_of o x) (held M) x) (sym (open-sid-is M)))
 
 due-from : (M : List Message) (x : Message) (s : Step) (o : JudgedOrdererValue) → o ≡ judged_orderer_after M → s ≡ step_after M x → IsDue M x (due_for s o.holds x)
 due-from M x s o is step_is =

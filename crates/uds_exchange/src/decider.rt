@@ -7,7 +7,7 @@ ghost use Rattle.uds_exchange.specs.Decided.{exchange_items, undecided};
 ghost use Rattle.uds_exchange.specs.Decider.{decider_after, PutsDecided, IsKept};
 ghost use Rattle.uds_exchange.specs.ItemSink.{PutsItems};
 ghost use Rattle.uds_exchange.specs.Judging.{IsJudgedAfter, sent};
-ghost use Rattle.uds_exchange.specs.proving.Deciding.{decided_for, decider_after_step, Refuses};
+ghost use Rattle.uds_exchange.specs.proving.Deciding.{decided_for, decider_after_step, Keeps};
 
 use crate::held::HeldMessages;
 use crate::item::Item;
@@ -86,7 +86,7 @@ impl Decider {
         ensures puts { OnOk result (PutsItems S.takes sink.old (decided_for message.entry.step self.old (sent message.entry)) sink.new) }
         ensures err { OnErr result (self.new ≡ self.old) }
         ensures unput { OnErr result (sink.new ≡ sink.old) }
-        ensures needs { OnErr result (Refuses message.entry.step self.old (sent message.entry)) }
+        ensures needs { OnErr result (Keeps message.entry.step) }
     {
         let Judged { dir, bytes, .. } = message;
         match message.step {

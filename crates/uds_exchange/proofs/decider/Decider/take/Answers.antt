@@ -2,7 +2,7 @@
 use Rattle.std.proofs.Common.{◌∙◌}
 use Rattle.uds_exchange.specs.Judging.{sent}
 use Rattle.uds_exchange.specs.proving.Deciding.{decided_for}
-use Rattle.uds_exchange.proofs.Deciding.{decided-found, keeps-found, refuses-kept}
+use Rattle.uds_exchange.proofs.Deciding.{decided-found, keeps-found, kept-with}
 use Rattle.uds_exchange.proofs.Variants.{on_ok_along, on_err_along}
 use Rattle.uds_exchange.proofs.decider.Decider.take.Goals as goal
 
@@ -18,4 +18,4 @@ returns-clause-puts g c =
 
 pub returns-clause-needs : goal.returns-clause-needs
 returns-clause-needs g c =
-    on_err_along c.advance.result _ _ (λ h M is judged. refuses-kept M (sent c.args.message) c.args.message.step c.args.self.now is judged h) c.advance.ensures.needs
+    on_err_along c.advance.result _ _ (λ h M is judged. kept-with M (sent c.args.message) c.args.message.step judged h) c.advance.ensures.needs

@@ -17,7 +17,7 @@ returns-clause-puts g c =
 
 pub returns-clause-needs : goal.returns-clause-needs
 returns-clause-needs g c = λ refused M is judged.
-    held-with M (sent c.args.message) c.args.message.step c.args.self.now is judged (rw refused at c.advance.ensures.err).3
+    held-with M (sent c.args.message) c.args.message.step judged (rw refused at c.advance.ensures.err).3
 
 pub returns-clause-stops : goal.returns-clause-stops
 returns-clause-stops g c =
