@@ -1,5 +1,5 @@
 -- What is judged of one more message by those before it alone: what becomes of it, and the number of its item; and what a judge keeps.
-use Rattle.std.specs.Prelude.{◌≡◌, ℕ, ◌+◌, ◌-◌, ◌^◌, List, [], ◌∷◌, length, Option, Some, None, option_map, min}
+use Rattle.std.specs.Prelude.{◌≡◌, ℕ, ◌+◌, ◌-◌, ◌^◌, List, length, Option, option_map, min}
 use Rattle.direction.specs.Dir.{Message}
 use Rattle.uds_message.specs.Message.{sid}
 use Rattle.uds_exchange.specs.Meaning.{meaning, removed_messages}
@@ -64,11 +64,6 @@ sent judged = (judged.dir, judged.bytes.now)
 -- A message was judged after the messages M: its step is what becomes of it there.
 abbrev pub IsJudgedAfter : List Message → Judged → Type 0
 IsJudgedAfter M judged = judged.step ≡ step_after M (sent judged)
-
--- This was judged of what came behind the messages M: of the one message that did, or none where no message came.
-abbrev pub IsJudgmentOf : List Message → List Message → Option Judged → Type 0
-IsJudgmentOf M came None = came ≡ []
-IsJudgmentOf M came (Some judged) = (came ≡ sent judged ∷ []) × IsJudgedAfter M judged × (judged.item_number ≡ number_after M (sent judged))
 
 -- one more of a count, which stays at the largest number of 64 bits
 abbrev pub one_more : ℕ → ℕ
