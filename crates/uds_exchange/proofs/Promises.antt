@@ -4,38 +4,39 @@
 use Rattle.std.proofs.Common.{[], refl}
 use Rattle.uds_exchange.specs.Meaning.{meaning}
 use Rattle.uds_exchange.specs.Laws.{NoneIsMadeUp, EachHasOneRole, MessagesByRoles, HeldByOpenRequest}
-use Rattle.uds_exchange.proofs.MadeUp.{all-over}
-use Rattle.uds_exchange.proofs.RolesFound.{role_behind, has-role, only-role}
-use Rattle.uds_exchange.proofs.ByRoles.{by-roles}
-use Rattle.uds_exchange.proofs.MustWait.{nothing-held}
-pub use Rattle.uds_exchange.proofs.Again.{meaning-flattened as meaning_is_kept}
-pub use Rattle.uds_exchange.proofs.Counts.{none-lost as none_is_lost}
-pub use Rattle.uds_exchange.proofs.ByRoles.{each-has-roles as each_list_has_roles}
+use Rattle.uds_exchange.proofs.NoneMadeUp.{all-over}
+use Rattle.uds_exchange.proofs.OneRole.{role_behind, has-role, only-role}
+use Rattle.uds_exchange.proofs.MessagesByRoles.{by-roles}
+use Rattle.uds_exchange.proofs.HeldMustWait.{nothing-held}
+pub use Rattle.uds_exchange.proofs.MeantAgain.{meaning-flattened as meaning_is_kept}
+pub use Rattle.uds_exchange.proofs.NoneLost.{none-lost as none_is_lost}
+pub use Rattle.uds_exchange.proofs.MessagesByRoles.{each-has-roles as each_list_has_roles}
 pub use Rattle.uds_exchange.proofs.RolesOfSteps.{step_tells_the_role}
-pub use Rattle.uds_exchange.proofs.MustWait.{open-request-behind as open_request_is_last}
+pub use Rattle.uds_exchange.proofs.OpenRequests.{open-request-behind as open_request_is_last}
 pub use Rattle.uds_exchange.proofs.OpenRequestOfMore.{open_request_goes_on, removed_go_on}
 pub use Rattle.uds_exchange.proofs.PutIn.{one_more_is_put_in}
-pub use Rattle.uds_exchange.proofs.Early.{early-then-held as early_then_held, early-front as early_stays, early-grows as early_grows}
-pub use Rattle.uds_exchange.proofs.MustWait.{answer-first as held_must_wait, none-lost-in-order as none_is_lost_in_order}
-pub use Rattle.uds_exchange.proofs.Deciding.{decided_then_undecided, decided_grows, undecided_must_wait}
+pub use Rattle.uds_exchange.proofs.EarlyOfMore.{early-then-held as early_then_held, early-front as early_stays, early-grows as early_grows}
+pub use Rattle.uds_exchange.proofs.HeldMustWait.{answer-first as held_must_wait}
+pub use Rattle.uds_exchange.proofs.NoneLost.{none-lost-in-order as none_is_lost_in_order}
+pub use Rattle.uds_exchange.proofs.DecidedOfMore.{decided_then_undecided, decided_grows, undecided_must_wait}
 pub use Rattle.uds_exchange.proofs.InBlocks.{holds-on as message_stays}
-pub use Rattle.uds_exchange.proofs.Putting.{puts-append as puts_join}
-pub use Rattle.uds_exchange.proofs.NextStep.{puts-go-on as puts_go_on, puts-end as puts_end}
+pub use Rattle.uds_exchange.proofs.PuttingMessages.{puts-append as puts_join}
+pub use Rattle.uds_exchange.proofs.OrdererSteps.{puts-go-on as puts_go_on, puts-end as puts_end}
 pub use Rattle.uds_exchange.proofs.PuttingItems.{decided-puts-go-on as decided_puts_go_on, decided-puts-end as decided_puts_end}
 -- the items of a list and one more message are those of the list, with that message (`items_with`)
-pub use Rattle.uds_exchange.proofs.OneMore.{meaning-append as meaning_goes_on}
+pub use Rattle.uds_exchange.proofs.MeaningOfMore.{meaning-append as meaning_goes_on}
 -- how many items there are then, by what becomes of the message
-pub use Rattle.uds_exchange.proofs.ItemNumbers.{items-next as items_grow}
+pub use Rattle.uds_exchange.proofs.ItemCounts.{items-next as items_grow}
 -- which number the open exchange has then, if one is open, by what becomes of the message
-pub use Rattle.uds_exchange.proofs.ItemNumbers.{waits-next as open_number_goes_on}
+pub use Rattle.uds_exchange.proofs.OpenNumbers.{waits-next as open_number_goes_on}
 -- what becomes of the message is told by the items: by the first byte of their open request
-pub use Rattle.uds_exchange.proofs.ItemNumbers.{step-is as step_by_items}
+pub use Rattle.uds_exchange.proofs.HeldOfMore.{step-is as step_by_items}
 -- there are no more items than messages in them
-pub use Rattle.uds_exchange.proofs.ItemNumbers.{items-few as items_are_few}
+pub use Rattle.uds_exchange.proofs.ItemCounts.{items-few as items_are_few}
 -- nor more than messages in the list
-pub use Rattle.uds_exchange.proofs.ItemNumbers.{few-items as items_within_messages}
+pub use Rattle.uds_exchange.proofs.ItemCounts.{few-items as items_within_messages}
 -- where a request is open, fewer messages are held than there are items: its exchange is an item, too
-pub use Rattle.uds_exchange.proofs.ItemNumbers.{held_are_fewer}
+pub use Rattle.uds_exchange.proofs.ItemCounts.{held_are_fewer}
 
 pub none_is_made_up : NoneIsMadeUp
 none_is_made_up passes M each = all-over passes [] M refl each

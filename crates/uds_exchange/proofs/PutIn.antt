@@ -7,9 +7,11 @@ use Rattle.uds_exchange.specs.Laws.{IsPutInBy, OneMoreIsPutIn}
 use Rattle.uds_exchange.specs.Meaning.{meaning, flattened}
 use Rattle.uds_exchange.specs.Judging.{step_after}
 use Rattle.uds_exchange.specs.Order.{early, held}
-use Rattle.uds_exchange.specs.proving.Steps.{held_after_step, due_for}
-use Rattle.uds_exchange.proofs.Early.{early-then-held}
-use Rattle.uds_exchange.proofs.NextStep.{held-next, early-due}
+use Rattle.uds_exchange.specs.proving.Steps.{held_after_step}
+use Rattle.uds_exchange.specs.proving.Ordering.{due_for}
+use Rattle.uds_exchange.proofs.EarlyOfMore.{early-then-held}
+use Rattle.uds_exchange.proofs.HeldOfMore.{held-next}
+use Rattle.uds_exchange.proofs.OrdererSteps.{early-due}
 
 -- what is early, what is due and what is then held, by what becomes of the message
 put_in_by : (became : Step) (front holds : List Message) (x : Message)
@@ -32,7 +34,6 @@ put_in_by step.Pass front holds x = record { front = front; rest = holds; was = 
 
 pub one_more_is_put_in : OneMoreIsPutIn
 one_more_is_put_in M x =
-    let became = step_after M x in
-    let after : (early M ++ due_for became (held M) x) ++ held_after_step became (held M) x ≡ flattened (meaning (M ++ x ∷ [])) =
+    let after : (early M ++ due_for (step_after M x) (held M) x) ++ held_after_step (step_after M x) (held M) x ≡ flattened (meaning (M ++ x ∷ [])) =
     (λ i. sym (early-due M x) i ++ sym (held-next M x) i) ∙ early-then-held (M ++ x ∷ []) in
-    rw (← early-then-held M, ← after) (put_in_by became (early M) (held M) x)
+    rw (← early-then-held M, ← after) (put_in_by (step_after M x) (early M) (held M) x)

@@ -8,9 +8,9 @@ use Rattle.uds_exchange.specs.Meaning.{is_tester_request, is_answer_to, is_pendi
 use Rattle.uds_exchange.specs.OneMessage.{step_if_open, step_of}
 use Rattle.uds_exchange.specs.Roles.{HasRole, as_request}
 use Rattle.uds_exchange.specs.proving.OpenExchange.{open_exchange_in}
-use Rattle.uds_exchange.proofs.ItemNumbers.{step-is}
+use Rattle.uds_exchange.proofs.HeldOfMore.{step-is}
 use Rattle.uds_exchange.proofs.OpenExchange.{sid_of}
-use Rattle.uds_exchange.proofs.RolesFound.{role_by, role_behind, has-role}
+use Rattle.uds_exchange.proofs.OneRole.{role_by, role_behind, has-role}
 
 role-if-open : (w : Option (ℕ × List ℕ)) (x : Message) → role_by w x ≡ role_of_step (step_if_open (sid_of w) x)
 role-if-open None x = refl

@@ -6,8 +6,8 @@ ghost use Rattle.uds_exchange.specs.Judging.{IsJudgedAfter, sent};
 ghost use Rattle.uds_exchange.specs.Order.{held as held_after};
 ghost use Rattle.uds_exchange.specs.MessageSink.{Puts, Fails};
 ghost use Rattle.uds_exchange.specs.Orderer.{judged_orderer_after, PutsDue, IsHeld, StopsDue, StopsHeld};
-ghost use Rattle.uds_exchange.specs.proving.Steps as Spec;
-ghost use Rattle.uds_exchange.specs.proving.Steps.{due_for, Stops};
+ghost use Rattle.uds_exchange.specs.proving.Ordering as Spec;
+ghost use Rattle.uds_exchange.specs.proving.Ordering.{due_for, Stops};
 ghost use Rattle.uds_exchange.specs.declared.order_fault.OrderFault.TheVariants.{Memory, Sink, Failed};
 
 use crate::held::HeldMessages;

@@ -15,11 +15,11 @@ use Rattle.uds_exchange.specs.Order.{has_exchange}
 use Rattle.uds_exchange.specs.proving.OpenExchange.{open_exchange_in}
 use Rattle.uds_exchange.specs.proving.Pairing.{items_with_other}
 use Rattle.uds_exchange.proofs.OpenExchange.{one_later-some}
-use Rattle.uds_exchange.proofs.OneMore.{meaning-append}
-use Rattle.uds_exchange.proofs.Parts.{Quiet, quiet-before_requests, quiet-strays_in, Good, good-parts}
-use Rattle.uds_exchange.proofs.InOrder.{flattened-push}
+use Rattle.uds_exchange.proofs.MeaningOfMore.{meaning-append}
+use Rattle.uds_exchange.proofs.RequestsInParts.{Quiet, quiet-before_requests, quiet-strays_in, Good, good-parts}
+use Rattle.uds_exchange.proofs.MessagesOfParts.{flattened-push}
 use Rattle.uds_exchange.proofs.Replies.{from-tester, from-unit}
-use Rattle.uds_exchange.proofs.RolesFound.{role_by, role_behind}
+use Rattle.uds_exchange.proofs.OneRole.{role_by, role_behind}
 
 -- the exchanges have requests, and no stray is one
 abbrev Sound : List ItemValue → Type 0

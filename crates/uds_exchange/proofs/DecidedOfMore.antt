@@ -1,5 +1,5 @@
--- What is decided as a meaning grows, and that a decider does just that.
-use Rattle.std.proofs.Common.{◌≡◌, ℕ, true, false, option_map, List, [], ◌∷◌, ◌++◌, map, Option, Some, None, refl, sym, ◌∙◌, ap, inl, inr, append_assoc}
+-- What is decided, as a meaning grows.
+use Rattle.std.proofs.Common.{◌≡◌, ℕ, false, List, [], ◌∷◌, ◌++◌, map, Option, Some, None, refl, sym, ◌∙◌, ap, inl, inr, append_assoc}
 use Rattle.std.specs.Prelude.{slice_set}
 use Rattle.std.proofs.lemmas.List.{append-nil}
 use Rattle.std.proofs.lemmas.Bool.{cases_Bool}
@@ -7,24 +7,18 @@ use Rattle.std.proofs.lemmas.Option.{same_Some, none-some}
 use Rattle.direction.specs.Dir.{Message}
 use Rattle.direction.specs.declared.Dir.{Dir}
 use Rattle.uds_exchange.specs.Decided.{decided_in, decided, exchange_items}
-use Rattle.uds_exchange.specs.Decider.{DeciderValue, decider_after, AreDecidedBy, IsKept}
+use Rattle.uds_exchange.specs.Decider.{DeciderValue, decider_after, AreDecidedBy}
 use Rattle.uds_exchange.specs.Laws.{open_with, DecidedThenUndecided, DecidedGrows, UndecidedMustWait}
 use Rattle.uds_exchange.specs.Meaning.{ItemValue, exchange, stray, stray_of, is_tester_request, is_answer_to, is_pending_reply_to, meaning, flattened}
 use Rattle.uds_exchange.specs.Order.{has_exchange, open_request_in, open_request, held_in, held, rejection_of}
-use Rattle.uds_exchange.specs.proving.Deciding.{decided_for, decided_by, request_after_step, decider_after_step, decider_with, Keeps}
-use Rattle.uds_message.specs.Message.{sid}
-use Rattle.uds_exchange.specs.OneMessage.{step_of}
-use Rattle.uds_exchange.specs.Judging.{step_after}
-use Rattle.uds_exchange.proofs.Kept.{not-request}
-use Rattle.uds_exchange.specs.proving.OpenExchange.{one_later, open_exchange_in}
+use Rattle.uds_exchange.specs.proving.Deciding.{decided_by}
+use Rattle.uds_exchange.specs.proving.OpenExchange.{open_exchange_in}
 use Rattle.uds_exchange.specs.proving.Pairing.{items_with_other, items_with}
-use Rattle.uds_exchange.specs.declared.step.Step.{Step}
-use Rattle.uds_exchange.specs.declared.step.Step.TheVariants as step
-use Rattle.uds_exchange.proofs.MustWait.{open-request-waits, open-request-behind, rejects}
-use Rattle.uds_exchange.proofs.NextStep.{held-next, held-with}
-use Rattle.uds_exchange.proofs.OneMore.{meaning-append}
+use Rattle.uds_exchange.proofs.OpenRequests.{open-request-waits, open-request-behind}
+use Rattle.uds_exchange.proofs.HeldMustWait.{rejects}
+use Rattle.uds_exchange.proofs.MeaningOfMore.{meaning-append}
 use Rattle.uds_exchange.proofs.OpenRequestOfMore.{open_request_goes_on}
-use Rattle.uds_exchange.proofs.OpenExchange.{has-more, has-last, has-set, open_exchange-at, one_later-none, one_later-some, request_of}
+use Rattle.uds_exchange.proofs.OpenExchange.{has-more, has-last, has-set, open_exchange-at, one_later-none, one_later-some, request_of, no-exchange}
 
 -- items without an exchange are the strays of their messages
 strays-again : (its : List ItemValue) → has_exchange its ≡ false → map stray_of (flattened its) ≡ its
@@ -98,13 +92,8 @@ decided-answered (exchange q None ∷ its) w a h =
           let more = has-set its v.0.0 v.0.1 None (Some a) (open_exchange-at its v.0 v.1) ∙ e in
           rw (v.2, more, e) (ap (λ l. exchange q None ∷ l) (decided-answered its v.0 a v.1)))
       | inr e ↦ (let same : (0, q) ≡ w = same_Some _ _ (rw e at h) in
-          rw (← same, e) (ap (λ l. exchange q (Some a) ∷ l) (decided-alone its e)))
+          rw (← same, e) (ap (λ l. exchange q (Some a) ∷ l) (decided-all its (no-exchange its e) ∙ sym (strays-again its e))))
     ]
-  where
-    decided-alone : (xs : List ItemValue) → has_exchange xs ≡ false → decided_in xs ≡ map stray_of (flattened xs)
-    decided-alone [] none = refl
-    decided-alone (exchange r c ∷ xs) none = cc
-    decided-alone (stray d m ∷ xs) none = ap (λ l. stray d m ∷ l) (decided-alone xs none)
 
 -- a decider, by the exchange that waits
 abbrev decider-by : Option (ℕ × List ℕ) → List Message → DeciderValue
@@ -135,48 +124,6 @@ decided-by M x d is =
     ap decided_in (meaning-append M x) ∙ more (meaning M) x
     ∙ ap (λ (o : Option (List ℕ)). let s : DeciderValue = record { request = o; holds = held M } in decided M ++ decided_by s x) (sym (open-request-waits (meaning M)))
     ∙ ap (λ s. decided M ++ decided_by s x) (sym is)
-
--- ---- what a decider keeps
-
-request-kept : (o : Option (List ℕ)) (x : Message) → request_after_step (step_of (option_map sid o) x) o x ≡ open_with o x
-request-kept None x = elim (cases_Bool (is_tester_request x)) [ inl e ↦ rw e refl | inr e ↦ rw e refl ]
-request-kept (Some r) x =
-    elim (cases_Bool (is_tester_request x)) [
-      | inl e ↦ rw e refl
-      | inr e ↦ elim (cases_Bool (is_answer_to r x)) [
-        | inl a ↦ rw (e, a) refl
-        | inr a ↦ elim (cases_Bool (is_pending_reply_to r x)) [ inl q ↦ rw (e, a, q) refl | inr q ↦ rw (e, a, q) refl ]
-      ]
-    ]
-
--- it is where it stands after the longer list
-pub keeps-next : (M : List Message) (x : Message) → decider_with (decider_after M) x ≡ decider_after (M ++ x ∷ [])
-keeps-next M x =
-    let request = request-kept (open_request M) x ∙ sym (open_request_goes_on M x) in
-    let holds = sym (held-next M x) in
-    (λ i. record { request = request i; holds = holds i })
-
--- by the step that was found
-pub keeps-found : (M : List Message) (x : Message) (s : Step) (d : DeciderValue) → d ≡ decider_after M → s ≡ step_after M x → decider_after_step s d x ≡ decider_after (M ++ x ∷ [])
-keeps-found M x s d is step_is = (λ i. decider_after_step (step_is i) (is i) x) ∙ keeps-next M x
-
-pub decided-found : (M : List Message) (x : Message) (s : Step) (d : DeciderValue) → d ≡ decider_after M → s ≡ step_after M x → AreDecidedBy M x (decided_for s d x)
-decided-found M x s d is step_is = decided-by M x (decider_after M) refl ∙ (λ i. decided M ++ decided_for (sym step_is i) (sym is i) x)
-
--- a step that begins an exchange is one of a request
-asks : (M : List Message) (x : Message) (service : ℕ) → step_after M x ≡ step.Request service → is_tester_request x ≡ true
-asks M x service is =
-    elim (cases_Bool (is_tester_request x)) [
-      | inl e ↦ e
-      | inr e ↦ absurd (not-request service (option_map sid (open_request M)) x (sym is ∙ rw e refl))
-    ]
-
--- where memory is refused, the message is one that is kept
-pub kept-with : (M : List Message) (x : Message) (s : Step) → s ≡ step_after M x → Keeps s → IsKept M x
-kept-with M x s step_is (inl begins) = inl (asks M x begins.0 (sym step_is ∙ begins.1))
-kept-with M x s step_is (inr holds) = inr (held-with M x s step_is holds)
-
--- ---- the laws
 
 pub decided_then_undecided : DecidedThenUndecided
 decided_then_undecided M = whole (meaning M)
