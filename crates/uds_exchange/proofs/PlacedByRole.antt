@@ -1,4 +1,4 @@
--- The messages of a meaning, by the roles of the list's messages.
+-- One more message is placed among the messages of a meaning by its role.
 use Rattle.std.specs.Prelude.{⊤}
 use Rattle.std.proofs.Common.{◌≡◌, ℕ, true, false, List, [], ◌∷◌, ◌++◌, map, Option, Some, None, refl, ◌∙◌, ap, inl, inr}
 use Rattle.std.specs.Prelude.{slice_set}

@@ -18,7 +18,7 @@ MeaningIsKept = (M : List Message) → meaning (flattened (meaning M)) ≡ meani
 abbrev pub NoneIsLost : Type 0
 NoneIsLost = (M : List Message) → length (flattened (meaning M)) + length (removed_messages M) ≡ length M
 
--- a meaning has no message that the list has not: what holds of each message of a list holds of each message of its meaning
+-- a meaning has no message that the list has not: what holds of all messages of a list holds of all of its meaning
 abbrev pub NoneIsMadeUp : Type 0
 NoneIsMadeUp = (passes : Message → Bool) (M : List Message)
     → list_all passes M ≡ true → list_all passes (flattened (meaning M)) ≡ true
@@ -47,7 +47,7 @@ role_of_step step.Removed = as_removed
 role_of_step step.Hold = as_stray
 role_of_step step.Pass = as_stray
 
--- what becomes of a message, by the first byte of the open request alone, tells its role, which `HasRole` finds by looking back
+-- what becomes of a message, which the open request alone decides, tells the role that `HasRole` finds by looking back
 abbrev pub StepTellsTheRole : Type 0
 StepTellsTheRole = (M : List Message) (message : Message) → HasRole M message (role_of_step (step_after M message))
 

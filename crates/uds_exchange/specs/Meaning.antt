@@ -48,7 +48,7 @@ abbrev pub answer : List ℕ → List Message → Option (List ℕ)
 answer request [] = None
 answer request (message ∷ later) = if is_answer_to request message then Some message.1 else answer request later
 
--- what is removed of the messages after a request: the replies pending for it before its answer, or all where there is no answer
+-- what is removed of the messages after a request: the replies pending for it before its answer, or all if none comes
 abbrev pub removed : List ℕ → List Message → List Message
 removed request [] = []
 removed request (message ∷ later) =

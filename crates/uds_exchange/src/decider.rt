@@ -20,8 +20,8 @@ use direction::Dir;
 use std::alloc::{AllocError, Global};
 use std::marker::Model;
 
-/// Puts the items of a meaning in order into a sink, each as soon as nothing that follows can change it: an exchange when
-/// its answer comes or the next request does, and the strays after it then too. It keeps the open request, and the
+/// Puts the items of a meaning in order into a sink, each as soon as nothing that follows can change it: an exchange
+/// when its answer comes or the next request does, and the strays after it then too. It keeps the open request, and the
 /// messages that are held behind it. A reply that is left out is neither kept nor put.
 #[derive(Debug, Drop)]
 pub struct Decider {
@@ -53,8 +53,8 @@ impl Decider {
         }
     }
 
-    /// Takes one more message, and puts all items that are now decided. Memory is taken for a request, and for a message
-    /// that is held. After an `Err` nothing was put, the decider is unchanged, and the call may be made again.
+    /// Takes one more message, and puts all items that are now decided. Memory is taken for a request, and for a
+    /// message that is held. After an `Err` nothing was put, the decider is unchanged, and the call may be made again.
     pub fn take<S: ItemSink>(&mut self, message: Judged<'_>, sink: &mut S) -> Result<(), AllocError>
         ensures stands { OnOk result ((M : List Message) → self.old ≡ decider_after M → IsJudgedAfter M message.entry
             → self.new ≡ decider_after (M ++ sent message.entry ∷ [])) }

@@ -19,8 +19,8 @@ use direction::Dir;
 use std::alloc::Global;
 use std::marker::Model;
 
-/// Orders messages that are judged already: an [`Orderer`](crate::Orderer) that is told what becomes of each. Contracts see
-/// whether it has failed, and what it holds.
+/// Orders messages that are judged already: an [`Orderer`](crate::Orderer) that is told what becomes of each. Contracts
+/// see whether it has failed, and what it holds.
 #[derive(Debug, Drop)]
 pub struct JudgedOrderer {
     pub(crate) has_failed: bool,
@@ -47,8 +47,8 @@ impl JudgedOrderer {
         }
     }
 
-    /// The sum of the lengths of the messages that are held; 0 where no request is open, if each message was judged rightly.
-    /// After a fault of the sink it says nothing.
+    /// The sum of the lengths of the messages that are held; 0 where no request is open, if each message was judged
+    /// rightly. After a fault of the sink it says nothing.
     pub(crate) fn held_len(&self) -> u64
         ensures { result ≡ sum_by (λ x. length x.1) self.now.holds }
     {

@@ -1,4 +1,4 @@
--- Devices of proof: the open exchange of a list of items, with its place: the last exchange, where it waits for its answer.
+-- Devices of proof: the open exchange of a list of items, which is the last one, where that waits for its answer.
 use Rattle.std.specs.Prelude.{ℕ, suc, List, [], ◌∷◌, Option, Some, None, option_map, if◌then◌else◌}
 use Rattle.uds_message.specs.Message.{sid}
 use Rattle.uds_exchange.specs.Meaning.{ItemValue, exchange, stray}
