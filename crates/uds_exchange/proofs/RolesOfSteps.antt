@@ -21,7 +21,8 @@ role-if-open (Some w) x =
     ]
 
 -- the role by the exchange that waits is that of the step by its request's first byte
-role-of : (w : Option (ℕ × List ℕ)) (x : Message) → cond (is_tester_request x) as_request (role_by w x) ≡ role_of_step (step_of (sid_of w) x)
+role-of : (w : Option (ℕ × List ℕ)) (x : Message)
+    → cond (is_tester_request x) as_request (role_by w x) ≡ role_of_step (step_of (sid_of w) x)
 role-of w x = elim (cases_Bool (is_tester_request x)) [ inl e ↦ rw e refl | inr e ↦ rw e (role-if-open w x) ]
 
 role-after : (M : List Message) (x : Message) → role_behind M x ≡ role_of_step (step_after M x)

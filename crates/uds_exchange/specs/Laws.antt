@@ -31,7 +31,8 @@ EachHasOneRole = (past : List Message) (message : Message)
 -- the messages of a list have their roles in one way
 abbrev pub EachListHasRoles : Type 0
 EachListHasRoles = (M : List Message)
-    → (roles : List MessageRole) × AreRoles [] M roles × ((others : List MessageRole) → AreRoles [] M others → others ≡ roles)
+    → (roles : List MessageRole) × AreRoles [] M roles
+    × ((others : List MessageRole) → AreRoles [] M others → others ≡ roles)
 
 -- the messages of a meaning are the list's in order, except that the removed ones are left out and an answer moves up
 -- to its request
@@ -64,7 +65,8 @@ open_with (Some request) message =
 
 -- the open request of a list and one more message is known from that of the list
 abbrev pub OpenRequestGoesOn : Type 0
-OpenRequestGoesOn = (M : List Message) (message : Message) → open_request (M ++ message ∷ []) ≡ open_with (open_request M) message
+OpenRequestGoesOn = (M : List Message) (message : Message)
+    → open_request (M ++ message ∷ []) ≡ open_with (open_request M) message
 
 -- what is removed of one more message, where this request is open: a pending reply for it that is not its answer
 abbrev pub removed_with : Option (List ℕ) → Message → List Message
@@ -139,4 +141,5 @@ DecidedGrows = (M more : List Message) → (rest : List ItemValue) × (decided (
 -- more is decided
 abbrev pub UndecidedMustWait : Type 0
 UndecidedMustWait = (M : List Message) (request : List ℕ) → open_request M ≡ Some request
-    → meaning (M ++ rejection_of request ∷ []) ≡ decided M ++ exchange request (Some (rejection_of request).1) ∷ map stray_of (held M)
+    → meaning (M ++ rejection_of request ∷ [])
+    ≡ decided M ++ exchange request (Some (rejection_of request).1) ∷ map stray_of (held M)

@@ -41,7 +41,8 @@ part request behind = record { request = request; behind = behind }
 -- the parts of a list's requests, in order
 abbrev pub parts : List Message → List Part
 parts [] = []
-parts (message ∷ later) = if is_tester_request message then part message.1 (before_requests later) ∷ parts later else parts later
+parts (message ∷ later) =
+    if is_tester_request message then part message.1 (before_requests later) ∷ parts later else parts later
 
 -- the answer to a request among the messages after it: the first that is final for it
 abbrev pub answer : List ℕ → List Message → Option (List ℕ)

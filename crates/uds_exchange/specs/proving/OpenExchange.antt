@@ -14,7 +14,8 @@ abbrev pub open_exchange_in : List ItemValue → Option (ℕ × List ℕ)
 open_exchange_in [] = None
 open_exchange_in (stray d bytes ∷ later) = one_later (open_exchange_in later)
 open_exchange_in (exchange request (Some reply) ∷ later) = one_later (open_exchange_in later)
-open_exchange_in (exchange request None ∷ later) = if has_exchange later then one_later (open_exchange_in later) else Some (0, request)
+open_exchange_in (exchange request None ∷ later) =
+    if has_exchange later then one_later (open_exchange_in later) else Some (0, request)
 
 -- the first byte of the request of the open exchange
 abbrev pub open_sid_in : List ItemValue → Option ℕ

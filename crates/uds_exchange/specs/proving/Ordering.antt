@@ -22,9 +22,12 @@ abbrev pub orderer_after_step : Step → JudgedOrdererValue → Message → Judg
 orderer_after_step became orderer message = record orderer { holds = held_after_step became orderer.holds message }
 
 -- what a fault leaves, at this step with a message; memory is refused only where the message would be held
-abbrev pub Stops : {Sink Fault : Type 0} → AfterOk Sink → AfterErr Sink Fault → Step → Message → JudgedOrdererValue → Sink → JudgedOrdererValue → Sink → OrderFault Fault → Type 0
+abbrev pub Stops : {Sink Fault : Type 0} → AfterOk Sink → AfterErr Sink Fault → Step → Message
+    → JudgedOrdererValue → Sink → JudgedOrdererValue → Sink → OrderFault Fault → Type 0
 Stops after_ok after_err became message old before new after fault.Memory =
     (old.has_failed ≡ false) × (new ≡ old) × (after ≡ before) × (became ≡ step.Hold)
 Stops after_ok after_err became message old before new after (fault.Sink why) =
-    (old.has_failed ≡ false) × (new.has_failed ≡ true) × Fails after_ok after_err before (due_for became old.holds message) why after
-Stops after_ok after_err became message old before new after fault.Failed = (old.has_failed ≡ true) × (new ≡ old) × (after ≡ before)
+    (old.has_failed ≡ false) × (new.has_failed ≡ true)
+    × Fails after_ok after_err before (due_for became old.holds message) why after
+Stops after_ok after_err became message old before new after fault.Failed =
+    (old.has_failed ≡ true) × (new ≡ old) × (after ≡ before)
