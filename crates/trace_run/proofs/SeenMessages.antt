@@ -6,10 +6,10 @@ use Rattle.isotp_receive.specs.declared.TheConstants.{MESSAGE_LIMIT}
 use Rattle.isotp_receive.specs.EventSeen.{seen_event}
 use Rattle.isotp_receive.specs.Trace.{Entry}
 use Rattle.isotp_receive.specs.Verdict.{EventValue, VerdictValue, message, began, stored, flowed, dropped, messages, told_message, verdict}
-use Rattle.uds_exchange.specs.Judging.{IsJudgmentOf, sent}
+use Rattle.uds_exchange.specs.Judging.{sent}
 use Rattle.uds_exchange.specs.declared.judge.Judged.{Judged}
 use Rattle.trace_log.proofs.Promises.{messages_more}
-use Rattle.trace_run.specs.Seen.{CompletesJudged, IsEventOf, IsSeen}
+use Rattle.trace_run.specs.Seen.{CompletesJudged, IsEventOf, IsJudgmentOf, IsSeen}
 use Rattle.trace_run.specs.declared.machine.Seen.{Seen}
 
 -- a frame told no other message than it completed

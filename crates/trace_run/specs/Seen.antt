@@ -1,12 +1,13 @@
 -- What a machine is handed of a frame: what it did after the frames before it, and what becomes of its message.
-use Rattle.std.specs.Prelude.{◌≡◌, ℕ, ◌^◌, ◌<◌, List, [], ◌∷◌, ◌++◌, length}
+use Rattle.std.specs.Prelude.{◌≡◌, ℕ, ◌^◌, ◌<◌, List, [], ◌∷◌, ◌++◌, length, Option, Some, None}
+use Rattle.direction.specs.Dir.{Message}
 use Rattle.direction.specs.declared.Dir.{Dir}
 use Rattle.isotp_receive.specs.declared.TheConstants.{MESSAGE_LIMIT}
 use Rattle.isotp_receive.specs.declared.event.Event.{Event}
 use Rattle.isotp_receive.specs.EventSeen.{seen_event}
 use Rattle.isotp_receive.specs.Trace.{Entry}
 use Rattle.isotp_receive.specs.Verdict.{message, messages, told_message, verdict}
-use Rattle.uds_exchange.specs.Judging.{IsJudgmentOf, number_after, sent, step_after}
+use Rattle.uds_exchange.specs.Judging.{IsJudgedAfter, number_after, sent, step_after}
 use Rattle.uds_exchange.specs.declared.judge.Judged.{Judged}
 use Rattle.trace_run.specs.Script.{GlimpseValue}
 use Rattle.trace_run.specs.declared.machine.Glimpse.{Glimpse}
@@ -19,6 +20,11 @@ pub record IsEventOf (T : List Entry) (e : Entry) (at_line at_micros : ℕ) (sen
   pub micros : e.micros ≡ at_micros
   pub dir : e.dir ≡ sender
   pub did : seen_event event ≡ verdict MESSAGE_LIMIT T e
+
+-- This was judged of what came behind the messages M: of the one message that did, or none where no message came.
+abbrev pub IsJudgmentOf : List Message → List Message → Option Judged → Type 0
+IsJudgmentOf M came None = came ≡ []
+IsJudgmentOf M came (Some judged) = (came ≡ sent judged ∷ []) × IsJudgedAfter M judged × (judged.item_number ≡ number_after M (sent judged))
 
 -- This is seen of the frame e after the frames T: what it did, and the message that it completed, if it completed one, as it is judged behind those before.
 pub record IsSeen (T : List Entry) (e : Entry) (seen : Seen) : Type 0 where
