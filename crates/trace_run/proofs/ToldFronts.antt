@@ -8,6 +8,7 @@ use Rattle.trace_io.specs.Written.{HasFront}
 use Rattle.trace_io.specs.declared.device.Target.{Ghosts}
 use Rattle.trace_log.specs.declared.fault.Fault.{Fault}
 use Rattle.trace_log.specs.declared.fault.Fault.TheVariants as fault
+use Rattle.trace_run.specs.declared.page.Page.{Page}
 use Rattle.trace_run.specs.proving.Carrying.{Carries}
 use Rattle.trace_run.specs.proving.Ending.{EndsAs}
 use Rattle.trace_log.specs.LinesRead.{counts_last, AreGiven, AreLinesRead, AreReadBefore, WritesTextOfRead}
@@ -138,7 +139,7 @@ IsReadOnly fault.Write answer = answer ≢ fault.Read
 -- ---- only more is written
 
 -- what was written before stays
-pub only_more : {W : Type 0} {target : Ghosts W} {start now : W} {said held : List ℕ} {failed : Bool} → Carries target start said failed held now
+pub only_more : {W : Type 0} {target : Ghosts W} {start now : W} {said : List ℕ} {page : Page} → Carries target start said page now
     → Begins (target.taken start) (target.taken now)
 only_more carries = (carries.took.bytes, carries.took.grown)
 

@@ -3,8 +3,8 @@ ghost use Rattle.std.specs.Prelude.{◌≡◌, ℕ, List, [], Err, Option, false
 ghost use Rattle.can_log.specs.declared.frame.Stamped.{Stamped as StampedValue};
 ghost use Rattle.isotp_receive.specs.Trace.{Entry};
 ghost use Rattle.trace_io.specs.Counted.{IsLowCount};
-ghost use Rattle.trace_run.specs.proving.Carrying.{CarriesPage};
-ghost use Rattle.trace_run.specs.proving.Ending.{Begins, SettlesPageAs, EndsTelling, GivesUp, RefusesTelling};
+ghost use Rattle.trace_run.specs.proving.Carrying.{Carries};
+ghost use Rattle.trace_run.specs.proving.Ending.{Begins, SettlesAs, EndsTelling, GivesUp, RefusesTelling};
 ghost use Rattle.trace_run.specs.proving.Telling.{HasTold};
 ghost use Rattle.trace_log.specs.proving.Receiving.{Receives};
 ghost use Rattle.trace_log.specs.Settings.{Settings};
@@ -100,7 +100,7 @@ fn end_untold<M: Machine + Drop, W: Target>(
     receiver: Receiver<M, W>,
     target: &mut W,
 ) -> Fault
-    ensures { SettlesPageAs fault W.Target receiver.telling.page target.old result target.new }
+    ensures { SettlesAs fault W.Target receiver.telling.page target.old result target.new }
 {
     let Receiver { telling, .. } = receiver;
     let Telling { mut page, .. } = telling;
@@ -131,7 +131,7 @@ fn refuse<M: Machine, W: Target>(
 
 /// Writes what was said before a fault, and answers that fault, or that of writing where this failed.
 fn settle_before<W: Target>(fault: Fault, target: &mut W, page: &mut Page) -> Fault
-    ensures { SettlesPageAs fault W.Target page.old target.old result target.new }
+    ensures { SettlesAs fault W.Target page.old target.old result target.new }
 {
     if page.settle(target) {
         fault
@@ -158,7 +158,7 @@ fn finish<M: Machine, W: Target>(
         (settings : Settings) (meanings : List (Option StampedValue))
         → Receives settings meanings receiver.pair receiver.lines receiver.counts
         → M.stands machine_start (trace settings meanings) receiver.telling.machine
-        → CarriesPage W.Target mid said receiver.telling.page target.old → Begins (W.taken mid) (W.taken target.new) }
+        → Carries W.Target mid said receiver.telling.page target.old → Begins (W.taken mid) (W.taken target.new) }
 {
     let summary = receiver.summary(ends_in_line_feed);
     let Receiver { pair, telling, .. } = receiver;

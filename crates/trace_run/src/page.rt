@@ -12,7 +12,7 @@ pub(crate) struct Page {
 
 impl Page {
     ghost use Rattle.std.specs.Prelude.{◌≡◌, ◌<◌, [], ◌++◌, length, true, false};
-    ghost use Rattle.trace_run.specs.proving.Carrying.{SaysToPage, SettlesPage, SaysNoMoreToPage};
+    ghost use Rattle.trace_run.specs.proving.Carrying.{Says, Settles, SaysNoMore};
 
     /// A page with nothing on it.
     pub(crate) fn new() -> Page
@@ -29,7 +29,7 @@ impl Page {
     /// to do stands apart.
     #[inline(always)]
     fn put<W: Target>(&mut self, target: &mut W, text: &[u8])
-        ensures { SaysToPage W.Target self.old target.old text.now self.new target.new }
+        ensures { Says W.Target self.old target.old text.now self.new target.new }
     {
         if !self.held.try_append(text) {
             self.put_where_full(target, text);
@@ -41,7 +41,7 @@ impl Page {
     #[inline(never)]
     fn put_where_full<W: Target>(&mut self, target: &mut W, text: &[u8])
         requires { 0 < length text.now }
-        ensures { SaysToPage W.Target self.old target.old text.now self.new target.new }
+        ensures { Says W.Target self.old target.old text.now self.new target.new }
     {
         // No run comes here with more failures: each begins at no more, and ends with its first.
         if self.failed || target.failures() > MOST_FAILURES {
@@ -55,7 +55,7 @@ impl Page {
     /// Puts a text on the page that no write is to end within.
     #[inline(always)]
     fn put_whole<W: Target>(&mut self, target: &mut W, text: &[u8])
-        ensures { SaysToPage W.Target self.old target.old text.now self.new target.new }
+        ensures { Says W.Target self.old target.old text.now self.new target.new }
     {
         if !self.held.try_append(text) {
             self.put_whole_where_full(target, text);
@@ -65,7 +65,7 @@ impl Page {
     /// Puts such a text on a page that has no room for it: what is on the page is written first.
     #[inline(never)]
     fn put_whole_where_full<W: Target>(&mut self, target: &mut W, text: &[u8])
-        ensures { SaysToPage W.Target self.old target.old text.now self.new target.new }
+        ensures { Says W.Target self.old target.old text.now self.new target.new }
     {
         // Where this fails, the page knows that, and writes no text.
         let _ = self.settle(target);
@@ -76,7 +76,7 @@ impl Page {
     /// stored in pieces and loaded at once, by a covering load.
     #[inline(always)]
     fn put_three<W: Target>(&mut self, target: &mut W, first: &[u8], second: &[u8], third: &[u8])
-        ensures { SaysToPage W.Target self.old target.old (first.now ++ second.now ++ third.now) self.new target.new }
+        ensures { Says W.Target self.old target.old (first.now ++ second.now ++ third.now) self.new target.new }
     {
         if !self.held.try_append_three(first, second, third) {
             self.put_three_where_full(target, first, second, third);
@@ -93,7 +93,7 @@ impl Page {
         second: &[u8],
         third: &[u8],
     )
-        ensures { SaysToPage W.Target self.old target.old (first.now ++ second.now ++ third.now) self.new target.new }
+        ensures { Says W.Target self.old target.old (first.now ++ second.now ++ third.now) self.new target.new }
     {
         // Where this fails, the page knows that, and writes no text.
         let _ = self.settle(target);
@@ -107,10 +107,10 @@ impl Page {
 
     /// Writes what is on the page. Answers whether all that was said is written.
     pub(crate) fn settle<W: Target>(&mut self, target: &mut W) -> bool
-        ensures settled { SettlesPage W.Target self.old target.old result target.new }
+        ensures settled { Settles W.Target self.old target.old result target.new }
         ensures well { result ≡ true → self.new.failed ≡ false }
         ensures blank { result ≡ true → self.new.held ≡ [] }
-        ensures no_more { SaysNoMoreToPage W.Target self.old target.old self.new target.new }
+        ensures no_more { SaysNoMore W.Target self.old target.old self.new target.new }
     {
         if self.failed || target.failures() > MOST_FAILURES {
             return false;
@@ -137,19 +137,18 @@ pub(crate) struct PageSink<'a, W> {
 impl<'a, W: Target> TextSink for PageSink<'a, W> {
     ghost use Rattle.std.specs.Prelude.{◌≡◌};
     ghost use Rattle.std.proofs.Common.{refl, ◌∙◌};
-    ghost use Rattle.trace_run.specs.proving.Carrying.{SaysToPage};
+    ghost use Rattle.trace_run.specs.proving.Carrying.{Says};
     ghost use Rattle.trace_run.specs.proving.PageSinks.{says_nothing, says_onward};
 
     ghost says = { λ s text t. (t.target.ghost_name ≡ s.target.ghost_name) × (t.page.ghost_name ≡ s.page.ghost_name)
-        × SaysToPage W.Target s.page.now s.target.now text t.page.now t.target.now };
+        × Says W.Target s.page.now s.target.now text t.page.now t.target.now };
 
-    ghost nothing = { λ s. (refl, refl, says_nothing W.Target s.page.now.failed s.page.now.held s.target.now) };
+    ghost nothing = { λ s. (refl, refl, says_nothing W.Target s.page.now s.target.now) };
 
     ghost onward = { λ s m t a b one two. (
       two.0 ∙ one.0,
       two.1 ∙ one.1,
-      says_onward W.Target s.page.now.failed m.page.now.failed t.page.now.failed s.page.now.held m.page.now.held
-          t.page.now.held s.target.now m.target.now t.target.now a b one.2 two.2,
+      says_onward W.Target s.page.now m.page.now t.page.now s.target.now m.target.now t.target.now a b one.2 two.2,
     ) };
 
     #[inline(always)]

@@ -1,6 +1,6 @@
 //! A text that is known as a whole, written by way of a page of its own.
 ghost use Rattle.trace_run.specs.Printed.{Prints};
-ghost use Rattle.trace_run.specs.proving.Carrying.{SaysToPage};
+ghost use Rattle.trace_run.specs.proving.Carrying.{Says};
 ghost use Rattle.trace_io.specs.Counted.{IsLowCount};
 
 use crate::page::{Page, PageSink};
@@ -24,7 +24,7 @@ pub fn print<P: Part, W: Target>(part: P, target: &mut W) -> Result<(), Fault>
 
 /// Says the text of a part to a page.
 fn put<P: Part, W: Target>(part: P, target: &mut W, page: &mut Page)
-    ensures { SaysToPage W.Target page.old target.old (P.text part) page.new target.new }
+    ensures { Says W.Target page.old target.old (P.text part) page.new target.new }
 {
     let mut out = PageSink { target, page };
     part.say(&mut out);

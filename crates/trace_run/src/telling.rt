@@ -10,7 +10,7 @@ ghost use Rattle.isotp_receive.specs.Trace.{Entry};
 ghost use Rattle.isotp_receive.specs.Verdict.{told_message};
 ghost use Rattle.uds_exchange.specs.Judging.{HasCounted, IsJudgeOf, IsJudgmentOf};
 ghost use Rattle.trace_run.specs.Seen.{IsSeen, glimpse_value};
-ghost use Rattle.trace_run.specs.proving.Carrying.{SaysToPage};
+ghost use Rattle.trace_run.specs.proving.Carrying.{Says};
 ghost use Rattle.trace_run.specs.proving.Telling.{oversize_for};
 
 use crate::machine::{Glimpse, Machine, NoAnswer, Seen};
@@ -175,9 +175,9 @@ fn tell<M: Machine, W: Target>(
     ensures ok { OnOk result ((machine_start : M) (T : List Entry) (e : Entry) → IsSeen T e seen.entry
         → M.stands machine_start T machine.old
         → M.stands machine_start (T ++ e ∷ []) machine.new
-        × SaysToPage W.Target page.old target.old ((M.script machine_start).word T e) page.new target.new) }
+        × Says W.Target page.old target.old ((M.script machine_start).word T e) page.new target.new) }
     ensures err { OnErr result ((machine_start : M) (T : List Entry) → M.stands machine_start T machine.old
-        → SaysToPage W.Target page.old target.old [] page.new target.new) }
+        → Says W.Target page.old target.old [] page.new target.new) }
     ensures needs { OnErr result ((machine_start : M) (T : List Entry) (e : Entry) → IsSeen T e seen.entry
         → M.stands machine_start T machine.old → M.needs machine_start T e) }
 {
@@ -195,7 +195,7 @@ pub(crate) fn tell_end<M: Machine, W: Target>(
 ) -> Result<M::Answer, NoAnswer>
     ensures says { (machine_start : M) (T : List Entry) → M.stands machine_start T machine
         → pair.now.receptions ≡ receptions_after MESSAGE_LIMIT T → KeepsWithin MESSAGE_LIMIT T pair.now
-        → SaysToPage W.Target page.old target.old ((M.script machine_start).last T summary.now) page.new target.new }
+        → Says W.Target page.old target.old ((M.script machine_start).last T summary.now) page.new target.new }
     ensures answered { (machine_start : M) (T : List Entry) → M.stands machine_start T machine
         → pair.now.receptions ≡ receptions_after MESSAGE_LIMIT T
         → M.answers machine_start T summary.now result }
@@ -214,7 +214,7 @@ pub(crate) fn tell_refusal<M: Machine, W: Target>(
     glimpse: Glimpse<'_>,
 )
     ensures says { (machine_start : M) (T : List Entry) → M.stands machine_start T machine
-        → SaysToPage W.Target page.old target.old
+        → Says W.Target page.old target.old
         (M.refusal machine_start (glimpse_value glimpse.entry) T summary.now why) page.new target.new }
 {
     let mut out = PageSink { target, page };

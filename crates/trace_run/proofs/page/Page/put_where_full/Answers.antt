@@ -12,8 +12,8 @@ returns-in-Err g c = λ start said carries.
     let page = c.args.self.now in
     let failed = c.in-Err.ensures in
     let some_text : 0 < length c.args.text.now = c.requires in
-    let so_far : Carries W start said false page.held c.args.target.now =
-    subst (λ b. Carries W start said b page.held c.args.target.now) c.if-self.false carries in
+    let so_far : Carries W start said (record page { failed = false }) c.args.target.now =
+    subst (λ b. Carries W start said (record page { failed = b }) c.args.target.now) c.if-self.false carries in
     record {
       low = so_far.low;
       held_some = λ some. omega (arith, some_text, length-append said c.args.text.now);
@@ -32,9 +32,9 @@ returns-in_default g c = λ start said carries.
     let page = c.args.self.now in
     let put = c.in_default.ensures in
     let some_text : 0 < length c.args.text.now = c.requires in
-    let so_far : Carries W start said false page.held c.args.target.now =
-    subst (λ b. Carries W start said b page.held c.args.target.now) c.if-self.false carries in
-    subst (λ b. Carries W start (said ++ c.args.text.now) b c.gather.new.held c.gather.new.target) (sym c.if-self.false) (record {
+    let so_far : Carries W start said (record page { failed = false }) c.args.target.now =
+    subst (λ b. Carries W start said (record page { failed = b }) c.args.target.now) c.if-self.false carries in
+    subst (λ b. Carries W start (said ++ c.args.text.now) (record { held = c.gather.new.held; failed = b }) c.gather.new.target) (sym c.if-self.false) (record {
       low = so_far.low;
       held_some = λ some. omega (arith, some_text, length-append said c.args.text.now);
       spoke = λ is. absurd (cc is);
@@ -52,9 +52,9 @@ returns-then-self g c = λ start said carries.
     let page = c.args.self.now in
     elim c.then-self.branch [
       | then-self-via-then-self w ↦
-          let so_far : Carries W start said true page.held c.args.target.now =
-          subst (λ b. Carries W start said b page.held c.args.target.now) w.if-self.true carries in
-          subst (λ b. Carries W start (said ++ c.args.text.now) b page.held c.args.target.now) (sym w.if-self.true) (record {
+          let so_far : Carries W start said (record page { failed = true }) c.args.target.now =
+          subst (λ b. Carries W start said (record page { failed = b }) c.args.target.now) w.if-self.true carries in
+          subst (λ b. Carries W start (said ++ c.args.text.now) (record page { failed = b }) c.args.target.now) (sym w.if-self.true) (record {
             low = so_far.low;
             held_some = λ some. omega (arith, so_far.held_some some, length-append said c.args.text.now);
             spoke = λ is. omega (arith, so_far.spoke refl, length-append said c.args.text.now);
@@ -66,7 +66,7 @@ returns-then-self g c = λ start said carries.
             written = front_longer (W.taken start) said c.args.text.now (W.taken c.args.target.now) so_far.written;
           })
       | then-self-via-else-self+then-failures-gt-MOST_FAILURES w ↦
-          let so_far : Carries W start said false page.held c.args.target.now =
-          subst (λ b. Carries W start said b page.held c.args.target.now) w.if-self.false carries in
+          let so_far : Carries W start said (record page { failed = false }) c.args.target.now =
+          subst (λ b. Carries W start said (record page { failed = b }) c.args.target.now) w.if-self.false carries in
           absurd (omega (arith, so_far.low, so_far.failures, w.failures.ensures, w.if-failures-gt-MOST_FAILURES.true))
     ]
