@@ -135,11 +135,11 @@ only_output_limit no_answer.OutputLimit = refl
 pub carried_at_the_end : {M W : Type 0} (stands : M → List Entry → M → Type 0) (scripts : M → Script) (target : Ghosts W) (target_start : W) (machine_start : M) (settings : Settings) (log : List ℕ)
     (meanings : List (Option Stamped)) (telling : Telling M W) (page_then : Page) (old mid new : W) (settled : Bool) (summary : Summary)
     → HasTold stands scripts target target_start machine_start (trace settings meanings) telling old → summary ≡ summary_of MESSAGE_LIMIT settings log meanings
-    → Says target telling.page old ((scripts machine_start).last (trace settings meanings) summary) page_then mid → Settles target page_then mid settled new
+    → Says target telling.page old ((scripts machine_start).at_the_end (trace settings meanings) summary) page_then mid → Settles target page_then mid settled new
     → Carries target target_start (whole_of_lines (scripts machine_start) MESSAGE_LIMIT settings log meanings) (blank_page (not settled)) new
 carried_at_the_end stands scripts target target_start machine_start settings log meanings telling page_then old mid new settled summary so_far is speaks settles =
     let T = trace settings meanings in
     let script = scripts machine_start in
-    subst (λ s. Carries target target_start (told script.word T ++ script.last T s) (blank_page (not settled)) new) is
-    (settles target_start (told script.word T ++ script.last T summary)
-    (speaks target_start (told script.word T) so_far.carried))
+    subst (λ s. Carries target target_start (told script.of_frame T ++ script.at_the_end T s) (blank_page (not settled)) new) is
+    (settles target_start (told script.of_frame T ++ script.at_the_end T summary)
+    (speaks target_start (told script.of_frame T) so_far.carried))

@@ -18,10 +18,10 @@ use Rattle.trace_log.specs.declared.summary.Summary.{Summary}
 use Rattle.trace_log.specs.Trace.{trace}
 use Rattle.trace_log.proofs.Promises.{lines_certify}
 
-module _ (word : List Entry → Entry → List ℕ) (last : List Entry → Summary → List ℕ) (refusal : RefusalText) where
+module _ (of_frame : List Entry → Entry → List ℕ) (at_the_end : List Entry → Summary → List ℕ) (refusal : RefusalText) where
   -- where a fault tells why the log can't be read, that is so
   pub unread_for : (limit : ℕ) (settings : Settings) (log : List ℕ) (given : ℕ) (fault : Fault) (old new : List ℕ)
-      → AnswersTold (lenient word last) refusal answers_counts limit settings log given (Err fault) old new → IsUnreadFor false limit settings log fault
+      → AnswersTold (lenient of_frame at_the_end) refusal answers_counts limit settings log given (Err fault) old new → IsUnreadFor false limit settings log fault
   unread_for limit settings log given (BadLine line column) old new (is, wrote) = is
   unread_for limit settings log given (Oversize line announced) old new (is, wrote) = is
   unread_for limit settings log given LogLimit old new (is, wrote) = is
@@ -32,7 +32,7 @@ module _ (word : List Entry → Entry → List ℕ) (last : List Entry → Summa
 
   -- its counts certify what those of the lines do
   pub certifies : (settings : Settings) (log : List ℕ) (given : ℕ) (result : Result Summary Fault) (old new : List ℕ)
-      → AnswersTold (lenient word last) refusal answers_counts MESSAGE_LIMIT settings log given result old new → IfOk result (Certifies MESSAGE_LIMIT settings log)
+      → AnswersTold (lenient of_frame at_the_end) refusal answers_counts MESSAGE_LIMIT settings log given result old new → IfOk result (Certifies MESSAGE_LIMIT settings log)
   certifies settings log given (Ok summary) old new (all, meanings, is, counted, wrote) =
       let same : summary_of MESSAGE_LIMIT settings log meanings ≡ summary = cc counted in
       subst (Certifies MESSAGE_LIMIT settings log) same (lines_certify MESSAGE_LIMIT settings log meanings (omega arith) is.1)

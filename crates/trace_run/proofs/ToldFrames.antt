@@ -20,15 +20,15 @@ use Rattle.trace_log.proofs.Promises.{each_more, messages_more}
 
 -- ---- what is told of one more frame
 
-pub told-append : (word : List Entry → Entry → List ℕ) (past xs ys : List Entry) → told_after word past (xs ++ ys) ≡ told_after word past xs ++ told_after word (past ++ xs) ys
-told-append word past [] ys = ap (λ l. told_after word l ys) (sym (append-nil past))
-told-append word past (e ∷ xs) ys =
-    ap (λ l. word past e ++ l) (told-append word (past ++ e ∷ []) xs ys
-    ∙ ap (λ l. told_after word (past ++ e ∷ []) xs ++ told_after word l ys) (append_assoc past (e ∷ []) xs))
-    ∙ sym (append_assoc (word past e) (told_after word (past ++ e ∷ []) xs) (told_after word (past ++ (e ∷ xs)) ys))
+pub told-append : (of_frame : List Entry → Entry → List ℕ) (past xs ys : List Entry) → told_after of_frame past (xs ++ ys) ≡ told_after of_frame past xs ++ told_after of_frame (past ++ xs) ys
+told-append of_frame past [] ys = ap (λ l. told_after of_frame l ys) (sym (append-nil past))
+told-append of_frame past (e ∷ xs) ys =
+    ap (λ l. of_frame past e ++ l) (told-append of_frame (past ++ e ∷ []) xs ys
+    ∙ ap (λ l. told_after of_frame (past ++ e ∷ []) xs ++ told_after of_frame l ys) (append_assoc past (e ∷ []) xs))
+    ∙ sym (append_assoc (of_frame past e) (told_after of_frame (past ++ e ∷ []) xs) (told_after of_frame (past ++ (e ∷ xs)) ys))
 
-pub one_more_told : (word : List Entry → Entry → List ℕ) (T : List Entry) (e : Entry) → told word (T ++ e ∷ []) ≡ told word T ++ word T e
-one_more_told word T e = told-append word [] T (e ∷ []) ∙ ap (λ l. told word T ++ l) (append-nil (word T e))
+pub one_more_told : (of_frame : List Entry → Entry → List ℕ) (T : List Entry) (e : Entry) → told of_frame (T ++ e ∷ []) ≡ told of_frame T ++ of_frame T e
+one_more_told of_frame T e = told-append of_frame [] T (e ∷ []) ∙ ap (λ l. told of_frame T ++ l) (append-nil (of_frame T e))
 
 -- what one more frame's message counts
 pub counts_next : (T : List Entry) (e : Entry) (line : ℕ) (d : Dir) (event : EventValue) (judge : Judge) → e.dir ≡ d → event ≡ verdict MESSAGE_LIMIT T e
@@ -46,15 +46,15 @@ module _ {M W : Type 0} (stands : M → List Entry → M → Type 0) (scripts : 
     pub tells_next : (line : ℕ) (d : Dir) (event : EventValue) → e.dir ≡ d → event ≡ verdict MESSAGE_LIMIT T e → (telling telling_now : Telling M W) (old new : W)
         → HasTold stands scripts target target_start machine_start T telling old → IsJudgeOf (messages MESSAGE_LIMIT T ++ told_message d event.verdict) telling_now.judge
         → stands machine_start (T ++ e ∷ []) telling_now.machine → ((scripts machine_start).strict ≡ true → AnnouncesWithin e)
-        → Says target telling.page old ((scripts machine_start).word T e) telling_now.page new
+        → Says target telling.page old ((scripts machine_start).of_frame T e) telling_now.page new
         → HasTold stands scripts target target_start machine_start (T ++ e ∷ []) telling_now new
     tells_next line d event dir_is is telling telling_now old new so_far counts machine_stands one speaks = record {
       judged = counts_next T e line d event telling_now.judge dir_is is counts;
       machine_stands = machine_stands;
       within = λ strict. each_more T e (so_far.within strict) (one strict);
       carried =
-          subst (λ text. Carries target target_start text telling_now.page new) (sym (one_more_told ((scripts machine_start).word) T e))
-          (speaks target_start (told ((scripts machine_start).word) T) so_far.carried);
+          subst (λ text. Carries target target_start text telling_now.page new) (sym (one_more_told ((scripts machine_start).of_frame) T e))
+          (speaks target_start (told ((scripts machine_start).of_frame) T) so_far.carried);
     }
 
     -- nothing of it was said, and the run stopped
@@ -65,8 +65,8 @@ module _ {M W : Type 0} (stands : M → List Entry → M → Type 0) (scripts : 
       within = so_far.within;
       reason = (one, inr needed);
       carried =
-          subst (λ text. Carries target target_start text telling_now.page new) (append-nil (told ((scripts machine_start).word) T))
-          (speaks target_start (told ((scripts machine_start).word) T) so_far.carried);
+          subst (λ text. Carries target target_start text telling_now.page new) (append-nil (told ((scripts machine_start).of_frame) T))
+          (speaks target_start (told ((scripts machine_start).of_frame) T) so_far.carried);
     }
 
   -- what was due was written, or that failed
@@ -76,7 +76,7 @@ module _ {M W : Type 0} (stands : M → List Entry → M → Type 0) (scripts : 
     judged = so_far.judged;
     machine_stands = so_far.machine_stands;
     within = so_far.within;
-    carried = settles target_start (told ((scripts machine_start).word) T) so_far.carried;
+    carried = settles target_start (told ((scripts machine_start).of_frame) T) so_far.carried;
   }
 
   -- so it is of a telling with any such page

@@ -32,13 +32,13 @@ unfolding trace_from
 told_grows script settings meanings more =
     let T = trace settings meanings in
     let rest = trace_from settings (1 + length meanings) more in
-    (told_after script.word T rest, ap (told script.word) (trace_from-append settings 1 meanings more) ∙ told-append script.word [] T rest)
+    (told_after script.of_frame T rest, ap (told script.of_frame) (trace_from-append settings 1 meanings more) ∙ told-append script.of_frame [] T rest)
 
 -- a front of what is told of frames is one of all that is told
 pub front_of_whole : (script : Script) (limit : ℕ) (settings : Settings) (log : List ℕ) (given : ℕ) (why : Fault) (old new : List ℕ)
     → WritesFrontOfTold script limit settings log given why old new → WritesFrontOfWhole script limit settings log given why old new
 front_of_whole script limit settings log given why old new wrote =
-    let end = script.last (trace settings wrote.meanings) (summary_of limit settings log wrote.meanings) in
+    let end = script.at_the_end (trace settings wrote.meanings) (summary_of limit settings log wrote.meanings) in
     record {
       meanings = wrote.meanings;
       read = wrote.read;

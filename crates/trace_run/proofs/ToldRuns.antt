@@ -108,7 +108,7 @@ module _ {M W : Type 0} (stands : M → List Entry → M → Type 0) (scripts : 
         let of_settings : trace start.0.config before.meanings ≡ trace settings before.meanings = ap (λ s. trace s before.meanings) begun.config in
         tells_eagerly (scripts start.0.telling.machine) settings log given before.front before.rest before.meanings before.standing (target.taken start.1) (target.taken wrote.mid) (target.taken new)
         before.stands before.parts before.near (subst (λ T. (scripts start.0.telling.machine).strict ≡ true → AllByRecursion AnnouncesWithin T) of_settings wrote.within)
-        (wrote.wrote ∙ ap (λ T. target.taken start.1 ++ told ((scripts start.0.telling.machine).word) T) of_settings) (more wrote.mid wrote.said wrote.carried)
+        (wrote.wrote ∙ ap (λ T. target.taken start.1 ++ told ((scripts start.0.telling.machine).of_frame) T) of_settings) (more wrote.mid wrote.said wrote.carried)
 
     settled : (failed : Bool) (meanings : List (Option Stamped)) → TookLines (SettledEvents failed) start meanings now
         → HasToldAndWritten stands scripts target start.1 start.0.telling.machine (trace settings meanings) now.0.telling failed now.1
@@ -229,8 +229,8 @@ module _ {M W : Type 0} (stands : M → List Entry → M → Type 0) (scripts : 
           longer meanings what line =
               let halted = halts meanings what fault.Memory line in
               let e = entry_in meanings halted.0 halted.1 in (
-                script.word (trace settings meanings) e,
-                ap (told script.word) (trace_next settings meanings what halted.0 halted.1 halted.2 halted.3) ∙ one_more_told script.word (trace settings meanings) e,
+                script.of_frame (trace settings meanings) e,
+                ap (told script.of_frame) (trace_next settings meanings what halted.0 halted.1 halted.2 halted.3) ∙ one_more_told script.of_frame (trace settings meanings) e,
               )
 
           came : (meanings : List (Option Stamped)) (what : Option Stamped) (line : StoppedOnLine StoppedTelling start meanings what fault.Memory now)

@@ -104,7 +104,7 @@ pub trait Machine {
     fn event<S: TextSink>(&mut self, seen: Seen<'_>, out: &mut S) -> Result<(), AllocError>
         ensures ok { OnOk result ((machine_start : Self) (T : List Entry) (e : Entry) → IsSeen T e seen.entry
             → stands machine_start T self.old
-            → stands machine_start (T ++ e ∷ []) self.new × S.says out.old ((script machine_start).word T e) out.new) }
+            → stands machine_start (T ++ e ∷ []) self.new × S.says out.old ((script machine_start).of_frame T e) out.new) }
         ensures err { OnErr result ((machine_start : Self) (T : List Entry) → stands machine_start T self.old
             → S.says out.old [] out.new) }
         ensures needs { OnErr result ((machine_start : Self) (T : List Entry) (e : Entry) → IsSeen T e seen.entry
@@ -119,7 +119,7 @@ pub trait Machine {
     ) -> Result<Self::Answer, NoAnswer>
         ensures says { (machine_start : Self) (T : List Entry) → stands machine_start T self
             → pair.now.receptions ≡ receptions_after MESSAGE_LIMIT T → KeepsWithin MESSAGE_LIMIT T pair.now
-            → S.says out.old ((script machine_start).last T summary.now) out.new }
+            → S.says out.old ((script machine_start).at_the_end T summary.now) out.new }
         ensures answered { (machine_start : Self) (T : List Entry) → stands machine_start T self
             → pair.now.receptions ≡ receptions_after MESSAGE_LIMIT T
             → answers machine_start T summary.now result };

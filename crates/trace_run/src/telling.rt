@@ -175,7 +175,7 @@ fn tell<M: Machine, W: Target>(
     ensures ok { OnOk result ((machine_start : M) (T : List Entry) (e : Entry) → IsSeen T e seen.entry
         → M.stands machine_start T machine.old
         → M.stands machine_start (T ++ e ∷ []) machine.new
-        × Says W.Target page.old target.old ((M.script machine_start).word T e) page.new target.new) }
+        × Says W.Target page.old target.old ((M.script machine_start).of_frame T e) page.new target.new) }
     ensures err { OnErr result ((machine_start : M) (T : List Entry) → M.stands machine_start T machine.old
         → Says W.Target page.old target.old [] page.new target.new) }
     ensures needs { OnErr result ((machine_start : M) (T : List Entry) (e : Entry) → IsSeen T e seen.entry
@@ -195,7 +195,7 @@ pub(crate) fn tell_end<M: Machine, W: Target>(
 ) -> Result<M::Answer, NoAnswer>
     ensures says { (machine_start : M) (T : List Entry) → M.stands machine_start T machine
         → pair.now.receptions ≡ receptions_after MESSAGE_LIMIT T → KeepsWithin MESSAGE_LIMIT T pair.now
-        → Says W.Target page.old target.old ((M.script machine_start).last T summary.now) page.new target.new }
+        → Says W.Target page.old target.old ((M.script machine_start).at_the_end T summary.now) page.new target.new }
     ensures answered { (machine_start : M) (T : List Entry) → M.stands machine_start T machine
         → pair.now.receptions ≡ receptions_after MESSAGE_LIMIT T
         → M.answers machine_start T summary.now result }

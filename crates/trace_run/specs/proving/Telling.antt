@@ -50,7 +50,7 @@ pub record HasTold {M W : Type 0} (stands : M → List Entry → M → Type 0) (
   pub judged : IsJudgeOf (messages MESSAGE_LIMIT T) telling.judge
   pub machine_stands : stands machine_start T telling.machine
   pub within : (scripts machine_start).strict ≡ true → AllByRecursion AnnouncesWithin T
-  pub carried : Carries target target_start (told ((scripts machine_start).word) T) telling.page now
+  pub carried : Carries target target_start (told ((scripts machine_start).of_frame) T) telling.page now
 
 -- the frames of the trace were told, and all that was told of them is written, or writing failed
 abbrev pub HasToldAndWritten : {M W : Type 0} → (M → List Entry → M → Type 0) → (M → Script) → Ghosts W → W → M → List Entry → Telling M W → Bool → W → Type 0
@@ -63,7 +63,7 @@ pub record HasWrittenAtLeast {M W : Type 0} (scripts : M → Script) (target : G
   pub within : (scripts machine_start).strict ≡ true → AllByRecursion AnnouncesWithin T
   pub mid : W
   pub said : List ℕ
-  pub wrote : target.taken mid ≡ target.taken target_start ++ told ((scripts machine_start).word) T
+  pub wrote : target.taken mid ≡ target.taken target_start ++ told ((scripts machine_start).of_frame) T
   pub carried : Carries target mid said telling.page now
 
 -- The frames of the trace were told, and the run stopped at the frame e, of which nothing was said.
@@ -71,7 +71,7 @@ pub record HasStopped {M W : Type 0} (scripts : M → Script) (needs : M → Lis
     (T : List Entry) (e : Entry) (why : Fault) (telling : Telling M W) (now : W) : Type 0 where
   pub within : (scripts machine_start).strict ≡ true → AllByRecursion AnnouncesWithin T
   pub reason : StopsFor (scripts machine_start).strict (needs machine_start) T e why
-  pub carried : Carries target target_start (told ((scripts machine_start).word) T) telling.page now
+  pub carried : Carries target target_start (told ((scripts machine_start).of_frame) T) telling.page now
 
 -- this is what the frame e did after the frames T: `IsEventOf` of an event with its line, time and direction beside it
 abbrev pub IsFrameEvent : List Entry → Entry → FrameEvent → Type 0

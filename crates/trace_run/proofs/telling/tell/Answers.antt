@@ -9,7 +9,7 @@ returns-clause-ok g c = on_ok_weaker c.event.result (λ says start T e seen stan
     let W = g.W.Target in
     let page = c.args.page.now in
     let said = says start T e seen stands in
-    let text = ((g.M.Machine.script start).word T e) in
+    let text = ((g.M.Machine.script start).of_frame T e) in
     let target_is = c.target-1.given.1 (sym said.1.0) in
     let page_is = c.page-1.given.1 (sym said.1.1) in (
       said.0,

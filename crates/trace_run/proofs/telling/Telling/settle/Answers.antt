@@ -30,7 +30,7 @@ pub returns-clause-sure : goal.returns-clause-sure
 returns-clause-sure g c = λ is start first T tells.
     let M = g.M.Machine in
     let W = g.W.Target in
-    let text = told ((M.script first).word) T in
+    let text = told ((M.script first).of_frame) T in
     let written : Carries W start text (blank_page false) c.settle.new.target =
     subst (λ b. Carries W start text (blank_page (not b)) c.settle.new.target) is (c.settle.ensures.settled start text tells.carried) in
     record {

@@ -1,4 +1,4 @@
--- The message is judged; then the run stops for its length, or the machine says its word, or is refused memory.
+-- The message is judged; then the run stops for its length, or the machine says its text, or is refused memory.
 use Rattle.std.proofs.Common.{◌<◌, ◌^◌, length, ◌++◌, [], ◌≡◌, arith, sym, subst, ◌∙◌, None, Some}
 use Rattle.isotp_receive.specs.declared.TheConstants.{MESSAGE_LIMIT}
 use Rattle.isotp_receive.specs.EventSeen.{seen_event}
@@ -40,7 +40,7 @@ returns-in-Ok-clause-told g c = λ T e seen.
       err = tt;
       kept = λ start first earlier tells sure.
           let said = c.in-Ok.ensures.ok first T e (record { event = seen; message = c.judged_message-message.ensures.judged (messages MESSAGE_LIMIT T) few tells.judged.counted }) tells.machine_stands in
-          record { within = sure.within; mid = sure.mid; said = sure.said ++ (M.script first).word T e; wrote = sure.wrote; carried = said.1 sure.mid sure.said sure.carried };
+          record { within = sure.within; mid = sure.mid; said = sure.said ++ (M.script first).of_frame T e; wrote = sure.wrote; carried = said.1 sure.mid sure.said sure.carried };
     }
 
 pub returns-in-Err-clause-told : goal.returns-in-Err-clause-told
