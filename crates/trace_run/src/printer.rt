@@ -14,7 +14,7 @@ pub fn print<P: Part, W: Target>(part: P, target: &mut W) -> Result<(), Fault>
     ensures { Prints W.Target (P.text part) target.old result target.new }
 {
     let mut page = Page::new();
-    put(part, target, &mut page);
+    say_part(part, target, &mut page);
     if page.settle(target) {
         Ok(())
     } else {
@@ -23,7 +23,7 @@ pub fn print<P: Part, W: Target>(part: P, target: &mut W) -> Result<(), Fault>
 }
 
 /// Says the text of a part to a page.
-fn put<P: Part, W: Target>(part: P, target: &mut W, page: &mut Page)
+fn say_part<P: Part, W: Target>(part: P, target: &mut W, page: &mut Page)
     ensures { Says W.Target page.old target.old (P.text part) page.new target.new }
 {
     let mut out = PageSink { target, page };
