@@ -67,3 +67,36 @@ module _ {W : Type 0} (target : Ghosts W) where
         took = so_far.took;
         written = carried_more page.failed (target.taken start) said text page.held (target.taken now) so_far.written;
       })
+
+  -- a text more was said, and nothing of it is held, where writing had failed
+  pub said_in_vain : (start now : W) (said text : List ℕ) (page : Page) → page.failed ≡ true → Carries target start said page now
+      → Carries target start (said ++ text) page now
+  said_in_vain start now said text page wrong carries =
+      let so_far : Carries target start said (record page { failed = true }) now = subst (λ b. Carries target start said (record page { failed = b }) now) wrong carries in
+      subst (λ b. Carries target start (said ++ text) (record page { failed = b }) now) (sym wrong) (record {
+        low = so_far.low;
+        held_some = λ some. omega (arith, so_far.held_some some, length-append said text);
+        spoke = λ is. omega (arith, so_far.spoke refl, length-append said text);
+        still = λ none. so_far.still (omega (arith, none, length-append said text));
+        failures = so_far.failures;
+        no_empty_write = so_far.no_empty_write;
+        flushes = so_far.flushes;
+        took = so_far.took;
+        written = front_longer (target.taken start) said text (target.taken now) so_far.written;
+      })
+
+  -- what is held is let go, where writing had failed
+  pub let_go : (start now : W) (said : List ℕ) (page : Page) → page.failed ≡ true → Carries target start said page now → Carries target start said (blank_page true) now
+  let_go start now said page wrong carries =
+      let so_far : Carries target start said (record page { failed = true }) now = subst (λ b. Carries target start said (record page { failed = b }) now) wrong carries in
+      record {
+        low = so_far.low;
+        held_some = λ some. absurd (omega arith);
+        spoke = so_far.spoke;
+        still = so_far.still;
+        failures = so_far.failures;
+        no_empty_write = so_far.no_empty_write;
+        flushes = so_far.flushes;
+        took = so_far.took;
+        written = so_far.written;
+      }

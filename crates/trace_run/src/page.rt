@@ -11,8 +11,8 @@ pub(crate) struct Page {
 }
 
 impl Page {
-    ghost use Rattle.std.specs.Prelude.{◌≡◌, ◌<◌, [], ◌++◌, length, true, false};
-    ghost use Rattle.trace_run.specs.proving.Carrying.{Says, Settles, SaysNoMore};
+    ghost use Rattle.std.specs.Prelude.{◌≡◌, ◌<◌, ◌≤◌, ◌^◌, ℕ, List, [], ◌++◌, length, true, false};
+    ghost use Rattle.trace_run.specs.proving.Carrying.{Carries, Says, Settles, SaysNoMore};
 
     /// A page with nothing on it.
     pub(crate) fn new() -> Page
@@ -43,8 +43,7 @@ impl Page {
         requires { 0 < length text.now }
         ensures { Says W.Target self.old target.old text.now self.new target.new }
     {
-        // No run comes here with more failures: each begins at no more, and ends with its first.
-        if self.failed || target.failures() > MOST_FAILURES {
+        if !self.may_write(target) {
             return;
         }
         if let Err(_fault) = gather(target, &mut self.held, text) {
@@ -112,7 +111,7 @@ impl Page {
         ensures blank { result ≡ true → self.new.held ≡ [] }
         ensures no_more { SaysNoMore W.Target self.old target.old self.new target.new }
     {
-        if self.failed || target.failures() > MOST_FAILURES {
+        if !self.may_write(target) {
             return false;
         }
         if self.held.is_empty() {
@@ -124,6 +123,18 @@ impl Page {
         }
         self.held.clear();
         true
+    }
+
+    /// Whether text may be written: no write has failed. The target has counted few failures then: no run comes here with
+    /// more of them, since each begins at no more and ends with its first.
+    #[inline(always)]
+    fn may_write<W: Target>(&self, target: &W) -> bool
+        ensures well { result ≡ true → self.now.failed ≡ false }
+        ensures low { result ≡ true → W.failures target.now ≤ 2 ^ 62 }
+        ensures wrong { result ≡ false → (start : W) (said : List ℕ)
+            → Carries W.Target start said self.now target.now → self.now.failed ≡ true }
+    {
+        !self.failed && target.failures() <= MOST_FAILURES
     }
 }
 
