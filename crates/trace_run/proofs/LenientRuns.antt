@@ -42,6 +42,7 @@ module _ (of_frame : List Entry → Entry → List ℕ) (at_the_end : List Entry
 -- too long
 module _ {A : Type 0} (script : Script) (refusal : RefusalText) (answers : Answering A) (is_lenient : script.strict ≡ false)
     (has_answer : (T : List Entry) (summary : Summary) → answers T summary (Err no_answer.OutputLimit) → ⊥) where
+  -- where a fault tells why the log can't be read, that is so
   unread : (settings : Settings) (log : List ℕ) (given : ℕ) (fault : Fault) (old new : List ℕ)
       → AnswersTold script refusal answers MESSAGE_LIMIT settings log given (Err fault) old new → IsUnreadFor false MESSAGE_LIMIT settings log fault
   unread settings log given (BadLine line column) old new (is, wrote) = subst (λ strict. IsUnreadFor strict MESSAGE_LIMIT settings log (BadLine line column)) is_lenient is
@@ -52,12 +53,14 @@ module _ {A : Type 0} (script : Script) (refusal : RefusalText) (answers : Answe
   unread settings log given Write old new is = tt
   unread settings log given Memory old new is = tt
 
+  -- no announced length is the fault
   pub no_oversize : (settings : Settings) (log : List ℕ) (given : ℕ) (result : Result A Fault) (old new : List ℕ)
       → AnswersTold script refusal answers MESSAGE_LIMIT settings log given result old new → IfErr result (λ why. (line announced : ℕ) → why ≢ Oversize line announced)
   no_oversize settings log given (Ok value) old new told = tt
   no_oversize settings log given (Err why) old new told = λ line announced is.
       subst (IsUnreadFor false MESSAGE_LIMIT settings log) is (unread settings log given why old new told)
 
+  -- nor is it the length of the output
   pub no_output_limit : (settings : Settings) (log : List ℕ) (given : ℕ) (result : Result A Fault) (old new : List ℕ)
       → AnswersTold script refusal answers MESSAGE_LIMIT settings log given result old new → IfErr result (λ why. why ≢ OutputLimit)
   no_output_limit settings log given (Ok value) old new told = tt

@@ -20,6 +20,7 @@ use Rattle.trace_log.proofs.Promises.{each_more, messages_more}
 
 -- ---- what is told of one more frame
 
+-- of some frames and of more behind them
 pub told-append : (of_frame : List Entry → Entry → List ℕ) (past xs ys : List Entry) → told_after of_frame past (xs ++ ys) ≡ told_after of_frame past xs ++ told_after of_frame (past ++ xs) ys
 told-append of_frame past [] ys = ap (λ l. told_after of_frame l ys) (sym (append-nil past))
 told-append of_frame past (e ∷ xs) ys =
@@ -27,6 +28,7 @@ told-append of_frame past (e ∷ xs) ys =
     ∙ ap (λ l. told_after of_frame (past ++ e ∷ []) xs ++ told_after of_frame l ys) (append_assoc past (e ∷ []) xs))
     ∙ sym (append_assoc (of_frame past e) (told_after of_frame (past ++ e ∷ []) xs) (told_after of_frame (past ++ (e ∷ xs)) ys))
 
+-- and of one more
 pub one_more_told : (of_frame : List Entry → Entry → List ℕ) (T : List Entry) (e : Entry) → told of_frame (T ++ e ∷ []) ≡ told of_frame T ++ of_frame T e
 one_more_told of_frame T e = told-append of_frame [] T (e ∷ []) ∙ ap (λ l. told of_frame T ++ l) (append-nil (of_frame T e))
 

@@ -47,6 +47,7 @@ module _ {M W : Type 0} (stands : M → List Entry → M → Type 0) (scripts : 
   abbrev pub StoppedTelling : StoppedOnEvent M W
   StoppedTelling s T e why t = HasToldNothing stands s.0 → target.failures s.1 ≤ 2 ^ 62 → HasStopped scripts needs target s.1 s.0.machine T e why t.0 t.1
 
+  -- of no frame nothing is told
   told_nothing : (start : Telling M W × W) → ToldEvents start [] start
   told_nothing start fresh low = record {
     judged = fresh.judged;
@@ -89,12 +90,14 @@ module _ {M W : Type 0} (stands : M → List Entry → M → Type 0) (scripts : 
   Fed start m log given result now =
       FeedsLog (TookLines ToldEvents) (TookLines (SettledEvents false)) (TookLines (SettledEvents true)) (StoppedOnLine StoppedTelling) start m log given result now
 
+  -- what feeding left, whatever the log
   abbrev pub FedSome : Receiver M W × W → {A : Type 0} → Result A (Fault) → Receiver M W × W → Type 0
   FedSome start {A = A} result now =
       FeedsSome (TookLines ToldEvents) (TookLines (SettledEvents false)) (TookLines (SettledEvents true)) (StoppedOnLine StoppedTelling) start {A = A} result now
 
   -- from such a start on
   module _ (settings : Settings) (start now : Receiver M W × W) (begun : IsRunStart (HasToldNothing stands) settings start) (low : target.failures start.1 ≤ 2 ^ 62) where
+    -- the frames of the lines were told
     pub gives : (meanings : List (Option Stamped)) → TookLines ToldEvents start meanings now
         → HasTold stands scripts target start.1 start.0.telling.machine (trace settings meanings) now.0.telling now.1
     gives meanings lines = has_taken ToldEvents settings start now begun meanings lines begun.fresh low
@@ -110,10 +113,12 @@ module _ {M W : Type 0} (stands : M → List Entry → M → Type 0) (scripts : 
         before.stands before.parts before.near (subst (λ T. (scripts start.0.telling.machine).strict ≡ true → AllByRecursion AnnouncesWithin T) of_settings wrote.within)
         (wrote.wrote ∙ ap (λ T. target.taken start.1 ++ told ((scripts start.0.telling.machine).of_frame) T) of_settings) (more wrote.mid wrote.said wrote.carried)
 
+    -- and what was told of them is written, or writing failed
     settled : (failed : Bool) (meanings : List (Option Stamped)) → TookLines (SettledEvents failed) start meanings now
         → HasToldAndWritten stands scripts target start.1 start.0.telling.machine (trace settings meanings) now.0.telling failed now.1
     settled failed meanings lines = has_taken (SettledEvents failed) settings start now begun meanings lines begun.fresh low
 
+    -- the run stopped on a line, and at its frame
     halts : (meanings : List (Option Stamped)) (what : Option Stamped) (why : Fault) → StoppedOnLine StoppedTelling start meanings what why now
         → StopsOn settings (λ T e why. HasStopped scripts needs target start.1 start.0.telling.machine T e why now.0.telling now.1) meanings what why
     halts meanings what why line =
@@ -129,6 +134,7 @@ module _ {M W : Type 0} (stands : M → List Entry → M → Type 0) (scripts : 
           let told_so = gives meanings taken in
           up start.0.telling.machine settings meanings (has_received ToldEvents settings start now begun meanings taken) told_so.judged told_so.machine_stands
 
+      -- and so what is told of all lines and of the refusal was said, and is written, or writing failed
       refuses_all : (why answer : Fault) (meanings : List (Option Stamped)) → TookLines ToldEvents start meanings now → RefusesTelling stands refusals target why now.0 now.1 answer new
           → EndsAs why target start.1 (told_and_refusal_of_lines (scripts start.0.telling.machine) (refusals start.0.telling.machine) MESSAGE_LIMIT settings why meanings) answer new
       refuses_all why answer meanings taken up =

@@ -1,5 +1,5 @@
--- A command, as a run knows it: what it tells of each frame of a log as it comes, at the end and of a refusal, what it may
--- answer, and what memory it needs. Of lines that were read
+-- A command, as a run knows it: what it tells of each frame of a log as it comes, at the end and of a refusal, what it
+-- may answer, and what memory it needs. Of lines that were read
 --   `told_of_lines` is what is told of their frames,
 --   `whole_of_lines` that, and what is told at the end,
 --   `refusal_of_lines` what is told where behind them something refuses the log,
@@ -31,8 +31,8 @@ pub record TellsNothing (script : Script) : Type 0 where
   pub of_frame : (T : List Entry) (e : Entry) → script.of_frame T e ≡ []
   pub at_the_end : (T : List Entry) (summary : Summary) → script.at_the_end T summary ≡ []
 
--- what a command tells where a line or the limit refuses the log: by the frames and the counts of the lines before, and by
--- the reason
+-- what a command tells where a line or the limit refuses the log: by the frames and the counts of the lines before, and
+-- by the reason
 abbrev pub RefusalText : Type 0
 RefusalText = List Entry → Summary → Fault → List ℕ
 

@@ -52,7 +52,7 @@ pub fn run<M: Machine + Drop, R: Source, W: Target>(
     }
 }
 
-/// [`run`], of a machine that no announced length stops, and that has an answer at the end of each log: so much more is known.
+/// [`run`], of a machine that no announced length stops, and that has an answer at the end of each log: so more is known.
 pub fn run_lenient<M: Machine + Drop, R: Source, W: Target>(
     alloc: Global,
     config: &Config,
@@ -73,8 +73,9 @@ pub fn run_lenient<M: Machine + Drop, R: Source, W: Target>(
     run(alloc, config, machine, source, target)
 }
 
-/// Ends a run on a fault, and answers the fault to report, this one or that of writing: the machine is told of a line or a limit that refuses the log,
-/// and what was said is written. A fault of a device stands as it is, and nothing is written.
+/// Ends a run on a fault, and answers the fault to report, this one or that of writing: the machine is told of a line or
+/// a limit that refuses the log, and what was said is written. A fault of a device stands as it is, and nothing is
+/// written.
 fn give_up<M: Machine + Drop, W: Target>(
     fault: Fault,
     glimpse: Glimpse<'_>,
@@ -107,7 +108,8 @@ fn end_untold<M: Machine + Drop, W: Target>(
     settle_before(fault, target, &mut page)
 }
 
-/// Writes what is said of a refusal, after the lines that were received, and answers why it is refused, or the fault of writing.
+/// Writes what is said of a refusal, behind what was said of the lines before, and answers why the log is refused, or the
+/// fault of writing.
 fn refuse<M: Machine, W: Target>(
     why: Fault,
     glimpse: Glimpse<'_>,

@@ -17,65 +17,8 @@ use trace_io::{Source, TextSink};
 use trace_log::{Fault, Summary};
 use uds_exchange::Judged;
 
-/// Why a machine has no answer at the end of a log.
-#[derive(Clone, Copy, Debug)]
-pub enum NoAnswer {
-    /// What it would tell is longer than the limit.
-    OutputLimit,
-}
-
-impl From<NoAnswer> for Fault {
-    ghost from_gives = { λ _ fault. fault ≡ OutputLimit };
-
-    fn from(reason: NoAnswer) -> Fault {
-        match reason {
-            NoAnswer::OutputLimit => Fault::OutputLimit,
-        }
-    }
-}
-
-/// What is seen of a frame: what it did, and the message that it completed.
-#[derive(Clone, Copy, Debug)]
-pub struct Seen<'a> {
-    /// Its line, from 1 on.
-    pub line: u64,
-    /// Its time in microseconds.
-    pub micros: u64,
-    /// Its direction: which side sent it.
-    pub dir: Dir,
-    /// What it did to the receptions.
-    pub event: Event<'a>,
-    /// The message that it completed, if it completed one, with what becomes of it.
-    pub message: Option<Judged<'a>>,
-}
-
-/// What is seen of the source where a log is refused.
-#[derive(Clone, Copy, Debug)]
-pub struct Glimpse<'a> {
-    /// Its first bytes, as many as it keeps.
-    pub first: &'a [u8],
-    /// Whether it is over.
-    pub is_over: bool,
-}
-
-impl<'a> Glimpse<'a> {
-    ghost use Rattle.std.specs.Prelude.{◌≡◌};
-    ghost use Rattle.trace_run.specs.Seen.{glimpse_value};
-    ghost use Rattle.trace_run.specs.Script.{glimpse_of};
-
-    /// What is now seen of a source.
-    pub fn of<R: Source>(source: &'a R) -> Glimpse<'a>
-        ensures { glimpse_value result ≡ glimpse_of R.Source source.now }
-    {
-        Glimpse {
-            first: source.first(),
-            is_over: source.has_ended(),
-        }
-    }
-}
-
-/// A command's machine. It is handed what each frame did ([`Seen`]), in order, and the end or why the log is refused, and
-/// says its text. It sees no source and no target.
+/// A command's machine. It is handed what each frame did ([`Seen`]), in order, and the end or why the log is refused,
+/// and says its text. It sees no source and no target.
 pub trait Machine {
     /// What it answers at the end.
     type Answer: Drop;
@@ -124,9 +67,67 @@ pub trait Machine {
             → pair.now.receptions ≡ receptions_after MESSAGE_LIMIT T
             → answers machine_start T summary.now result };
 
-    /// Takes why the log is refused, where a line or the limit of the log refuses it, the counts of the lines before, and
-    /// what is seen of the source. No event and no end follows. The counts are those of a log that ends in no line feed.
+    /// Takes why the log is refused, where a line or the limit of the log refuses it, the counts of the lines before,
+    /// and what is seen of the source. No event and no end follows. The counts are those of a log that ends in no line
+    /// feed.
     fn refused<S: TextSink>(self, summary: &Summary, why: Fault, glimpse: Glimpse<'_>, out: &mut S)
         ensures says { (machine_start : Self) (T : List Entry) → stands machine_start T self
             → S.says out.old (refusal machine_start (glimpse_value glimpse.entry) T summary.now why) out.new };
+}
+
+/// What is seen of a frame: what it did, and the message that it completed.
+#[derive(Clone, Copy, Debug)]
+pub struct Seen<'a> {
+    /// Its line, from 1 on.
+    pub line: u64,
+    /// Its time in microseconds.
+    pub micros: u64,
+    /// Its direction: which side sent it.
+    pub dir: Dir,
+    /// What it did to the receptions.
+    pub event: Event<'a>,
+    /// The message that it completed, if it completed one, with what becomes of it.
+    pub message: Option<Judged<'a>>,
+}
+
+/// What is seen of the source where a log is refused.
+#[derive(Clone, Copy, Debug)]
+pub struct Glimpse<'a> {
+    /// Its first bytes, as many as it keeps.
+    pub first: &'a [u8],
+    /// Whether it is over.
+    pub is_over: bool,
+}
+
+impl<'a> Glimpse<'a> {
+    ghost use Rattle.std.specs.Prelude.{◌≡◌};
+    ghost use Rattle.trace_run.specs.Seen.{glimpse_value};
+    ghost use Rattle.trace_run.specs.Script.{glimpse_of};
+
+    /// What is now seen of a source.
+    pub fn of<R: Source>(source: &'a R) -> Glimpse<'a>
+        ensures { glimpse_value result ≡ glimpse_of R.Source source.now }
+    {
+        Glimpse {
+            first: source.first(),
+            is_over: source.has_ended(),
+        }
+    }
+}
+
+/// Why a machine has no answer at the end of a log.
+#[derive(Clone, Copy, Debug)]
+pub enum NoAnswer {
+    /// What it would tell is longer than the limit.
+    OutputLimit,
+}
+
+impl From<NoAnswer> for Fault {
+    ghost from_gives = { λ _ fault. fault ≡ OutputLimit };
+
+    fn from(reason: NoAnswer) -> Fault {
+        match reason {
+            NoAnswer::OutputLimit => Fault::OutputLimit,
+        }
+    }
 }

@@ -25,8 +25,8 @@ impl Page {
         }
     }
 
-    /// Puts a text on the page. Most texts find room there: so much is inlined where a text is said, and what else there is
-    /// to do stands apart.
+    /// Puts a text on the page. Most texts find room there: so much is inlined where a text is said, and what else there
+    /// is to do stands apart.
     #[inline(always)]
     fn put<W: Target>(&mut self, target: &mut W, text: &[u8])
         ensures { Says W.Target self.old target.old text.now self.new target.new }
@@ -71,8 +71,8 @@ impl Page {
         self.put(target, text);
     }
 
-    /// Puts three texts on the page, one after another. Each is laid where it is to lie: put together first, they would be
-    /// stored in pieces and loaded at once, by a covering load.
+    /// Puts three texts on the page, one after another. Each is laid where it is to lie: put together first, they would
+    /// be stored in pieces and then read by one load over several of these stores, which has to wait for them.
     #[inline(always)]
     fn put_three<W: Target>(&mut self, target: &mut W, first: &[u8], second: &[u8], third: &[u8])
         ensures { Says W.Target self.old target.old (first.now ++ second.now ++ third.now) self.new target.new }
@@ -82,8 +82,8 @@ impl Page {
         }
     }
 
-    /// Puts three texts on a page that has no room for them all: what is on the page is written first, so that the writes
-    /// end where they would if the three were one text. Texts that no page has room for are put one by one.
+    /// Puts three texts on a page that has no room for them all: what is on the page is written first, so that the
+    /// writes end where they would if the three were one text. Texts that no page has room for are put one by one.
     #[inline(never)]
     fn put_three_where_full<W: Target>(
         &mut self,

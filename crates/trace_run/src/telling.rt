@@ -1,4 +1,4 @@
-//! A machine beside the judge of the messages and the page that its text is written from: it is told what each frame did.
+//! A machine beside the judge of the messages and the page for its text: it is told what each frame did.
 ghost use Rattle.std.specs.Prelude.{◌≡◌, ◌^◌, ◌<◌, List, [], ◌∷◌, ◌++◌, length, OnOk, OnErr};
 ghost use Rattle.direction.specs.Dir.{Message};
 ghost use Rattle.isotp_receive.specs.declared.TheConstants.{MESSAGE_LIMIT};
@@ -23,7 +23,8 @@ use trace_io::Target;
 use trace_log::{Fault, Summary};
 use uds_exchange::{Judge, Judged};
 
-/// What a frame did, with its line, its time in microseconds and its direction: a [`Seen`] before its message is judged.
+/// What a frame did, with its line, its time in microseconds and its direction: a [`Seen`] whose message is not judged
+/// yet.
 #[derive(Clone, Copy)]
 pub(crate) struct FrameEvent<'a> {
     pub line: u64,
@@ -38,7 +39,8 @@ pub(crate) struct Telling<M, W> {
     pub machine: M,
     pub judge: Judge,
     pub page: Page,
-    /// It names the type of the target, which is `LineTaker::Device` of a receiver: each call is handed the target itself.
+    /// It names the type of the target, which is `LineTaker::Device` of a receiver: each call is handed the target
+    /// itself.
     pub target: PhantomData<W>,
 }
 
@@ -148,8 +150,8 @@ fn oversize_for(strict: bool, verdict: Verdict<'_>) -> Option<u32>
     }
 }
 
-/// The length that a dropped frame announced, where it was dropped for that. It asks the reason alone; its definition stands
-/// beside `Reason`, in `isotp_receive`.
+/// The length that a dropped frame announced, where it was dropped for that. It asks the reason alone; its definition
+/// stands beside `Reason`, in `isotp_receive`.
 fn announced_by(reason: Reason) -> Option<u32>
     ensures { result ≡ announced_by reason }
 {

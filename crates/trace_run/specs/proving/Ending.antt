@@ -19,18 +19,21 @@ use Rattle.trace_log.specs.Summing.{summary_of}
 use Rattle.trace_run.specs.Script.{Script, RefusalText, Answering, refusal_of_lines, whole_of_lines}
 use Rattle.trace_run.specs.proving.Carrying.{Carries, blank_page}
 
--- since this start this was said, and is written before the fault with this name; or that failed, which is then the fault
+-- since this start this was said, and is written before the fault with this name; or that failed, which is then the
+-- fault
 abbrev pub EndsAs : {W : Type 0} → Fault → Ghosts W → W → List ℕ → Fault → W → Type 0
 EndsAs name target start said result new =
     ((result ≡ name) × Carries target start said (blank_page false) new)
     ⊎ ((result ≡ fault.Write) × Carries target start said (blank_page true) new)
 
--- whatever was said to a page before the fault with this name is written before it; or that failed, which is then the fault
+-- whatever was said to a page before the fault with this name is written before it; or that failed, which is then the
+-- fault
 abbrev pub SettlesAs : {W : Type 0} → Fault → Ghosts W → Page → W → Fault → W → Type 0
 SettlesAs {W = W} name target page old result new =
     (start : W) (said : List ℕ) → Carries target start said page old → EndsAs name target start said result new
 
--- whatever was said to a page before the fault with this name is written before it, with this text behind it; or that failed
+-- whatever was said to a page before the fault with this name is written before it, with this text behind it; or that
+-- failed
 abbrev pub SettlesWith : {W : Type 0} → List ℕ → Fault → Ghosts W → Page → W → Fault → W → Type 0
 SettlesWith {W = W} text name target page old result new =
     (start : W) (said : List ℕ) → Carries target start said page old → EndsAs name target start (said ++ text) result new
@@ -38,9 +41,9 @@ SettlesWith {W = W} text name target page old result new =
 -- a run ends on a refusal that is told: whatever lines it has taken, what is told of it is said and written
 abbrev pub RefusesTelling : {M W : Type 0} → (M → List Entry → M → Type 0) → (M → RefusalText) → Ghosts W → Fault → Receiver M W → W → Fault → W → Type 0
 RefusesTelling {M = M} stands refusals target why receiver old result new =
-    (first : M) (settings : Settings) (meanings : List (Option Stamped)) → Receives settings meanings receiver.pair receiver.lines receiver.counts
-    → IsJudgeOf (messages MESSAGE_LIMIT (trace settings meanings)) receiver.telling.judge → stands first (trace settings meanings) receiver.telling.machine
-    → SettlesWith (refusal_of_lines (refusals first) MESSAGE_LIMIT settings why meanings) why target receiver.telling.page old result new
+    (machine_start : M) (settings : Settings) (meanings : List (Option Stamped)) → Receives settings meanings receiver.pair receiver.lines receiver.counts
+    → IsJudgeOf (messages MESSAGE_LIMIT (trace settings meanings)) receiver.telling.judge → stands machine_start (trace settings meanings) receiver.telling.machine
+    → SettlesWith (refusal_of_lines (refusals machine_start) MESSAGE_LIMIT settings why meanings) why target receiver.telling.page old result new
 
 -- how a run ends on a fault, with what it has taken: that of a device stands as it is, and before others all that is
 -- said is written
@@ -54,7 +57,7 @@ GivesUp stands refusals target fault.Memory receiver old result new = SettlesAs 
 GivesUp stands refusals target fault.Read receiver old result new = (result ≡ fault.Read) × (new ≡ old)
 GivesUp stands refusals target fault.Write receiver old result new = (result ≡ fault.Write) × (new ≡ old)
 
--- a run ends with this answer of the machine, and all that it told was written
+-- a run ends with this answer of the machine, and all that is told of the log was written
 abbrev pub EndsSaying : {A W : Type 0} → Ghosts W → Script → Answering A → W → Settings → List ℕ → List (Option Stamped) → Result A NoAnswer → W → Type 0
 EndsSaying target script answers start settings log meanings result new =
     answers (trace settings meanings) (summary_of MESSAGE_LIMIT settings log meanings) result

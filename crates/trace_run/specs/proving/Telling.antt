@@ -43,8 +43,8 @@ pub record HasToldNothing {M W : Type 0} (stands : M → List Entry → M → Ty
   pub well : telling.page.failed ≡ false
   pub blank : telling.page.held ≡ []
 
--- The frames of the trace were told, since the target was this and by what the machine was at its start; of a strict script
--- none announces a message above the limit.
+-- The frames of the trace were told, since the target was this and by what the machine was at its start; of a strict
+-- script none announces a message above the limit.
 pub record HasTold {M W : Type 0} (stands : M → List Entry → M → Type 0) (scripts : M → Script) (target : Ghosts W) (target_start : W) (machine_start : M)
     (T : List Entry) (telling : Telling M W) (now : W) : Type 0 where
   pub judged : IsJudgeOf (messages MESSAGE_LIMIT T) telling.judge
@@ -87,7 +87,7 @@ pub record TellsFrame {M W A : Type 0} (stands : M → List Entry → M → Type
   pub kept : (target_start : W) (machine_start : M) (earlier : List Entry) → HasTold stands scripts target target_start machine_start T before old
       → HasWrittenAtLeast scripts target target_start machine_start earlier before old → HasWrittenAtLeast scripts target target_start machine_start earlier after new
 
--- A receiver took lines that mean this; where it stood at its start, it received their frames, and this is told of them.
+-- a receiver took lines that mean this; where it stood at its start, it received their frames, and this is told of them
 abbrev pub HasReceived : {M W : Type 0} → (M → List Entry → M → Type 0) → Ghosts W → Receiver M W → W → List (Option Stamped) → Receiver M W → Type 0 → Type 0
 HasReceived stands target before old meanings after IsTold =
     (after.config ≡ before.config) × (IsStart before.pair before.lines before.counts → Receives before.config meanings after.pair after.lines after.counts

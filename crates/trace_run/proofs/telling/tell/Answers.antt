@@ -1,4 +1,4 @@
--- What the machine said to the sink was said to the page: the borrowed page and target are the ones that came back.
+-- What the machine said to the sink of a frame was said to the page: the borrowed page and target are those that came back.
 use Rattle.std.proofs.Common.{[], sym, subst}
 use Rattle.std.proofs.lemmas.Result.{on_ok_weaker, on_err_weaker}
 use Rattle.trace_run.specs.proving.Carrying.{Says}

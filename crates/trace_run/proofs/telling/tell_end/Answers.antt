@@ -1,4 +1,4 @@
--- The same of what is said at the end.
+-- What the machine said to the sink at the end was said to the page: as in `tell`, what was borrowed came back.
 use Rattle.std.proofs.Common.{sym, subst}
 use Rattle.trace_run.specs.proving.Carrying.{Says}
 use Rattle.trace_run.proofs.telling.tell_end.Goals as goal
