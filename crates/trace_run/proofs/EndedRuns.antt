@@ -1,5 +1,5 @@
--- What a run answers at the end of a log, and what it did with its devices.
-use Rattle.std.proofs.Common.{◌≡◌, ◌≢◌, ℕ, ◌≤◌, Bool, true, false, List, ◌++◌, length, arith, refl, ap, sym, subst, ◌∙◌, Option, Result, Ok, Err, inl, inr, length-append}
+-- What a run answers at the end of a log.
+use Rattle.std.proofs.Common.{◌≡◌, ◌≢◌, ℕ, ◌≤◌, Bool, true, false, List, ◌++◌, length, arith, refl, subst, Option, Result, Ok, Err, inl, inr}
 use Rattle.std.specs.Prelude.{not}
 use Rattle.std.proofs.Math.Nat.{le-min}
 use Rattle.can_log.specs.Log.{LogMeans}
@@ -17,7 +17,6 @@ use Rattle.trace_run.specs.declared.telling.Telling.{Telling}
 use Rattle.trace_run.specs.proving.Carrying.{Carries, Says, Settles, blank_page}
 use Rattle.trace_run.specs.proving.Telling.{HasTold}
 use Rattle.trace_run.specs.proving.Ending.{EndsSaying, EndsTelling}
-use Rattle.trace_log.specs.Feeding.{CountsRead}
 use Rattle.trace_log.specs.Failing.{FailedIf}
 use Rattle.trace_log.specs.Settings.{Settings}
 use Rattle.trace_log.specs.Summing.{summary_of}
@@ -30,39 +29,6 @@ use Rattle.trace_log.proofs.Promises.{writes_front_of_all}
 use Rattle.trace_log.specs.Refusal.{EachPasses}
 use Rattle.trace_run.proofs.Carryings.{wrote_all, wrote_front}
 use Rattle.trace_run.proofs.StoppedLines.{all_pass, read_to_end}
-use Rattle.trace_run.proofs.ToldFronts.{IsOutcomeOf, IsReadOnly}
-
--- the fault of the target is answered exactly where it failed
-pub fails_so : {A W : Type 0} (target : Ghosts W) (start new : W) (answer : Fault) (said : List ℕ) (failed : Bool) → Carries target start said (blank_page failed) new → IsOutcomeOf failed answer
-    → FailedIf {A = A} fault.Write (Err answer) (target.failures start) (target.failures new)
-fails_so target start new answer said false carries apart = record { risen = λ is. (let same : answer ≡ fault.Write = cc in absurd (apart same)); same = λ _. carries.failures }
-fails_so target start new answer said true carries write = record { risen = λ _. carries.failures; same = λ other. absurd (other (ap Err write)) }
-
--- a target that took nothing, where writing did not fail, was left alone
-pub left_alone_so : {A W : Type 0} (target : Ghosts W) (start new : W) (result : Result A Fault) (said : List ℕ) (failed : Bool) → Carries target start said (blank_page failed) new
-    → FailedIf fault.Write result (target.failures start) (target.failures new) → result ≢ Err fault.Write → target.taken new ≡ target.taken start → new ≡ start
-left_alone_so target start new result said true carries write other same = absurd (omega (arith, carries.failures, write.same other))
-left_alone_so target start new result said false carries write other same =
-    let wrote = wrote_all target start new said carries in
-    let long = ap length (sym wrote ∙ same) in
-    let parts = length-append (target.taken start) said in
-    carries.still (omega (arith, long, parts))
-
-reads_other : {A : Type 0} (answer : Fault) (before after : ℕ) → after ≡ before → answer ≢ fault.Read → FailedIf {A = A} fault.Read (Err answer) before after
-reads_other answer before after same_count apart = record { risen = λ is. (let same : answer ≡ fault.Read = cc in absurd (apart same)); same = λ _. same_count }
-
--- the fault of the source is answered exactly where it failed
-pub reads_so : {A : Type 0} (why : Fault) (answer : Fault) (before after : ℕ) → CountsRead why before after → IsReadOnly why answer
-    → FailedIf {A = A} fault.Read (Err answer) before after
-reads_so fault.Read answer before after counts is = record { risen = λ _. counts; same = λ other. absurd (other (ap Err is)) }
-reads_so (fault.BadLine line column) answer before after counts apart = reads_other answer before after counts apart
-reads_so (fault.Oversize line announced) answer before after counts apart = reads_other answer before after counts apart
-reads_so fault.LogLimit answer before after counts apart = reads_other answer before after counts apart
-reads_so fault.OutputLimit answer before after counts apart = reads_other answer before after counts apart
-reads_so fault.Write answer before after counts apart = reads_other answer before after counts apart
-reads_so fault.Memory answer before after counts apart = reads_other answer before after counts apart
-
--- ---- the end
 
 module _ {A W : Type 0} (target : Ghosts W) (script : Script) (answers : Answering A) (start new : W) (settings : Settings) where
   -- what it answers at the end of the log

@@ -8,7 +8,7 @@ use Rattle.trace_log.specs.Failing.{FailedIf}
 use Rattle.trace_run.specs.Printed.{Prints}
 use Rattle.trace_run.specs.proving.Carrying.{Carries, Says, Settles, blank_page}
 use Rattle.trace_run.proofs.Carryings.{nothing_said, wrote_all, wrote_front}
-use Rattle.trace_run.proofs.EndedRuns.{left_alone_so}
+use Rattle.trace_run.proofs.DeviceFaults.{left_alone_so}
 
 module _ {W : Type 0} (target : Ghosts W) (text : List ℕ) (old new : W) where
   -- said to a page that was blank, and settled

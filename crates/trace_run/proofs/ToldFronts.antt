@@ -1,5 +1,5 @@
 -- A front of what is told of the lines that were read, or more than was told before.
-use Rattle.std.proofs.Common.{◌-◌, ◌≡◌, ◌≢◌, ℕ, ◌+◌, ◌<◌, ◌≤◌, Bool, true, false, List, [], ◌∷◌, ◌++◌, length, arith, refl, ap, sym, subst, ◌∙◌, Option, inl, inr, append-nil, append_assoc, length-append}
+use Rattle.std.proofs.Common.{◌-◌, ◌≡◌, ℕ, ◌+◌, ◌<◌, ◌≤◌, Bool, true, false, List, [], ◌∷◌, ◌++◌, length, arith, refl, ap, sym, subst, ◌∙◌, Option, inl, inr, append-nil, append_assoc, length-append}
 use Rattle.std.specs.Prelude.{min}
 use Rattle.std.proofs.Math.Nat.{min-le_left}
 use Rattle.can_log.specs.declared.frame.Stamped.{Stamped}
@@ -120,21 +120,6 @@ front_of_refused script refusal limit settings log given why meanings old new te
       some = subst (λ (text : List ℕ). 0 < length text) (sym is) (omega arith);
       front = front;
     })
-
--- where writing failed, that is the fault, and else another
-abbrev pub IsOutcomeOf : Bool → Fault → Type 0
-IsOutcomeOf false answer = answer ≢ fault.Write
-IsOutcomeOf true answer = answer ≡ fault.Write
-
--- only where the source failed, that is the fault
-abbrev pub IsReadOnly : Fault → Fault → Type 0
-IsReadOnly fault.Read answer = answer ≡ fault.Read
-IsReadOnly fault.LogLimit answer = answer ≢ fault.Read
-IsReadOnly fault.OutputLimit answer = answer ≢ fault.Read
-IsReadOnly (fault.BadLine line column) answer = answer ≢ fault.Read
-IsReadOnly (fault.Oversize line announced) answer = answer ≢ fault.Read
-IsReadOnly fault.Memory answer = answer ≢ fault.Read
-IsReadOnly fault.Write answer = answer ≢ fault.Read
 
 -- ---- only more is written
 

@@ -31,8 +31,9 @@ use Rattle.trace_run.proofs.Carryings.{nothing_said, wrote_all, wrote_front}
 use Rattle.trace_run.proofs.Runs.{TookEvents, StoppedOnEvent, StopsOn, IsRunStart, TookLines, StoppedOnLine, took_nothing, has_received, has_taken, has_stopped}
 use Rattle.trace_run.proofs.WrittenFronts.{front_longer}
 use Rattle.trace_run.proofs.ToldFrames.{one_more_told}
+use Rattle.trace_run.proofs.DeviceFaults.{IsOutcomeOf, IsReadOnly}
 use Rattle.trace_run.proofs.StoppedLines.{all_pass, unread_for_place, unread_for_limit}
-use Rattle.trace_run.proofs.ToldFronts.{front_of_whole, writes_front_of_told, told_some, front_of_read, front_of_refused, IsOutcomeOf, IsReadOnly, only_more, more_at_fault, tells_eagerly}
+use Rattle.trace_run.proofs.ToldFronts.{front_of_whole, writes_front_of_told, told_some, front_of_read, front_of_refused, only_more, more_at_fault, tells_eagerly}
 
 module _ {M W : Type 0} (stands : M → List Entry → M → Type 0) (scripts : M → Script) (needs : M → List Entry → Entry → Type 0) (target : Ghosts W) where
   -- events were told
