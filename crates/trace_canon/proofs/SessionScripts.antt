@@ -15,7 +15,7 @@ use Rattle.uds_exchange.specs.Meaning.{ItemValue}
 
 -- it tells nothing
 pub silent_tells_nothing : TellsNothing silent_script
-silent_tells_nothing = record { of_frames = λ T e. refl; at_the_end = λ T summary. refl }
+silent_tells_nothing = record { of_frame = λ T e. refl; at_the_end = λ T summary. refl }
 
 pub session_is_the_same : SessionIsTheSame
 session_is_the_same settings log given (Ok session) old new (all, meanings, read, answer, wrote) = record {

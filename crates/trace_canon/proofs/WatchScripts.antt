@@ -152,12 +152,12 @@ module _ (style : ItemStyle) where
       let left : newly_decided T e ≡ grows.0 = ap (drop (length (decided M))) longer ∙ drop-append_seam (decided M) grows.0 in
       ap (λ items. list_text style (decided_of T) ++ text_behind style T items) left ∙ joined T grows.0 ∙ ap (list_text style) (sym longer)
 
-  from_there : (past rest : List Entry) → list_text style (decided_of past) ++ told_after ((watching_script style).word) past rest ≡ list_text style (decided_of (past ++ rest))
+  from_there : (past rest : List Entry) → list_text style (decided_of past) ++ told_after ((watching_script style).of_frame) past rest ≡ list_text style (decided_of (past ++ rest))
   from_there past [] = append-nil (list_text style (decided_of past)) ∙ ap (λ T. list_text style (decided_of T)) (sym (append-nil past))
   from_there past (e ∷ rest) =
-      let word = text_behind style past (newly_decided past e) in
-      let later = told_after ((watching_script style).word) (past ++ e ∷ []) rest in
-      sym (append_assoc (list_text style (decided_of past)) word later) ∙ ap (λ x. x ++ later) (next_told past e) ∙ from_there (past ++ e ∷ []) rest
+      let text = text_behind style past (newly_decided past e) in
+      let later = told_after ((watching_script style).of_frame) (past ++ e ∷ []) rest in
+      sym (append_assoc (list_text style (decided_of past)) text later) ∙ ap (λ x. x ++ later) (next_told past e) ∙ from_there (past ++ e ∷ []) rest
       ∙ ap (λ T. list_text style (decided_of T)) (append_assoc past (e ∷ []) rest)
 
 pub watch_tells_decided : WatchTellsDecided

@@ -32,19 +32,19 @@ text_behind style T items = list_text_from style (1 + length (decided_of T)) ite
 abbrev pub watching_script : ItemStyle → Script
 watching_script style = record {
   strict = false;
-  word = λ T e. text_behind style T (newly_decided T e);
-  last = λ T summary. text_behind style T (undecided (messages MESSAGE_LIMIT T));
+  of_frame = λ T e. text_behind style T (newly_decided T e);
+  at_the_end = λ T summary. text_behind style T (undecided (messages MESSAGE_LIMIT T));
 }
 
 -- what is told of the frames of a trace is the list of the items that they decide
 abbrev pub WatchTellsDecided : Type 0
 WatchTellsDecided = (style : ItemStyle) (T : List Entry)
-    → told ((watching_script style).word) T ≡ list_text style (decided_of T)
+    → told ((watching_script style).of_frame) T ≡ list_text style (decided_of T)
 
 -- what is told of the frames of a trace and at its end is the list of its meaning
 abbrev pub WatchTellsTheList : Type 0
 WatchTellsTheList = (style : ItemStyle) (T : List Entry) (summary : Summary)
-    → told ((watching_script style).word) T ++ (watching_script style).last T summary ≡ list_text style (items_of_trace T)
+    → told ((watching_script style).of_frame) T ++ (watching_script style).at_the_end T summary ≡ list_text style (items_of_trace T)
 
 -- the log is legal, and the list of its meaning was written
 abbrev pub WritesTheList : ItemStyle → ℕ → Settings → List ℕ → List ℕ → List ℕ → Type 0

@@ -13,7 +13,8 @@ use Rattle.trace_run.specs.Script.{GlimpseValue}
 use Rattle.trace_run.specs.declared.machine.Glimpse.{Glimpse}
 use Rattle.trace_run.specs.declared.machine.Seen.{Seen}
 
--- This is what the frame e, of this line, time and direction, did after the frames T, of which there are fewer than 2 ^ 62.
+-- This is what the frame e, of this line, time and direction, did after the frames T, of which there are fewer than
+-- 2 ^ 62.
 pub record IsEventOf (T : List Entry) (e : Entry) (at_line at_micros : ℕ) (sender : Dir) (event : Event) : Type 0 where
   pub few : length T < 2 ^ 62
   pub line : e.line ≡ at_line
@@ -26,7 +27,8 @@ abbrev pub IsJudgmentOf : List Message → List Message → Option Judged → Ty
 IsJudgmentOf M came None = came ≡ []
 IsJudgmentOf M came (Some judged) = (came ≡ sent judged ∷ []) × IsJudgedAfter M judged × (judged.item_number ≡ number_after M (sent judged))
 
--- This is seen of the frame e after the frames T: what it did, and the message that it completed, if it completed one, as it is judged behind those before.
+-- This is seen of the frame e after the frames T: what it did, and the message that it completed, if it completed one,
+-- as it is judged behind those before.
 pub record IsSeen (T : List Entry) (e : Entry) (seen : Seen) : Type 0 where
   pub event : IsEventOf T e seen.line seen.micros seen.dir seen.event
   pub message : IsJudgmentOf (messages MESSAGE_LIMIT T) (told_message seen.dir (seen_event seen.event).verdict) seen.message

@@ -30,8 +30,8 @@ lines_due settings before now =
 abbrev pub canonical_script : Settings → Script
 canonical_script settings = record {
   strict = true;
-  word = λ T e. lines_due settings (messages MESSAGE_LIMIT T) (messages MESSAGE_LIMIT (T ++ e ∷ []));
-  last = λ T summary. text_from settings (progress_behind settings (early (messages MESSAGE_LIMIT T))) (all_frames MESSAGE_LIMIT (held (messages MESSAGE_LIMIT T)));
+  of_frame = λ T e. lines_due settings (messages MESSAGE_LIMIT T) (messages MESSAGE_LIMIT (T ++ e ∷ []));
+  at_the_end = λ T summary. text_from settings (progress_behind settings (early (messages MESSAGE_LIMIT T))) (all_frames MESSAGE_LIMIT (held (messages MESSAGE_LIMIT T)));
 }
 
 -- The orderer stands after the messages of the trace, and the text after those that are early.
@@ -46,7 +46,7 @@ text_of_early settings T = text_from settings (start_of settings.max_bytes) (all
 
 -- what this script tells of a trace are the lines of its early messages
 abbrev pub CanonicalTellsEarly : Type 0
-CanonicalTellsEarly = (settings : Settings) (T : List Entry) → told ((canonical_script settings).word) T ≡ text_of_early settings T
+CanonicalTellsEarly = (settings : Settings) (T : List Entry) → told ((canonical_script settings).of_frame) T ≡ text_of_early settings T
 
 -- the canonical log of the trace is longer than the limit
 abbrev pub is_too_long : Settings → List Entry → Bool

@@ -40,7 +40,7 @@ pub record Collects (settings : Settings) (M : List Message) (items : List ItemV
 
 -- the script of a machine that tells nothing of a log
 abbrev pub silent_script : Script
-silent_script = record { strict = true; word = λ T e. []; last = λ T summary. [] }
+silent_script = record { strict = true; of_frame = λ T e. []; at_the_end = λ T summary. [] }
 
 -- the meaning and the counts are answered where the canonical log is within the limit, and else that it is longer
 abbrev pub answers_session : Settings → Answering Session
