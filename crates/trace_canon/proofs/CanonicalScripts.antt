@@ -4,7 +4,7 @@ use Rattle.direction.specs.Dir.{Message}
 use Rattle.trace_log.specs.CanonicalLog.{canonical_log, log_of_frames, canonical_log_of_lines, early_text, fitting}
 use Rattle.trace_log.specs.Laws.{IsCanonicalFor, Records, Certifies}
 use Rattle.trace_log.specs.Settings.{AreSettings, Settings}
-use Rattle.trace_log.proofs.Promises.{written_is_canonical, written_of_recording, answer_certifies, messages_more, all_frames-append, fitting_frames, fitting_log_begins}
+use Rattle.trace_log.proofs.Promises.{all_begin, written_is_canonical, written_of_recording, answer_certifies, messages_more, all_frames-append, fitting_frames, fitting_log_begins}
 use Rattle.std.proofs.Common.{arith, ◌+◌, ◌≡◌, Bool, true, false, refl, subst, Option, Ok, Err, ◌≤◌, ◌<◌, ℕ, List, [], ◌∷◌, ◌++◌, length, drop, ap, sym, ◌∙◌, append-nil, append_assoc, length-append, Result, inl, inr}
 use Rattle.std.proofs.Math.Seq.{drop-append_seam}
 use Rattle.can_log.specs.declared.frame.Stamped.{Stamped}
@@ -17,13 +17,12 @@ use Rattle.uds_exchange.specs.Orderer.{JudgedOrdererValue}
 use Rattle.uds_exchange.specs.Meaning.{meaning, flattened}
 use Rattle.uds_exchange.proofs.Promises.{early_grows, early_then_held}
 use Rattle.trace_canon.specs.proving.CanonicalScript.{StandsCanonical, is_too_long, answers_canonical, CanonicalTellsTheSame, canonical_script, progress_behind, lines_due, text_of_early, CanonicalTellsEarly}
-use Rattle.trace_canon.specs.InMemory.{HasTextOf}
+use Rattle.trace_log.specs.Needing.{HasTextOf}
 use Rattle.trace_run.specs.Script.{tells_no_refusal, told_after, told, told_of_lines, whole_of_lines}
 use Rattle.trace_run.specs.Told.{AnswersTold, EndsWith, FailsToTell, WritesTold, WritesToldAndRefusal, WritesFrontOfWhole, TellsEagerly}
 use Rattle.trace_canon.specs.proving.Writing.{ProgressValue, start_of, text_from, progress_after}
 use Rattle.trace_canon.proofs.CanonicalWriting.{text_none, text_append, place_append}
 use Rattle.trace_canon.proofs.Answered.{answers_accepted, answers_output_limit}
-use Rattle.trace_canon.proofs.Hearings.{all_begin}
 use Rattle.trace_canon.proofs.FittingLines.{over_when, within_when}
 use Rattle.trace_run.proofs.Promises.{front_of_whole}
 use Rattle.trace_log.specs.declared.fault.Fault.{Fault}

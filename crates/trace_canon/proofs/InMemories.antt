@@ -18,19 +18,19 @@ use Rattle.trace_log.specs.declared.summary.Summary.{Summary}
 use Rattle.trace_log.specs.Answers.{Answers, TellsOutcome}
 use Rattle.trace_canon.specs.Sessions.{GivesMeaning}
 use Rattle.trace_log.specs.Failing.{FailedIf}
-use Rattle.trace_canon.specs.InMemory.{IsOfMemory, HasBytes, IsRefused, IsUnread, IsCanonicalLogWith, IsToldWith, NeedsMemoryForCanonicalLog, NeedsMemoryForPlacing, MeansInMemory, ComparesWithCounts, counted_comparison, fault_in_memory, HasTextOf}
+use Rattle.trace_canon.specs.InMemory.{IsOfMemory, HasBytes, IsRefused, IsUnread, IsCanonicalLogWith, IsToldWith, NeedsMemoryForCanonicalLog, NeedsMemoryForPlacing, MeansInMemory, ComparesWithCounts, counted_comparison, fault_in_memory}
 use Rattle.trace_log.specs.CanonicalLog.{canonical_log_of_lines}
+use Rattle.trace_log.specs.Needing.{HasTextOf}
 use Rattle.trace_log.specs.Outcome.{Accepted, IsOutcome}
 use Rattle.trace_canon.specs.MemoryNeeded.{NeedsMemoryToCollect, NeedsMemoryToOrder}
 use Rattle.trace_canon.specs.MessageLines.{placing_script}
 use Rattle.trace_canon.specs.WrittenAtEnd.{LeavesOnce, WritesOnce}
 use Rattle.trace_log.specs.Settings.{Settings}
-use Rattle.trace_run.specs.Script.{RefusalText, answers_counts, tells_no_refusal, told_of_lines, whole_of_lines}
+use Rattle.trace_run.specs.Script.{RefusalText, answers_counts, lenient, tells_no_refusal, told_of_lines, whole_of_lines}
 use Rattle.trace_run.specs.Told.{IsUnreadFor, AnswersTold, FailsToTell}
-use Rattle.trace_run.specs.Script.{lenient}
 use Rattle.trace_run.proofs.Promises.{unread_for}
 use Rattle.trace_text.specs.declared.notation.Notation.{Notation}
-use Rattle.trace_canon.proofs.Hearings.{all_begin}
+use Rattle.trace_log.proofs.Promises.{all_begin}
 
 -- bytes of which none was read
 abbrev pub unread : List ℕ → BytesInMemory

@@ -4,8 +4,7 @@ use Rattle.std.proofs.lemmas.Bool.{leb-true, leb-false}
 use Rattle.isotp_receive.specs.declared.TheConstants.{MESSAGE_LIMIT}
 use Rattle.trace_log.specs.declared.fault.Fault.TheVariants.{BadLine, Oversize, LogLimit, OutputLimit, Read, Write, Memory}
 use Rattle.trace_log.specs.declared.summary.Summary.{Summary}
-use Rattle.trace_canon.specs.Sessions.{IsAcceptedWith}
-use Rattle.trace_canon.specs.Sessions.{GivesMeaning}
+use Rattle.trace_canon.specs.Sessions.{GivesMeaning, IsAcceptedWith}
 use Rattle.trace_log.specs.CanonicalLog.{canonical_log_of_lines}
 use Rattle.trace_canon.specs.proving.SessionScript.{SessionIsTheSame, silent_script}
 use Rattle.trace_log.specs.Settings.{Settings}

@@ -1,7 +1,7 @@
 -- The rows of a report: what each tells, and the cell of the chart that it has. A row is one line of HTML: the number of its item,
 -- the lines of the log, the time since the first frame of the two sides, and a cell, in which words stand at the sender's side and
 -- an arrow fills the rest. End tags are left out where HTML lets one.
-use Rattle.std.specs.Prelude.{ℕ, Bool, true, List, [], ◌++◌, codes}
+use Rattle.std.specs.Prelude.{ℕ, Bool, List, [], ◌++◌, codes}
 use Rattle.direction.specs.declared.Dir.{Dir}
 use Rattle.isotp_receive.specs.declared.event.Ended.{Ended}
 use Rattle.isotp_receive.specs.declared.event.Reason.{Reason}
