@@ -1,4 +1,4 @@
--- A text of which the front is written.
+-- A text of which a front was written: the rest of it written too, and texts that are gathered one after another.
 use Rattle.std.proofs.Common.{◌≡◌, ℕ, List, [], ◌++◌, refl, ap, sym, subst, ◌∙◌, append-nil, append_assoc, Result, Ok, Err}
 use Rattle.trace_io.specs.Written.{HasFront, IsWritten, HasWritten}
 use Rattle.trace_run.specs.proving.Gathering.{HasGathered}

@@ -17,7 +17,8 @@ use Rattle.trace_log.specs.Answers.{ReadsWhile}
 use Rattle.trace_log.specs.Feeding.{TakesFront}
 use Rattle.trace_run.proofs.Runs.{TookLines, IsRunStart, starts_run, has_received}
 use Rattle.trace_run.proofs.ToldRuns.{needed, eagerly, more_given_up, wrote_no_line, ToldEvents, told_none, takes_nothing, gives, told_of_fault, known}
-use Rattle.trace_run.proofs.EndedRuns.{never_memory, fails_so, left_alone_so, reads_so, known_then, told_at_the_end}
+use Rattle.trace_run.proofs.EndedRuns.{never_memory, known_then, told_at_the_end}
+use Rattle.trace_run.proofs.DeviceFaults.{fails_so, left_alone_so, reads_so}
 use Rattle.trace_run.proofs.StoppedLines.{reads_near}
 use Rattle.trace_log.proofs.Promises.{some_log, when_ok}
 use Rattle.trace_run.proofs.driver.run.Given.{Over}
