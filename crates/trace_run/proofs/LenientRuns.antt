@@ -73,7 +73,7 @@ pub near_when_lenient : {strict : Bool} → strict ≡ false → (settings : Set
 near_when_lenient {strict} is settings log {given} {before} {after} near =
     subst (λ (s : Bool). ReadsWhile (StopsNothingWithin s MESSAGE_LIMIT settings log) given before after) is near
 
--- a frame that needed memory is kept, where no line needs some to be told
+-- a frame that needed memory is kept, where the command needs none to tell it
 pub needs_when_none : (needs : List Entry → Entry → Type 0) → ((T : List Entry) (e : Entry) → needs T e → ⊥) → (settings : Settings) (log : List ℕ)
     → HasFrame (λ T e. IsKeptForMessage MESSAGE_LIMIT T e ⊎ needs T e) settings log → NeedsMemoryToReceive MESSAGE_LIMIT settings log
 needs_when_none needs none settings log found =

@@ -10,7 +10,7 @@ use Rattle.trace_run.specs.Script.{Script, Answering, TellsNothing, tells_no_ref
 use Rattle.trace_run.specs.Told.{AnswersTold}
 use Rattle.trace_log.specs.Trace.{trace}
 
--- of no frame anything is told
+-- nothing is told of any frame
 told_nothing : (of_frame : List Entry → Entry → List ℕ) → ((T : List Entry) (e : Entry) → of_frame T e ≡ []) → (past xs : List Entry) → told_after of_frame past xs ≡ []
 told_nothing of_frame none past [] = refl
 told_nothing of_frame none past (e ∷ rest) =

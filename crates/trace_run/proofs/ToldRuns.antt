@@ -200,6 +200,7 @@ module _ {M W : Type 0} (stands : M → List Entry → M → Type 0) (scripts : 
                     (front_of_refused script refusal MESSAGE_LIMIT settings log given why meanings old (target.taken new) tells unread read (front true all wrong.1) (wrong.1.spoke refl))
               ]
 
+          -- a line is bad
           bad : (line column bytes : ℕ) (meanings : List (Option Stamped)) → IsBadBehind log line column meanings bytes → bytes ≤ settings.max_bytes → bytes ≤ given
               → TookLines ToldEvents start meanings now → RefusesTelling stands refusals target (fault.BadLine line column) now.0 now.1 answer new → Answers answer
           bad line column bytes meanings place few come taken up =
@@ -230,7 +231,7 @@ module _ {M W : Type 0} (stands : M → List Entry → M → Type 0) (scripts : 
                     (record { meanings = meanings; read = read; wrote = refl }) (front true (text meanings) wrong.1) (wrong.1.spoke refl))
               ]
 
-          -- what is told of the lines up to the one on which memory was refused
+          -- what is told of the lines up to the one on which memory was refused goes on with that line
           longer : (meanings : List (Option Stamped)) (what : Option Stamped) (line : StoppedOnLine StoppedTelling start meanings what fault.Memory now)
               → (more : List ℕ) × (text (meanings ++ what ∷ []) ≡ text meanings ++ more)
           longer meanings what line =
@@ -240,6 +241,7 @@ module _ {M W : Type 0} (stands : M → List Entry → M → Type 0) (scripts : 
                 ap (told script.of_frame) (trace_next settings meanings what halted.0 halted.1 halted.2 halted.3) ∙ one_more_told script.of_frame (trace settings meanings) e,
               )
 
+          -- and these lines had come
           came : (meanings : List (Option Stamped)) (what : Option Stamped) (line : StoppedOnLine StoppedTelling start meanings what fault.Memory now)
               → StopsWithin settings.max_bytes log given meanings what → HaveCome passes true (min given settings.max_bytes) log (meanings ++ what ∷ [])
           came meanings what line place =
@@ -249,6 +251,7 @@ module _ {M W : Type 0} (stands : M → List Entry → M → Type 0) (scripts : 
               (each (meanings ++ what ∷ []) (λ strict. subst (AllByRecursion AnnouncesWithin) (sym next)
               (each_more (trace settings meanings) (entry_in meanings halted.0 halted.1) (halted.4.within strict) (halted.4.reason.0 strict))))
 
+          -- so a front of what is told of them was written
           stopped : (meanings : List (Option Stamped)) (what : Option Stamped) (line : StoppedOnLine StoppedTelling start meanings what fault.Memory now)
               → StopsWithin settings.max_bytes log given meanings what → (failed : Bool) (why : Fault) → counts_last why ≡ true → Carries target start.1 (text meanings) (blank_page failed) new
               → WritesFrontOfTold script MESSAGE_LIMIT settings log given why old (target.taken new)
@@ -257,6 +260,7 @@ module _ {M W : Type 0} (stands : M → List Entry → M → Type 0) (scripts : 
               writes_front_of_told script MESSAGE_LIMIT settings log given why (meanings ++ what ∷ []) old (target.taken new) last (came meanings what line place)
               (subst (λ said. HasFront old said (target.taken new)) (sym more.1) (front_longer old (text meanings) more.0 (target.taken new) (front failed (text meanings) carries)))
 
+          -- and that is something, where what is told of the lines before it is
           some_told : (meanings : List (Option Stamped)) (what : Option Stamped) (line : StoppedOnLine StoppedTelling start meanings what fault.Memory now)
               → StopsWithin settings.max_bytes log given meanings what → 0 < length (text meanings) → HasToldSome script MESSAGE_LIMIT settings log given
           some_told meanings what line place some =

@@ -26,6 +26,7 @@ held_written old text mid held later new is more = record {
   wrote = more ∙ ap (λ x. x ++ held) is.wrote ∙ append_assoc old is.front held;
 }
 
+-- what was held was written, or a front of it, and nothing stands behind it
 pub held_ended : {A E : Type 0} (result : Result A E) (old text mid held new : List ℕ) → IsWritten old text mid (held ++ [])
     → HasWritten result mid held new → HasWritten result old text new
 held_ended (Ok value) old text mid held new is wrote = written_all old text new [] (held_written old text mid held [] new is wrote) refl

@@ -57,8 +57,8 @@ impl<M: Machine, W: Target> LineTaker for Receiver<M, W> {
     type Device = W;
 
     // `s` and `t` are the receiver with its target, before lines were taken and after: `.0` is the receiver, `.1` the
-    // target. `meanings` are those of the lines between, `what` that of the line on which it stopped, and `first` those of
-    // the first lines, whose text is written. In `wants`, `s` is the receiver alone, and `first` and `second` are
+    // target. `meanings` are those of the lines between, `what` that of the line on which it stopped, and `earlier` those
+    // of the first lines, whose text is written. In `wants`, `s` is the receiver alone, and `first` and `second` are
     // identifiers.
     ghost took = { λ s meanings t. HasReceived M.stands W.Target s.0 s.1 meanings t.0
         (HasTold M.stands M.script W.Target s.1 s.0.telling.machine (trace s.0.config meanings) t.0.telling t.1) };
@@ -74,8 +74,8 @@ impl<M: Machine, W: Target> LineTaker for Receiver<M, W> {
         × (HasToldNothing M.stands s.0.telling → W.failures s.1 ≤ 2 ^ 62
         → HasStopped M.script M.needs W.Target s.1 s.0.telling.machine (trace s.0.config meanings) (entry_in meanings stamped d) fault t.0.telling t.1) };
 
-    ghost sure = { λ s first t. IsStart s.0.pair s.0.lines s.0.counts → HasToldNothing M.stands s.0.telling → W.failures s.1 ≤ 2 ^ 62
-        → HasWrittenAtLeast M.script W.Target s.1 s.0.telling.machine (trace s.0.config first) t.0.telling t.1 };
+    ghost sure = { λ s earlier t. IsStart s.0.pair s.0.lines s.0.counts → HasToldNothing M.stands s.0.telling → W.failures s.1 ≤ 2 ^ 62
+        → HasWrittenAtLeast M.script W.Target s.1 s.0.telling.machine (trace s.0.config earlier) t.0.telling t.1 };
 
     ghost wants = { λ s first second. (first ≡ s.config.tester) × (second ≡ s.config.unit) };
 
