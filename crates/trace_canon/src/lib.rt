@@ -37,7 +37,7 @@
 //! | [`write_comparison`] | `comparison_text`, `comparison_objects`, `compared_items` | `ComparisonText` |
 //! | [`list`], [`write_items`] | `lister`, `item_text` | `ItemText` |
 //! | [`find`] | `finding`, `hearing`, `credit_lines` | `Finding` |
-//! | all but [`watch`], over memory | [`in_memory`] | `InMemory` |
+//! | over logs in memory, seven of these | [`in_memory`] | `InMemory` |
 //!
 //! What a run comes to that writes a text at the end is in `WrittenAtEnd`, and of one that writes nothing in
 //! `ReadOnly`; for which frames a command needs memory, in `MemoryNeeded`.
