@@ -82,7 +82,7 @@ module _ (script : Script) (limit : ℕ) (settings : Settings) (log : List ℕ) 
       (whole_of_lines script limit settings log) settings log given
 
   -- What is told of the lines that were read before a write failed is something.
-  pub record HasToldSome : Type 0 where
+  pub record HasSomeToTell : Type 0 where
     pub meanings : List (Option Stamped)
     pub read : AreReadBefore (passing script.strict limit settings) settings log given Write meanings
     pub some : 0 < length (told_of_lines script settings meanings)
@@ -123,7 +123,7 @@ module _ (script : Script) (refusal : RefusalText) (limit : ℕ) (settings : Set
   abbrev pub FailsToTell : List ℕ → List ℕ → Type 0
   FailsToTell old new =
       (WritesFrontOfWhole script limit settings log given Write old new
-      × (HasToldSome script limit settings log given ⊎ EndsUnwritten script limit settings log old new))
+      × (HasSomeToTell script limit settings log given ⊎ EndsUnwritten script limit settings log old new))
       ⊎ RefusesUnwritten old new
 
 module _ {A : Type 0} (script : Script) (answers : Answering A)
