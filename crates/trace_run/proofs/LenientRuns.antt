@@ -7,7 +7,8 @@ use Rattle.trace_log.specs.Laws.{Certifies}
 use Rattle.trace_log.specs.Needing.{HasFrame, IsKeptForMessage, NeedsMemoryToReceive}
 use Rattle.trace_log.specs.Settings.{Settings}
 use Rattle.trace_log.specs.Summing.{summary_of}
-use Rattle.trace_run.specs.Script.{Script, RefusalText, Answering, answers_counts, lenient}
+use Rattle.trace_run.specs.Script.{Script, RefusalText, Answering, answers_counts}
+use Rattle.trace_run.specs.proving.Scripts.{lenient}
 use Rattle.trace_run.specs.Told.{AnswersTold, IsUnreadFor, StopsNothingWithin}
 use Rattle.trace_log.specs.Answers.{ReadsWhile}
 use Rattle.trace_log.specs.Refusal.{HasNoBadPlaceWithin}
