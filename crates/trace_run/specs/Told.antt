@@ -38,7 +38,11 @@ is_told Read = false
 is_told Write = false
 is_told Memory = false
 
--- the test that each line passes that does not stop a run, of a strict command or another
+-- The next four definitions are of a strict command, `true`, or of another one, which has this name where they are used.
+abbrev pub when_lenient : Bool
+when_lenient = false
+
+-- the test that each line passes that does not stop a run
 abbrev pub passing : Bool → ℕ → Settings → Option Stamped → Bool
 passing true limit settings = announces_within limit settings
 passing false limit settings = takes_all
