@@ -89,12 +89,14 @@ told_of_lines script settings meanings = told script.of_frame (trace settings me
 -- all that is told of a log whose lines mean this, that at the end too
 abbrev pub whole_of_lines : Script → ℕ → Settings → List ℕ → List (Option Stamped) → List ℕ
 whole_of_lines script limit settings log meanings =
-    told script.of_frame (trace settings meanings) ++ script.at_the_end (trace settings meanings) (summary_of limit settings log meanings)
+    told script.of_frame (trace settings meanings)
+    ++ script.at_the_end (trace settings meanings) (summary_of limit settings log meanings)
 
 -- what is told of a refusal for this reason, after lines that mean this; the counts are those of a log without a last
 -- line feed
 abbrev pub refusal_of_lines : RefusalText → ℕ → Settings → Fault → List (Option Stamped) → List ℕ
-refusal_of_lines refusal limit settings why meanings = refusal (trace settings meanings) (summary_of limit settings [] meanings) why
+refusal_of_lines refusal limit settings why meanings =
+    refusal (trace settings meanings) (summary_of limit settings [] meanings) why
 
 -- all that is told of a log that is refused for this reason, after lines that mean this
 abbrev pub told_and_refusal_of_lines : Script → RefusalText → ℕ → Settings → Fault → List (Option Stamped) → List ℕ

@@ -23,10 +23,12 @@ pub record IsEventOf (T : List Entry) (e : Entry) (at_line at_micros : ℕ) (sen
 -- This was judged of what came behind the messages M: of the one message that did, or none where no message came.
 abbrev pub IsJudgmentOf : List Message → List Message → Option Judged → Type 0
 IsJudgmentOf M came None = came ≡ []
-IsJudgmentOf M came (Some judged) = (came ≡ sent judged ∷ []) × IsJudgedAfter M judged × (judged.item_number ≡ number_after M (sent judged))
+IsJudgmentOf M came (Some judged) =
+    (came ≡ sent judged ∷ []) × IsJudgedAfter M judged × (judged.item_number ≡ number_after M (sent judged))
 
 -- This is seen of the frame e after the frames T: what it did, and the message that it completed, if it completed one,
 -- as it is judged behind those before.
 pub record IsSeen (T : List Entry) (e : Entry) (seen : Seen) : Type 0 where
   pub event : IsEventOf T e seen.line seen.micros seen.dir seen.event
-  pub message : IsJudgmentOf (messages MESSAGE_LIMIT T) (told_message seen.dir (seen_event seen.event).verdict) seen.message
+  pub message :
+      IsJudgmentOf (messages MESSAGE_LIMIT T) (told_message seen.dir (seen_event seen.event).verdict) seen.message

@@ -38,7 +38,8 @@ is_told Read = false
 is_told Write = false
 is_told Memory = false
 
--- The next four definitions are of a strict command, `true`, or of another one, which has this name where they are used.
+-- The next four definitions are of a strict command, `true`, or of another one, which has this name where they are
+-- used.
 abbrev pub when_lenient : Bool
 when_lenient = false
 
