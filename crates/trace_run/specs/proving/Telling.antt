@@ -103,30 +103,38 @@ module _ {M W : Type 0} (stands : M → List Entry → M → Type 0) (scripts : 
   abbrev pub HasTaken : Receiver M W × W → List (Option Stamped) → Receiver M W × W → Type 0
   HasTaken before meanings now =
       HasReceived stands target before.0 before.1 meanings now.0
-      (HasTold stands scripts target before.1 before.0.telling.machine (trace before.0.config meanings) now.0.telling now.1)
+      (HasTold stands scripts target before.1 before.0.telling.machine (trace before.0.config meanings)
+      now.0.telling now.1)
 
   -- the same, and all that was told of them is written
   abbrev pub HasRested : Receiver M W × W → List (Option Stamped) → Receiver M W × W → Type 0
   HasRested before meanings now =
       HasReceived stands target before.0 before.1 meanings now.0
-      (HasToldAndWritten stands scripts target before.1 before.0.telling.machine (trace before.0.config meanings) now.0.telling false now.1)
+      (HasToldAndWritten stands scripts target before.1 before.0.telling.machine (trace before.0.config meanings)
+      now.0.telling false now.1)
 
   -- the same, and writing failed
   abbrev pub HasBroken : Receiver M W × W → List (Option Stamped) → Receiver M W × W → Type 0
   HasBroken before meanings now =
       HasReceived stands target before.0 before.1 meanings now.0
-      (HasToldAndWritten stands scripts target before.1 before.0.telling.machine (trace before.0.config meanings) now.0.telling true now.1)
+      (HasToldAndWritten stands scripts target before.1 before.0.telling.machine (trace before.0.config meanings)
+      now.0.telling true now.1)
 
   -- at least what is told of these lines, the first that were taken, is written
   abbrev pub IsSureOf : Receiver M W × W → List (Option Stamped) → Receiver M W × W → Type 0
   IsSureOf before earlier now =
-      IsStart before.0.pair before.0.lines before.0.counts → HasToldNothing stands before.0.telling → target.failures before.1 ≤ 2 ^ 62
-      → HasWrittenAtLeast scripts target before.1 before.0.telling.machine (trace before.0.config earlier) now.0.telling now.1
+      IsStart before.0.pair before.0.lines before.0.counts → HasToldNothing stands before.0.telling
+      → target.failures before.1 ≤ 2 ^ 62
+      → HasWrittenAtLeast scripts target before.1 before.0.telling.machine (trace before.0.config earlier)
+      now.0.telling now.1
 
   -- the lines were taken, and the run stopped at the next, which means `what` and has a frame of a side
-  abbrev pub HasStoppedAt : (M → List Entry → Entry → Type 0) → Receiver M W × W → List (Option Stamped) → Option Stamped → Fault → Receiver M W × W → Type 0
+  abbrev pub HasStoppedAt : (M → List Entry → Entry → Type 0) → Receiver M W × W → List (Option Stamped)
+      → Option Stamped → Fault → Receiver M W × W → Type 0
   HasStoppedAt needs before meanings what fault now =
       IsStart before.0.pair before.0.lines before.0.counts
-      → (stamped : Stamped) × (d : Dir) × (what ≡ Some stamped) × (Some d ≡ direction_of before.0.config stamped.frame.id)
+      → (stamped : Stamped) × (d : Dir) × (what ≡ Some stamped)
+      × (Some d ≡ direction_of before.0.config stamped.frame.id)
       × (HasToldNothing stands before.0.telling → target.failures before.1 ≤ 2 ^ 62
-      → HasStopped scripts needs target before.1 before.0.telling.machine (trace before.0.config meanings) (entry_in meanings stamped d) fault now.0.telling now.1)
+      → HasStopped scripts needs target before.1 before.0.telling.machine (trace before.0.config meanings)
+      (entry_in meanings stamped d) fault now.0.telling now.1)
