@@ -13,7 +13,7 @@ use Rattle.uds_exchange.specs.ItemSink.{PutsItems}
 use Rattle.uds_exchange.specs.Meaning.{ItemValue, meaning}
 use Rattle.uds_exchange.specs.Judging.{one_more, sent}
 use Rattle.uds_exchange.specs.declared.judge.Judged.{Judged}
-use Rattle.trace_run.specs.Seen.{CompletesJudged}
+use Rattle.trace_run.specs.proving.Completing.{CompletesJudged}
 use Rattle.uds_exchange.proofs.Promises.{decided_grows, decided_then_undecided, items_are_few, none_is_lost}
 use Rattle.trace_text.specs.ItemLines.{item_line, list_text, list_text_from}
 use Rattle.trace_log.specs.Messages.{meaning_of_lines}

@@ -1,6 +1,6 @@
 -- Which identifiers ask in a log and which answer them, whatever identifiers it has: what is answered, and what is then
 -- written. No length that is announced refuses a log, and of the settings the limit alone counts.
-use Rattle.std.specs.Prelude.{◌≡◌, ℕ, List, [], ◌∷◌, ◌++◌, length, codes, false, Option, Some, None, Result, Ok, Err}
+use Rattle.std.specs.Prelude.{◌≡◌, ℕ, List, [], ◌∷◌, ◌++◌, length, codes, Option, Some, None, Result, Ok, Err}
 use Rattle.std.specs.Fmt.{decimal}
 use Rattle.std.specs.List.{flat_map}
 use Rattle.can_log.specs.Frame.{FrameValue}
@@ -22,7 +22,7 @@ use Rattle.trace_io.specs.declared.device.Source.{Ghosts as SourceGhosts}
 use Rattle.trace_io.specs.declared.device.Target.{Ghosts as TargetGhosts}
 use Rattle.trace_log.specs.Settings.{Settings}
 use Rattle.trace_log.specs.Summing.{counted_in, ends_in_line_feed}
-use Rattle.trace_run.specs.Told.{IsUnreadFor}
+use Rattle.trace_run.specs.Told.{IsUnreadFor, when_lenient}
 use Rattle.uds_find.specs.Credit.{HasCredit}
 use Rattle.uds_find.specs.Finding.{AreCreditLines}
 use Rattle.uds_find.specs.declared.pair.CreditLine.{CreditLine}
@@ -51,7 +51,7 @@ IsFoundIn settings log pairs summary =
 
 -- why the log can't be read, where the fault tells that
 abbrev pub IsUnheardFor : Settings → List ℕ → Fault → Type 0
-IsUnheardFor settings log fault = IsUnreadFor false MESSAGE_LIMIT settings log fault
+IsUnheardFor settings log fault = IsUnreadFor when_lenient MESSAGE_LIMIT settings log fault
 
 -- the credits of a log and its counts, or why it can't be read
 abbrev pub GivesFound : Settings → List ℕ → Result Found Fault → Type 0

@@ -1,5 +1,5 @@
 -- What is answered of a log that lies in memory. No device fails there: what has no answer is refused, or memory was.
-use Rattle.std.specs.Prelude.{◌≡◌, ◌≢◌, ◌⊎◌, ◌<◌, ⊤, ℕ, false, List, length, Option, Result, Ok, Err}
+use Rattle.std.specs.Prelude.{◌≡◌, ◌≢◌, ◌⊎◌, ◌<◌, ⊤, ℕ, List, length, Option, Result, Ok, Err}
 use Rattle.can_log.specs.declared.frame.Stamped.{Stamped}
 use Rattle.uds_exchange.specs.Meaning.{ItemValue}
 use Rattle.trace_canon.specs.declared.comparing.Compared.{Compared}
@@ -26,7 +26,7 @@ use Rattle.trace_canon.specs.MessageLines.{placing_script}
 use Rattle.trace_log.specs.Settings.{Settings}
 use Rattle.trace_log.specs.Summing.{summary_of}
 use Rattle.trace_run.specs.Script.{Script, told_of_lines, whole_of_lines}
-use Rattle.trace_run.specs.Told.{IsUnreadFor}
+use Rattle.trace_run.specs.Told.{IsUnreadFor, when_lenient}
 use Rattle.uds_find.specs.declared.pair.CreditLine.{CreditLine}
 
 -- The fault is not that of a device, and refused memory only where some is needed.
@@ -44,7 +44,7 @@ IsRefused NeedsMemory limit settings log fault =
 -- refuses it
 abbrev pub IsUnread : (ℕ → Settings → List ℕ → Type 0) → ℕ → Settings → List ℕ → Fault → Type 0
 IsUnread NeedsMemory limit settings log fault =
-    IsUnreadFor false limit settings log fault × IsOfMemory (NeedsMemory limit settings log) fault
+    IsUnreadFor when_lenient limit settings log fault × IsOfMemory (NeedsMemory limit settings log) fault
 
 -- the log is accepted, and these are its canonical log and its counts
 abbrev pub IsCanonicalLogWith : ℕ → Settings → List ℕ → List ℕ → Summary → Type 0
