@@ -27,11 +27,11 @@ lines_due settings before now =
     text_from settings (progress_behind settings (early before))
     (all_frames MESSAGE_LIMIT (drop (length (early before)) (early now)))
 
--- the lines of the messages that are held of these
+-- the lines of those of these messages that are held
 abbrev pub lines_held : Settings → List Message → List ℕ
 lines_held settings M = text_from settings (progress_behind settings (early M)) (all_frames MESSAGE_LIMIT (held M))
 
--- of each frame the lines of what is due with it, and at the end of what is held
+-- of each frame the lines of the messages that are due with it, and at the end those of the messages that are held
 abbrev pub canonical_script : Settings → Script
 canonical_script settings = record {
   strict = true;
