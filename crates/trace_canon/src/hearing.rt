@@ -1,5 +1,6 @@
-//! The credit lines of a log, for [`find`](crate::find), which writes them. Every frame is heard, whatever its
-//! identifier: so this stands on the lines of a log, and no machine does it.
+//! The credit lines of a log, for [`find`](crate::find), which writes them. What is *heard* is every frame, whatever
+//! its identifier: so this stands on the lines of a log, and no machine does it. What is *found* at the end are the
+//! credit lines, and the counts of the log.
 ghost use Rattle.std.specs.Prelude.{◌≡◌, List, ℕ, [], length, IfErr, IfOk, Option};
 ghost use Rattle.can_log.specs.declared.frame.Stamped.{Stamped as StampedValue};
 ghost use Rattle.trace_canon.specs.Finding.{GivesFound, IsFoundOf, frames_in, reading_to_find, summary_of_lines};

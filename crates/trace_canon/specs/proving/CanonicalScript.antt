@@ -21,7 +21,7 @@ use Rattle.trace_canon.specs.proving.Writing.{ProgressValue, start_of, text_from
 abbrev pub progress_behind : Settings → List Message → ProgressValue
 progress_behind settings put = progress_after settings (start_of settings.max_bytes) (all_frames MESSAGE_LIMIT put)
 
--- the lines of the messages that are early of these, and were not of those
+-- the lines of the messages that are early now, after these messages, and were not before
 abbrev pub lines_due : Settings → List Message → List Message → List ℕ
 lines_due settings before now =
     text_from settings (progress_behind settings (early before))
