@@ -48,6 +48,7 @@ abbrev pub start_after_event : Dir → Dir → EventValue → FramePlace → Opt
 start_after_event d sender event here begun =
     start_after_verdict (same_direction d sender) event.verdict here (still_begun d event.ended begun)
 
--- where the message began that a frame completed: here, where no reception stood that it did not end
+-- where a message began that a frame completed: where its reception did, if one stood that the frame did not end, else
+-- here
 abbrev pub message_start : Dir → EventValue → FramePlace → Option FramePlace → FramePlace
 message_start sender event here begun = unwrap_or (still_begun sender event.ended begun) here

@@ -78,7 +78,7 @@ impl ReceptionStarts {
         }
     }
 
-    /// Takes what became of a frame, beside such an end.
+    /// Takes what became of a frame, apart from the reception that it ended.
     #[inline(always)]
     fn move_by(&mut self, here: FramePlace, dir: Dir, verdict: Verdict<'_>)
         ensures { (d : DirValue) → reception_start self.new d
@@ -92,7 +92,7 @@ impl ReceptionStarts {
         }
     }
 
-    /// Takes where the reception of a direction began, if one stands.
+    /// Keeps where the reception of a direction began, if one stands.
     #[inline(always)]
     fn set(&mut self, dir: Dir, begun: Option<FramePlace>)
         ensures { (d : DirValue) → reception_start self.new d
