@@ -84,7 +84,7 @@ credit_lines_text notation lines = flat_map (credit_line_text notation) lines
 -- be read.
 abbrev pub Finds : Notation → Settings → List ℕ → Result Summary Fault → List ℕ → List ℕ → Type 0
 Finds notation settings log =
-    WritesOnce (credit_lines_text notation) (IsFoundIn settings log) (IsUnreadFor false MESSAGE_LIMIT settings log)
+    WritesOnce (credit_lines_text notation) (IsFoundIn settings log) (IsUnreadFor when_lenient MESSAGE_LIMIT settings log)
 
 -- how a log is read for its credit lines: memory is needed where an answer is credited
 abbrev pub reading_to_find : Settings → WayOfReading
@@ -96,7 +96,7 @@ abbrev pub text_of_credit_lines : Notation → Settings → TextOfLog (List Cred
 text_of_credit_lines notation settings = record {
   text = credit_lines_text notation;
   gives = IsFoundIn settings;
-  lacks = IsUnreadFor false MESSAGE_LIMIT settings;
+  lacks = IsUnreadFor when_lenient MESSAGE_LIMIT settings;
   reading = reading_to_find settings;
 }
 

@@ -122,7 +122,7 @@ impl<M: Machine, W: Target> Receiver<M, W> {
         ensures told { (T : List Entry) → self.old.pair.receptions ≡ receptions_after MESSAGE_LIMIT T → length T < 2 ^ 62
             → TellsFrame M.stands M.script M.needs W.Target T (entry_at line stamped.now dir) self.old.telling target.old result self.new.telling target.new }
     {
-        // A `match`, here and in `Telling::take`: with `?` the two once cost 25 instructions a line.
+        // A `match`, here and in `Telling::take`: `?` in both cost 23 to 27 instructions a line (docs/PERF.md).
         match self.pair.accept(line, stamped.micros, dir, &stamped.frame) {
             Ok(event) => {
                 let frame = FrameEvent {
