@@ -365,7 +365,7 @@ TAKEN_AWAY = [
     ("a record has a field less", "trace_log/specs/Laws.antt", r"  pub own : .*\n", ""),
     ("a definition far below says less", "isotp_receive/specs/StandingReception.antt", r"nat_le micros \(standing.reference \+ n_cr\)", "true"),
     ("the record of runs has a field less", "trace_run/specs/Told.antt", r"  pub eager : .*\n.*\n", ""),
-    ("the record of runs says less", "trace_run/specs/Told.antt", r"(pub eager : .*\n.*) → TellsEagerly .*", r"\1 → ⊤"),
+    ("the record of runs says less", "trace_run/specs/Told.antt", r"(pub eager : .*) → TellsEagerly .*\n.*", r"\1 → ⊤"),
     ("a law beyond the headline is deleted", "uds_exchange/src/laws.rt", r"pub fn held_must_wait\(\)\n.*\n\{\}", ""),
     ("a run over a log may tell nothing as it comes", "udsnorm/specs/Run.antt", r"  pub eager : .*\n.*\n", ""),
     ("a run over a log may have any status", "udsnorm/specs/Run.antt", r"  pub status_is : status ≡ status_of_run strict outcome\n", ""),
@@ -461,11 +461,11 @@ def laws_in(cell):
 
 
 # A crate in which two files define one name, and of which laws are made: definitions that cite each other, that have parameters in common,
-# a case, and an operator, whose equation begins with the name of another definition.
+# on two lines, a case, and an operator, whose equation begins with the name of another definition.
 MADE = {
     "Left.antt": "pub same : ℕ\nsame = part\n\npart : ℕ\npart = 1\n",
     "Right.antt": "pub same : ℕ\nsame = other\n\nabbrev mutual\n  pub other : ℕ\n  other = 2\n",
-    "Parts.antt": "module _ (limit : ℕ) where\n  pub Within : ℕ → Type 0\n  Within n = n ≤ rank one\n\npub data Kind : Type 0 where\n  one : Kind\n\n"
+    "Parts.antt": "module _ (limit : ℕ)\n    (most : ℕ) where\n  pub Within : ℕ → Type 0\n  Within n = n ≤ rank one\n\npub data Kind : Type 0 where\n  one : Kind\n\n"
     "rank : Kind → ℕ\nrank one = 1\n\ninfixl 10 ◌><◌\nabbrev pub ◌><◌ : ℕ → ℕ → ℕ\nrank >< limit = limit\n",
     "Laws.antt": "use Rattle.made.specs.Left.{same}\nuse Rattle.made.specs.Right as right\nuse Rattle.made.specs.Parts.{◌><◌, Within}\n\n"
     "pub One : Type 0\nOne = same ≡ 1\n\npub Two : Type 0\nTwo = right.same ≡ 2\n\npub Three : Type 0\nThree = Within 1 2\n\npub Four : Type 0\nFour = 1 >< 2\n",

@@ -28,6 +28,8 @@ BEGINS = re.compile(rf"(?:(?:abbrev|unfoldable|pub|record|data) )+({NAME})(?= |$
 OF_NONE = re.compile(r"(?:use|pub mod|infix[lr]?|open) ")
 USES = re.compile(rf"^ *(?:ghost )?use ((?:\w+\.)+?\w+)(?:\.\{{([^}}]*)\}}| as ({NAME}))?;?$", re.M)
 TOGETHER = re.compile(r"(?:abbrev )?mutual$|(module _ .*where)$")
+# The parameters that stand on a second line.
+MORE_PARAMETERS = re.compile(r"^(module _ .*(?<!where))\n +(.*where)$", re.M)
 CASE = re.compile(rf"^  ({NAME}) :", re.M)
 
 # Where names are bound: with their type, by a λ, by `let`, as fields of a record or cases, as fields of a value or arguments that are
@@ -72,7 +74,7 @@ def used_in(text):
 def definitions_in(text):
     """The definitions of a file by their names, each with its equations, and with the parameters that it has in common with others."""
     texts, name, above = {}, None, None
-    for line in text.splitlines():
+    for line in MORE_PARAMETERS.sub(r"\1 \2", text).splitlines():
         if line.lstrip().startswith("--"):
             continue
         together = TOGETHER.match(line)

@@ -10,7 +10,7 @@ use Rattle.isotp_segment.specs.Timed.{all_frames}
 use Rattle.uds_exchange.specs.Order.{early}
 use Rattle.uds_exchange.specs.Judging.{sent}
 use Rattle.uds_exchange.specs.declared.judge.Judged.{Judged}
-use Rattle.trace_run.specs.Seen.{CompletesJudged}
+use Rattle.trace_run.specs.proving.Completing.{CompletesJudged}
 use Rattle.uds_exchange.specs.Orderer.{IsHeld, JudgedOrdererValue, judged_orderer_after}
 use Rattle.trace_canon.specs.MemoryNeeded.{CompletesMessage, CompletesHeld}
 use Rattle.trace_canon.specs.proving.CanonicalScript.{progress_behind, lines_due, StandsCanonical}

@@ -11,9 +11,9 @@ in_order : (a b c d e f g : List ℕ) → a ++ b ++ c ++ d ++ e ++ f ++ g ≡ a 
 in_order a b c d e f g = simp append_assoc
 
 -- as an object
-pub object_is : (pair : CreditLine) (notation : Notation) (tester unit : List ℕ) → notation ≡ Json → tester ≡ pair.tester.items → unit ≡ pair.unit.items
-    → codes "{\"credits\":" ++ decimal pair.credits ++ codes ",\"tester\":\"" ++ tester ++ codes "\",\"unit\":\"" ++ unit ++ codes "\"}\n"
-    ≡ credit_line_text notation pair
-object_is pair notation tester unit is tester_is unit_is =
-    in_order (codes "{\"credits\":") (decimal pair.credits) (codes ",\"tester\":\"") tester (codes "\",\"unit\":\"") unit (codes "\"}\n")
-    ∙ rw (is, tester_is, unit_is) (sym (line_is (credit_object pair)))
+pub object_is : (line : CreditLine) (notation : Notation) (tester unit : List ℕ) → notation ≡ Json → tester ≡ line.tester.items → unit ≡ line.unit.items
+    → codes "{\"credits\":" ++ decimal line.credits ++ codes ",\"tester\":\"" ++ tester ++ codes "\",\"unit\":\"" ++ unit ++ codes "\"}\n"
+    ≡ credit_line_text notation line
+object_is line notation tester unit is tester_is unit_is =
+    in_order (codes "{\"credits\":") (decimal line.credits) (codes ",\"tester\":\"") tester (codes "\",\"unit\":\"") unit (codes "\"}\n")
+    ∙ rw (is, tester_is, unit_is) (sym (line_is (credit_object line)))

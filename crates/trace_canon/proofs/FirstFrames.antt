@@ -9,7 +9,7 @@ use Rattle.isotp_receive.specs.OnTime.{IsOnTime}
 use Rattle.isotp_receive.specs.OpenReception.{LeavesOpen}
 use Rattle.isotp_receive.proofs.Promises.{get-here, get-left}
 use Rattle.trace_canon.specs.MessageLines.{starts, last_start}
-use Rattle.trace_canon.specs.PlaceLaws.{BeginsWithItsReception, BeginsWithItsFrame}
+use Rattle.trace_canon.specs.Laws.{BeginsWithItsReception, BeginsWithItsFrame}
 use Rattle.trace_canon.proofs.MessagePlaces.{last_start_more}
 
 -- where no frame starts a message, the last start is the one before

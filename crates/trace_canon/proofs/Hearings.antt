@@ -1,18 +1,20 @@
 -- What was heard of the lines of a log, and what is answered of it.
-use Rattle.std.proofs.Common.{◌≡◌, ◌≢◌, ℕ, ◌+◌, ◌^◌, ◌<◌, ◌≤◌, Bool, List, [], ◌∷◌, ◌++◌, length, take, drop, arith, refl, ap, sym, subst, ◌∙◌, Option, Some, None, Result, Ok, Err, inl, inr, append-nil, length-append, length-take}
+use Rattle.std.proofs.Common.{◌≡◌, ◌≢◌, ℕ, ◌+◌, ◌^◌, ◌<◌, ◌≤◌, Bool, false, List, [], ◌∷◌, ◌++◌, length, take, drop, arith, refl, ap, sym, subst, ◌∙◌, Option, Some, None, Result, Ok, Err, inl, inr, append-nil, length-append, length-take}
 use Rattle.std.proofs.lemmas.List.{take-append-drop}
 use Rattle.std.specs.Prelude.{IfOk, IfErr}
 use Rattle.can_log.specs.Frame.{FrameValue}
 use Rattle.can_log.specs.Log.{LogMeans}
 use Rattle.can_log.specs.declared.frame.Stamped.{Stamped}
+use Rattle.isotp_receive.specs.declared.TheConstants.{MESSAGE_LIMIT}
 use Rattle.trace_log.specs.declared.fault.Fault.{Fault}
 use Rattle.trace_log.specs.declared.fault.Fault.TheVariants as fault
 use Rattle.trace_canon.specs.declared.hearing.Found.{Found}
 use Rattle.trace_canon.specs.declared.hearing.Hearing.{Hearing}
-use Rattle.trace_canon.specs.Finding.{frames_in, GivesFound, IsFoundOf, IsUnheardFor, NeedsMemoryToFind}
+use Rattle.trace_canon.specs.Finding.{frames_in, GivesFound, IsFoundOf, NeedsMemoryToFind}
 use Rattle.trace_log.specs.Settings.{Settings}
 use Rattle.trace_log.specs.Feeding.{FeedsLog, FeedsSome, Took, Stopped, StopsWithin}
 use Rattle.trace_canon.specs.proving.Hearing.{HasHeard}
+use Rattle.trace_run.specs.Told.{IsUnreadFor}
 use Rattle.uds_find.specs.Credit.{HasCredit, IsFirstCredit}
 use Rattle.uds_find.specs.Finding.{FinderValue, StandsAfter}
 use Rattle.uds_find.proofs.Promises.{first_credit_is_credit}
@@ -82,7 +84,7 @@ StoppedHeard s meanings what why t = HasHeard [] s.0.finder s.0.lines → (why �
 
 module _ (settings : Settings) (log : List ℕ) (given : ℕ) (start now : Heard) (begun : HasHeard [] start.0.finder start.0.lines) where
   -- why it was not read to its end
-  pub heard_fault : (m : ℕ) (why : Fault) → m ≡ settings.max_bytes → FeedsLog TookHeard TookHeard BrokeHeard StoppedHeard start m log given (Err why) now → IsUnheardFor settings log why
+  pub heard_fault : (m : ℕ) (why : Fault) → m ≡ settings.max_bytes → FeedsLog TookHeard TookHeard BrokeHeard StoppedHeard start m log given (Err why) now → IsUnreadFor false MESSAGE_LIMIT settings log why
   heard_fault m (fault.BadLine line column) is (meanings, taken, inl (few, refuses)) =
       bad_counts settings log line column meanings given (bad_in_front log given line column meanings refuses) (omega (arith, is, few))
   heard_fault m (fault.BadLine line column) is (meanings, taken, inr (short, all, behind)) =
@@ -120,7 +122,7 @@ module _ (settings : Settings) (log : List ℕ) (meanings : List (Option Stamped
   pub heard_end : (result : Result Found Fault) → IfOk result (λ found. IsFoundOf log meanings found.credit_lines.items found.summary) → IfErr result (λ why. why ≡ fault.Memory)
       → GivesFound settings log result
   heard_end (Ok found) is none = (meanings, (short, means), is)
-  heard_end (Err why) none is = subst (IsUnheardFor settings log) (sym is) tt
+  heard_end (Err why) none is = subst (IsUnreadFor false MESSAGE_LIMIT settings log) (sym is) tt
 
   pub heard_end_need : (result : Result Found Fault) → IfErr result (λ why. HasCredit (frames_in meanings)) → result ≡ Err fault.Memory → NeedsMemoryToFind log
   heard_end_need (Ok found) needs is = absurd (cc is)

@@ -26,7 +26,8 @@ use Rattle.trace_canon.specs.MemoryNeeded.{NeedsMemoryToCollect, NeedsMemoryToOr
 use Rattle.trace_canon.specs.MessageLines.{placing_script}
 use Rattle.trace_canon.specs.WrittenAtEnd.{LeavesOnce, WritesOnce}
 use Rattle.trace_log.specs.Settings.{Settings}
-use Rattle.trace_run.specs.Script.{RefusalText, answers_counts, lenient, tells_no_refusal, told_of_lines, whole_of_lines}
+use Rattle.trace_run.specs.Script.{RefusalText, answers_counts, tells_no_refusal, told_of_lines, whole_of_lines}
+use Rattle.trace_run.specs.proving.Scripts.{lenient}
 use Rattle.trace_run.specs.Told.{IsUnreadFor, AnswersTold, FailsToTell}
 use Rattle.trace_run.proofs.Promises.{unread_for}
 use Rattle.trace_text.specs.declared.notation.Notation.{Notation}

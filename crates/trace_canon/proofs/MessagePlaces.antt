@@ -23,10 +23,9 @@ use Rattle.isotp_receive.proofs.Promises.{one_more, same-self, other-apart, apar
 use Rattle.trace_run.specs.Seen.{IsEventOf}
 use Rattle.trace_canon.specs.MemoryNeeded.{CompletesMessage}
 use Rattle.trace_canon.specs.MessageLines.{place_of, starts, last_start, first_frame}
-use Rattle.trace_canon.specs.ReceptionStarts.{AreStartsAfter, IsBegunAt, reception_start}
+use Rattle.trace_canon.specs.ReceptionStarts.{AreStartsAfter, IsBegunAt, reception_start, start_after_event, message_start}
 use Rattle.trace_canon.specs.declared.reception_starts.FramePlace.{FramePlace}
 use Rattle.trace_canon.specs.declared.reception_starts.ReceptionStarts.{ReceptionStarts}
-use Rattle.trace_canon.specs.proving.ReceptionStarts.{start_after_event, message_start}
 
 other : (d : Dir) → same_direction d (other_direction d) ≡ false
 other d = apart-flipped (other_direction d) d (other-apart d)

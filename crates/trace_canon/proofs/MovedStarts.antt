@@ -7,10 +7,9 @@ use Rattle.isotp_receive.specs.declared.TheConstants.{MESSAGE_LIMIT}
 use Rattle.isotp_receive.specs.declared.event.Reason.{Reason}
 use Rattle.isotp_receive.specs.Trace.{same_direction}
 use Rattle.isotp_receive.specs.Verdict.{message, began, stored, flowed, dropped}
-use Rattle.trace_canon.specs.ReceptionStarts.{AreStartsAfter, reception_start}
+use Rattle.trace_canon.specs.ReceptionStarts.{AreStartsAfter, reception_start, start_after_verdict}
 use Rattle.trace_canon.specs.declared.reception_starts.FramePlace.{FramePlace}
 use Rattle.trace_canon.specs.declared.reception_starts.ReceptionStarts.{ReceptionStarts}
-use Rattle.trace_canon.specs.proving.ReceptionStarts.{start_after_verdict}
 
 -- before the first frame none stands
 pub none_begun : AreStartsAfter MESSAGE_LIMIT [] (record { tester = None; unit = None })

@@ -9,7 +9,8 @@ use Rattle.isotp_receive.specs.Verdict.{VerdictValue, message, began, stored, fl
 use Rattle.uds_exchange.specs.Judging.{sent}
 use Rattle.uds_exchange.specs.declared.judge.Judged.{Judged}
 use Rattle.uds_exchange.specs.declared.step.Step.{Step}
-use Rattle.trace_run.specs.Seen.{CompletesJudged, IsSeen}
+use Rattle.trace_run.specs.Seen.{IsSeen}
+use Rattle.trace_run.specs.proving.Completing.{CompletesJudged}
 use Rattle.trace_run.specs.declared.machine.Seen.{Seen}
 use Rattle.trace_run.proofs.Promises.{tells_no_message}
 use Rattle.trace_text.specs.Json.{object_line}

@@ -9,7 +9,7 @@ use Rattle.trace_log.specs.CanonicalLog.{canonical_log_of_lines}
 use Rattle.trace_canon.specs.proving.SessionScript.{SessionIsTheSame, silent_script}
 use Rattle.trace_log.specs.Settings.{Settings}
 use Rattle.trace_log.specs.Summing.{summary_of}
-use Rattle.trace_run.specs.Script.{TellsNothing}
+use Rattle.trace_run.specs.proving.Scripts.{TellsNothing}
 use Rattle.uds_exchange.specs.Meaning.{ItemValue}
 
 -- it tells nothing

@@ -13,7 +13,7 @@ use Rattle.uds_exchange.specs.ItemSink.{PutsItems}
 use Rattle.uds_exchange.specs.Meaning.{ItemValue, meaning}
 use Rattle.uds_exchange.specs.Judging.{one_more, sent}
 use Rattle.uds_exchange.specs.declared.judge.Judged.{Judged}
-use Rattle.trace_run.specs.Seen.{CompletesJudged}
+use Rattle.trace_run.specs.proving.Completing.{CompletesJudged}
 use Rattle.uds_exchange.proofs.Promises.{decided_grows, decided_then_undecided, items_are_few, none_is_lost}
 use Rattle.trace_text.specs.ItemLines.{item_line, list_text, list_text_from}
 use Rattle.trace_log.specs.Messages.{meaning_of_lines}
@@ -23,7 +23,8 @@ use Rattle.trace_log.specs.Summing.{summary_of}
 use Rattle.trace_run.specs.Script.{answers_counts, tells_no_refusal, told_after}
 use Rattle.trace_run.specs.Told.{AnswersTold}
 use Rattle.trace_log.specs.Trace.{trace}
-use Rattle.trace_canon.specs.WatchScript.{decided_of, newly_decided, text_behind, watching_script, WatchTellsDecided, WatchTellsTheList, WritesTheList}
+use Rattle.trace_canon.specs.WatchScript.{decided_of, newly_decided, text_behind, watching_script, WritesTheList}
+use Rattle.trace_canon.specs.Laws.{WatchTellsDecided, WatchTellsTheList}
 use Rattle.trace_canon.specs.proving.Watching.{SaysLines, SaysDecided, WatchesItems}
 use Rattle.trace_log.specs.declared.fault.Fault.{Fault}
 use Rattle.trace_text.specs.declared.item_style.ItemStyle.{ItemStyle}

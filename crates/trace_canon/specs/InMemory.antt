@@ -1,5 +1,5 @@
 -- What is answered of a log that lies in memory. No device fails there: what has no answer is refused, or memory was.
-use Rattle.std.specs.Prelude.{◌≡◌, ◌≢◌, ◌⊎◌, ◌<◌, ⊤, ℕ, false, List, length, Option, Result, Ok, Err}
+use Rattle.std.specs.Prelude.{◌≡◌, ◌≢◌, ◌⊎◌, ◌<◌, ⊤, ℕ, List, length, Option, Result, Ok, Err}
 use Rattle.can_log.specs.declared.frame.Stamped.{Stamped}
 use Rattle.uds_exchange.specs.Meaning.{ItemValue}
 use Rattle.trace_canon.specs.declared.comparing.Compared.{Compared}
@@ -26,7 +26,7 @@ use Rattle.trace_canon.specs.MessageLines.{placing_script}
 use Rattle.trace_log.specs.Settings.{Settings}
 use Rattle.trace_log.specs.Summing.{summary_of}
 use Rattle.trace_run.specs.Script.{Script, told_of_lines, whole_of_lines}
-use Rattle.trace_run.specs.Told.{IsUnreadFor}
+use Rattle.trace_run.specs.Told.{IsUnreadFor, when_lenient}
 use Rattle.uds_find.specs.declared.pair.CreditLine.{CreditLine}
 
 -- The fault is not that of a device, and refused memory only where some is needed.
@@ -35,7 +35,8 @@ pub record IsOfMemory (NeedsMemory : Type 0) (fault : Fault) : Type 0 where
   pub no_write : fault ≢ Write
   pub memory : fault ≡ Memory → NeedsMemory
 
--- the log is refused for what the fault tells, or memory was refused, which it needs
+-- the log is refused for what the fault tells, or memory was refused, which it needs. Here and below a need is said of a
+-- limit, settings and a log, so that a clause tells these once and names its need by one word.
 abbrev pub IsRefused : (ℕ → Settings → List ℕ → Type 0) → ℕ → Settings → List ℕ → Fault → Type 0
 IsRefused NeedsMemory limit settings log fault =
     TellsOutcome limit settings log fault × IsOfMemory (NeedsMemory limit settings log) fault
@@ -44,7 +45,7 @@ IsRefused NeedsMemory limit settings log fault =
 -- refuses it
 abbrev pub IsUnread : (ℕ → Settings → List ℕ → Type 0) → ℕ → Settings → List ℕ → Fault → Type 0
 IsUnread NeedsMemory limit settings log fault =
-    IsUnreadFor false limit settings log fault × IsOfMemory (NeedsMemory limit settings log) fault
+    IsUnreadFor when_lenient limit settings log fault × IsOfMemory (NeedsMemory limit settings log) fault
 
 -- the log is accepted, and these are its canonical log and its counts
 abbrev pub IsCanonicalLogWith : ℕ → Settings → List ℕ → List ℕ → Summary → Type 0
@@ -70,10 +71,10 @@ IsPlacingWith notation limit = IsToldWith (placing_script notation limit) limit
 abbrev pub IsExplanationWith : Notation → ℕ → Settings → List ℕ → List ℕ → Summary → Type 0
 IsExplanationWith notation limit = IsToldWith (explain_script notation limit) limit
 
--- the log can be read and has these counts, and this has a line for each who answered another
+-- the log can be read and has these counts, and this is the text of its credit lines in this notation
 abbrev pub IsFindingWith : Notation → Settings → List ℕ → List ℕ → Summary → Type 0
 IsFindingWith notation settings log text summary =
-    (pairs : List CreditLine) × IsFoundIn settings log pairs summary × (text ≡ credit_lines_text notation pairs)
+    (lines : List CreditLine) × IsFoundIn settings log lines summary × (text ≡ credit_lines_text notation lines)
 
 -- there is a text of this kind, of one byte at least
 abbrev pub HasBytes : (List ℕ → Summary → Type 0) → Type 0
@@ -94,11 +95,11 @@ abbrev pub NeedsMemoryForPlacing : Notation → ℕ → Settings → List ℕ �
 NeedsMemoryForPlacing notation limit settings log =
     NeedsMemoryToReceive limit settings log ⊎ HasTextOf (told_of_lines (placing_script notation limit) settings) log
 
--- Memory is needed to gather what explains a log, for each has its counts.
+-- Memory is needed to gather what explains a log, whichever it is, for each has its counts.
 abbrev pub NeedsMemoryForExplanation : ℕ → Settings → List ℕ → Type 0
 NeedsMemoryForExplanation limit settings log = ⊤
 
--- Memory is needed to gather who answered whom: to read the log, or since it has such a line.
+-- Memory is needed to gather the credit lines: to read the log, or since it has one, whatever the limit of a message.
 abbrev pub NeedsMemoryForFinding : Notation → ℕ → Settings → List ℕ → Type 0
 NeedsMemoryForFinding notation limit settings log = NeedsMemoryToFind log ⊎ HasBytes (IsFindingWith notation settings log)
 
@@ -112,7 +113,7 @@ abbrev pub NeedsMemoryOnSide : ℕ → Settings → List ℕ → List ℕ → Co
 NeedsMemoryOnSide limit settings one other (Left fault) = NeedsMemoryToCollect limit settings one
 NeedsMemoryOnSide limit settings one other (Right fault) = NeedsMemoryToCollect limit settings other
 
--- what two logs are to each other, and the counts of each, without what they mean
+-- how two logs compare, and the counts of each: what they mean is left out
 abbrev pub counted_comparison : Compared → CountedComparison
 counted_comparison compared =
     record { comparison = compared.comparison; left = compared.left.summary; right = compared.right.summary }

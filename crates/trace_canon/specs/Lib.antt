@@ -3,7 +3,6 @@ pub mod ReadOnly
 pub mod WrittenAtEnd
 pub mod ExplainScript
 pub mod MessageLines
-pub mod PlaceLaws
 pub mod ReceptionStarts
 pub mod WatchScript
 pub mod Sessions
@@ -12,4 +11,5 @@ pub mod ComparisonText
 pub mod ItemText
 pub mod Finding
 pub mod InMemory
+pub mod Laws
 pub mod proving

@@ -1,5 +1,6 @@
 -- For which frames of a log a command needs memory, beyond those whose bytes are kept.
 use Rattle.std.specs.Prelude.{◌≡◌, ℕ, ◌⊎◌, List}
+use Rattle.direction.specs.Dir.{Message}
 use Rattle.isotp_receive.specs.Trace.{Entry}
 use Rattle.isotp_receive.specs.Verdict.{message, messages, verdict}
 use Rattle.uds_exchange.specs.Decider.{IsKept}
@@ -7,15 +8,18 @@ use Rattle.uds_exchange.specs.Orderer.{IsHeld}
 use Rattle.trace_log.specs.Settings.{Settings}
 use Rattle.trace_log.specs.Needing.{HasFrame, IsKeptForMessage}
 
+-- The frame completes a message which is such behind the messages so far.
+abbrev pub CompletesSuch : (List Message → Message → Type 0) → ℕ → List Entry → Entry → Type 0
+CompletesSuch IsSuch limit T e =
+    (bytes : List ℕ) × ((verdict limit T e).verdict ≡ message bytes) × IsSuch (messages limit T) (e.dir, bytes)
+
 -- The frame completes a message that is held: a stray behind a request that waits for its answer.
 abbrev pub CompletesHeld : ℕ → List Entry → Entry → Type 0
-CompletesHeld limit T e =
-    (bytes : List ℕ) × ((verdict limit T e).verdict ≡ message bytes) × IsHeld (messages limit T) (e.dir, bytes)
+CompletesHeld limit T e = CompletesSuch IsHeld limit T e
 
 -- The frame completes a message that is kept: a request, or a stray behind a request that waits for its answer.
 abbrev pub CompletesKept : ℕ → List Entry → Entry → Type 0
-CompletesKept limit T e =
-    (bytes : List ℕ) × ((verdict limit T e).verdict ≡ message bytes) × IsKept (messages limit T) (e.dir, bytes)
+CompletesKept limit T e = CompletesSuch IsKept limit T e
 
 -- The frame completes a message.
 abbrev pub CompletesMessage : ℕ → List Entry → Entry → Type 0

@@ -29,7 +29,7 @@ extent_text start end =
 
 -- A message that is delivered, with its place.
 pub record PlacedMessage : Type 0 where
-  -- the number of its item, and what it is to that
+  -- the number of its item, and its step, which is its role in that item
   pub number : ℕ
   pub step : Step
   -- who sent it, and its bytes

@@ -7,10 +7,8 @@ use Rattle.uds_exchange.specs.Meaning.{ItemValue}
 use Rattle.trace_text.specs.ItemLines.{list_text, list_text_from}
 use Rattle.trace_log.specs.Messages.{HasMeaning}
 use Rattle.trace_log.specs.Settings.{Settings}
-use Rattle.trace_run.specs.Script.{Script, told}
-use Rattle.trace_canon.specs.Sessions.{items_of_trace}
+use Rattle.trace_run.specs.Script.{Script}
 use Rattle.trace_text.specs.declared.item_style.ItemStyle.{ItemStyle}
-use Rattle.trace_log.specs.declared.summary.Summary.{Summary}
 
 -- the items that the frames of a trace decide
 abbrev pub decided_of : ℕ → List Entry → List ItemValue
@@ -31,17 +29,6 @@ watching_script style limit = record {
   of_frame = λ T e. text_behind style limit T (newly_decided limit T e);
   at_the_end = λ T summary. text_behind style limit T (undecided (messages limit T));
 }
-
--- what is told of the frames of a trace is the list of the items that they decide
-abbrev pub WatchTellsDecided : Type 0
-WatchTellsDecided = (style : ItemStyle) (limit : ℕ) (T : List Entry)
-    → told ((watching_script style limit).of_frame) T ≡ list_text style (decided_of limit T)
-
--- what is told of the frames of a trace and at its end is the list of its meaning
-abbrev pub WatchTellsTheList : Type 0
-WatchTellsTheList = (style : ItemStyle) (limit : ℕ) (T : List Entry) (summary : Summary)
-    → told ((watching_script style limit).of_frame) T ++ (watching_script style limit).at_the_end T summary
-    ≡ list_text style (items_of_trace limit T)
 
 -- the log is legal, and the list of its meaning was written
 abbrev pub WritesTheList : ItemStyle → ℕ → Settings → List ℕ → List ℕ → List ℕ → Type 0

@@ -80,8 +80,8 @@ pub(crate) fn say_held<S: TextSink>(
     let _ = orderer.finish(&mut sink);
 }
 
-/// Says the canonical lines of each message that is put, as far as they are within the limit. What it calls takes its
-/// parts one by one: so a frame's line is said without a look through the sink.
+/// Says the canonical lines of each message that is put, as far as they are within the limit. It hands its parts one by
+/// one to what it calls: so a frame's line is said without a look through the sink.
 #[derive(Drop)]
 pub(crate) struct CanonicalSink<'a, S> {
     pub out: &'a mut S,

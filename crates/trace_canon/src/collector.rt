@@ -1,8 +1,8 @@
 //! What a log means, with its counts: a machine that says nothing, and collects the items. `list` and `compare` stand
 //! on it.
 //!
-//! It lets go of all that it holds once the canonical log is certainly longer than the limit, and takes no more: what
-//! refuses the log earlier may still come, and is told first.
+//! Once the canonical log is certainly longer than the limit, it lets go of all that it holds and takes no more. It
+//! reads on, since a later line may still refuse the log, and that refusal is what is told.
 ghost use Rattle.std.specs.Prelude.{◌≡◌};
 ghost use Rattle.isotp_receive.specs.declared.TheConstants.{MESSAGE_LIMIT};
 ghost use Rattle.trace_canon.specs.proving.SessionScript.{has_place};
@@ -170,7 +170,7 @@ impl Collector {
     }
 }
 
-/// Whether a message of which this becomes has a place in the meaning.
+/// Whether a message with this step has a place in the meaning.
 fn has_place(step: Step) -> bool
     ensures { result ≡ has_place step }
 {

@@ -1,4 +1,4 @@
-//! The lines of who answered whom in a log, said line by line.
+//! The text of credit lines, said line by line.
 ghost use Rattle.trace_canon.specs.Finding.{credit_line_text, credit_lines_text};
 
 use text_parts::say;
@@ -6,7 +6,7 @@ use trace_io::TextSink;
 use trace_text::{Notation, Number, Verbatim};
 use uds_find::CreditLine;
 
-/// Says each line, in order.
+/// Says each credit line, in order.
 pub(crate) fn say_credit_lines<S: TextSink>(lines: &[CreditLine], notation: Notation, out: &mut S)
     ensures { S.says out.old (credit_lines_text notation lines.now) out.new }
 {
@@ -15,7 +15,7 @@ pub(crate) fn say_credit_lines<S: TextSink>(lines: &[CreditLine], notation: Nota
     }
 }
 
-/// Says the line of who answered whom, and how often.
+/// Says one credit line.
 fn say_credit_line<S: TextSink>(line: &CreditLine, notation: Notation, out: &mut S)
     ensures { S.says out.old (credit_line_text notation line.now) out.new }
 {

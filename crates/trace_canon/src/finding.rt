@@ -1,4 +1,8 @@
-//! `find`: the pairs of identifiers that ask and answer, written once the log has ended.
+//! `find`: the credit lines of a log, written once it has ended.
+//!
+//! An answer is credited to the identifier that last asked for its service. A *credit line* is a pair of identifiers,
+//! one that asks and one that answers it, with the number of the answers so credited. `hearing` reads the log and gives
+//! its credit lines, `credit_lines` has their text, and here the one is joined to the other.
 ghost use Rattle.trace_canon.specs.Finding.{RanToFind};
 ghost use Rattle.trace_io.specs.Counted.{IsLowCount};
 ghost use Rattle.trace_log.specs.Devices.{HasLowCounts};
@@ -13,8 +17,8 @@ use trace_run::print;
 use trace_text::Notation;
 use uds_find::CreditLine;
 
-/// Reads a log, and then writes a line for each pair of identifiers of which one answered the other, in this notation.
-/// Of the configuration the limit alone counts.
+/// Reads a log, and then writes its credit lines in this notation: one for each pair of identifiers of which one
+/// answered the other. Of the configuration the limit alone counts.
 ///
 /// The target is not flushed.
 pub fn find<R: Source, W: Target>(
@@ -38,7 +42,7 @@ pub fn find<R: Source, W: Target>(
     Ok(found.summary)
 }
 
-/// The lines of who answered whom, in order, in a notation.
+/// The text of credit lines, in order, in a notation.
 #[derive(Clone, Copy)]
 struct CreditLines<'a> {
     lines: &'a Vec<CreditLine>,

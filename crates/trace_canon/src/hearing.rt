@@ -1,5 +1,6 @@
-//! Which identifiers of a log ask, and which answer them. Every frame is heard, whatever its identifier: so this stands
-//! on the lines of a log, and no machine does it.
+//! The credit lines of a log, for [`find`](crate::find), which writes them. What is *heard* is every frame, whatever
+//! its identifier: so this stands on the lines of a log, and no machine does it. What is *found* at the end are the
+//! credit lines, and the counts of the log.
 ghost use Rattle.std.specs.Prelude.{◌≡◌, List, ℕ, [], length, IfErr, IfOk, Option};
 ghost use Rattle.can_log.specs.declared.frame.Stamped.{Stamped as StampedValue};
 ghost use Rattle.trace_canon.specs.Finding.{GivesFound, IsFoundOf, frames_in, reading_to_find, summary_of_lines};
@@ -15,14 +16,14 @@ use trace_io::Source;
 use trace_log::{Config, Fault, LineTaker, Summary, feed_lines};
 use uds_find::{CreditLine, Finder};
 
-/// Who answered whom in a log, in the order of the lines that say so, and what was counted in it.
+/// The credit lines of a log, in their order, and what was counted in it.
 #[derive(Debug, Drop)]
 pub(crate) struct Found {
     pub credit_lines: Vec<CreditLine>,
     pub summary: Summary,
 }
 
-/// Reads a log, and gives who answered whom in it.
+/// Reads a log, and gives its credit lines and its counts.
 pub(crate) fn found_in<R: Source>(
     alloc: Global,
     config: &Config,
@@ -54,7 +55,7 @@ impl Hearing {
         }
     }
 
-    /// The lines of all that was heard. The log ended in a line feed, or not.
+    /// The credit lines of all that was heard. The log ended in a line feed, or not.
     fn finish(self, alloc: Global, ends_in_line_feed: bool) -> Result<Found, Fault>
         ensures found { IfOk result (λ found. (log : List ℕ) (meanings : List (Option StampedValue))
             → HasHeard meanings self.finder self.lines

@@ -28,7 +28,7 @@ pub struct CountedText {
     pub summary: Summary,
 }
 
-/// What two logs are to each other, and the counts of each.
+/// How two logs compare, and the counts of each.
 #[derive(Clone, Copy, Debug, PartialEq, Eq)]
 pub struct CountedComparison {
     pub comparison: Comparison,
@@ -102,7 +102,7 @@ pub fn explanation(
     counted_text(answer, writer.into_inner())
 }
 
-/// The lines of a log's pairs, as [`find`](crate::find) writes them.
+/// The credit lines of a log, as [`find`](crate::find) writes them.
 pub fn credit_lines(
     alloc: Global,
     config: &Config,
@@ -118,7 +118,7 @@ pub fn credit_lines(
     counted_text(answer, writer.into_inner())
 }
 
-/// What two logs are to each other, as [`compare`](crate::compare) answers it.
+/// How two logs compare, as [`compare`](crate::compare) answers it.
 pub fn comparison(
     alloc: Global,
     config: &Config,
@@ -131,7 +131,7 @@ pub fn comparison(
     Ok(counted_comparison(&compared))
 }
 
-/// What two logs are to each other, without what they mean.
+/// How two logs compare, and the counts of each: what they mean is left out.
 fn counted_comparison(compared: &Compared) -> CountedComparison
     ensures { result ≡ Spec.counted_comparison compared.now }
 {

@@ -30,21 +30,25 @@
 //! |---|---|---|
 //! | [`normalise`] | `normaliser`, `canonical_sink`, `progress`, `length` | `Answers`, `Outcome`, `CanonicalLog` of `trace_log` |
 //! | [`explain`] | `explainer` | `ExplainScript` |
-//! | [`messages`] | `placer`, `reception_starts`, `message_objects`, `message_parts` | `MessageLines`, `PlaceLaws`, `ReceptionStarts` |
+//! | [`messages`] | `placer`, `reception_starts`, `message_objects`, `message_parts` | `MessageLines`, `ReceptionStarts` |
 //! | [`watch`] | `watcher` | `WatchScript` |
 //! | [`meaning_of`] | `collector`, `length` | `Sessions` |
 //! | [`compare`] | `comparing` | `Compared` |
 //! | [`write_comparison`] | `comparison_text`, `comparison_objects`, `compared_items` | `ComparisonText` |
 //! | [`list`], [`write_items`] | `lister`, `item_text` | `ItemText` |
 //! | [`find`] | `finding`, `hearing`, `credit_lines` | `Finding` |
-//! | all but [`watch`], over memory | [`in_memory`] | `InMemory` |
+//! | over logs in memory, seven of these | [`in_memory`] | `InMemory` |
+//! | laws of [`watch`] and of [`messages`] | [`laws`] | `Laws` |
 //!
 //! What a run comes to that writes a text at the end is in `WrittenAtEnd`, and of one that writes nothing in
 //! `ReadOnly`; for which frames a command needs memory, in `MemoryNeeded`.
 //!
 //! What tells of a log while it comes is a machine of [`trace_run`](trace_run::Machine): those of the first four rows.
-//! So is what collects the meaning of a log: on it stand [`meaning_of`], [`compare`] and [`write_items`]. [`find`] is
-//! none: it hears every frame, whatever its identifier, and has no receiver.
+//! So is what collects the meaning of a log: on it stand [`meaning_of`], [`compare`] and [`write_items`].
+//!
+//! [`find`] is none: it hears every frame, whatever its identifier, and has no receiver. It credits an answer to the
+//! identifier that last asked for its service; a *credit line* is a pair of identifiers, one that asks and one that
+//! answers it, with the number of the answers so credited.
 #![tactic(auto)]
 
 mod canonical_sink;

@@ -6,7 +6,7 @@ use trace_text::names::role_name;
 use trace_text::{Number, Stamp};
 use uds_exchange::Step;
 
-/// What a message is to its item.
+/// The role of a message in its item.
 #[derive(Clone, Copy)]
 pub(crate) struct Role(pub Step);
 

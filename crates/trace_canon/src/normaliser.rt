@@ -34,17 +34,21 @@ pub fn normalise<R: Source, W: Target>(
     requires reader { HasLowCounts R.Source reader.old }
     requires writer { IsLowCount (W.failures writer.old) }
 
+    // The other commands share what they promise; `normalise` alone writes a canonical log, so its clauses stand here.
+    //
     // What is answered and written, for each log with which the bytes that were read agree.
     ensures answer { (log : List ℕ) → AgreesWith R.Source reader.old reader.new log
         → Answers MESSAGE_LIMIT config.now log (bytes_given R.Source reader.old reader.new)
         result (W.taken writer.old) (W.taken writer.new) }
 
-    // Before each read all is written whose place the lines so far decide.
+    // For who follows a log that is still being recorded: before each read all is written whose place the lines so far
+    // decide.
     ensures eager { (log : List ℕ) → AgreesWith R.Source reader.old reader.new log
         → WritesEagerly MESSAGE_LIMIT config.now log (bytes_given R.Source reader.old reader.new)
         (W.taken writer.old) (W.taken writer.new) }
 
-    // What is written is accepted, is its own canonical log, and has the meaning of the log.
+    // For who reads what is written instead of the log: it is accepted, is its own canonical log, and has the meaning
+    // of the log.
     ensures again { (log : List ℕ) → AgreesWith R.Source reader.old reader.new log
         → OnOk result ((text : List ℕ) → W.taken writer.new ≡ W.taken writer.old ++ text
         → IsCanonicalFor MESSAGE_LIMIT config.now log text) }
@@ -57,8 +61,8 @@ pub fn normalise<R: Source, W: Target>(
     ensures certificate { (log : List ℕ) → AgreesWith R.Source reader.old reader.new log
         → IfOk result (λ summary. Certifies MESSAGE_LIMIT config.now log summary) }
 
-    // Reading stops within one piece: of all bytes given but the last 4,096 none refuses the log, and of all where a
-    // read failed.
+    // A refused log is not read on: reading stops within one piece of what refuses it, so of all bytes given but the
+    // last 4,096 none does, and of all where a read failed.
     ensures near { (log : List ℕ) → AgreesWith R.Source reader.old reader.new log
         → ReadsWhile (IsNotRefusedWithin MESSAGE_LIMIT config.now log)
         (bytes_given R.Source reader.old reader.new) (R.failures reader.old) (R.failures reader.new) }

@@ -1,14 +1,14 @@
 //! Where the receptions that stand began, frame by frame. The page of `trace_report` stands on it, too.
-ghost use Rattle.std.specs.Prelude.{◌≡◌, List, [], ◌∷◌, ◌++◌, if◌then◌else◌};
+ghost use Rattle.std.specs.Prelude.{◌≡◌, List, [], ◌∷◌, ◌++◌, None, if◌then◌else◌};
 ghost use Rattle.direction.specs.declared.Dir.{Dir as DirValue};
 ghost use Rattle.isotp_receive.specs.declared.TheConstants.{MESSAGE_LIMIT};
-ghost use Rattle.isotp_receive.specs.EventSeen.{seen_verdict};
+ghost use Rattle.isotp_receive.specs.EventSeen.{seen_event, seen_verdict};
 ghost use Rattle.isotp_receive.specs.Trace.{Entry, same_direction};
 ghost use Rattle.trace_run.specs.Seen.{IsEventOf};
 ghost use Rattle.trace_canon.specs.MemoryNeeded.{CompletesMessage};
 ghost use Rattle.trace_canon.specs.MessageLines.{first_frame, place_of};
-ghost use Rattle.trace_canon.specs.ReceptionStarts.{AreStartsAfter, reception_start};
-ghost use Rattle.trace_canon.specs.proving.ReceptionStarts.{start_after_verdict, still_begun};
+ghost use Rattle.trace_canon.specs.ReceptionStarts.{AreStartsAfter, message_start, reception_start, start_after_event, start_after_verdict};
+ghost use Rattle.trace_canon.specs.ReceptionStarts as Spec;
 
 use direction::Dir;
 use isotp_receive::{Ended, Event, Verdict};
@@ -30,7 +30,8 @@ pub struct ReceptionStarts {
 impl ReceptionStarts {
     /// Before the first frame.
     pub fn start() -> ReceptionStarts
-        ensures { AreStartsAfter MESSAGE_LIMIT [] result }
+        ensures none { (d : DirValue) → reception_start result d ≡ None }
+        ensures begun { AreStartsAfter MESSAGE_LIMIT [] result }
     {
         ReceptionStarts {
             tester: None,
@@ -52,11 +53,14 @@ impl ReceptionStarts {
     /// none, the answer says nothing, and nobody reads it: an `Option` would be made and taken apart at each frame.
     #[inline(always)]
     pub fn take(&mut self, here: FramePlace, dir: Dir, event: Event<'_>) -> FramePlace
-        ensures stands { (T : List Entry) (e : Entry) → IsEventOf T e here.line here.micros dir event.entry
+        ensures begun { (T : List Entry) (e : Entry) → IsEventOf T e here.line here.micros dir event.entry
             → AreStartsAfter MESSAGE_LIMIT T self.old → AreStartsAfter MESSAGE_LIMIT (T ++ e ∷ []) self.new }
-        ensures first { (T : List Entry) (e : Entry) → IsEventOf T e here.line here.micros dir event.entry
+        ensures place { (T : List Entry) (e : Entry) → IsEventOf T e here.line here.micros dir event.entry
             → AreStartsAfter MESSAGE_LIMIT T self.old → CompletesMessage MESSAGE_LIMIT T e
             → result ≡ place_of (first_frame T e) }
+        ensures stands { (d : DirValue)
+            → reception_start self.new d ≡ start_after_event d dir (seen_event event.entry) here (reception_start self.old d) }
+        ensures first { result ≡ message_start dir (seen_event event.entry) here (reception_start self.old dir) }
     {
         self.end(event.ended);
         let begun = self.of(dir);
@@ -67,14 +71,14 @@ impl ReceptionStarts {
     /// Takes the end of a reception, if one ended.
     #[inline(always)]
     fn end(&mut self, ended: Option<Ended>)
-        ensures { (d : DirValue) → reception_start self.new d ≡ still_begun d ended (reception_start self.old d) }
+        ensures { (d : DirValue) → reception_start self.new d ≡ Spec.still_begun d ended (reception_start self.old d) }
     {
         if let Some(ended) = ended {
             self.set(ended.dir, None);
         }
     }
 
-    /// Takes what became of a frame, beside such an end.
+    /// Takes what became of a frame, apart from the reception that it ended.
     #[inline(always)]
     fn move_by(&mut self, here: FramePlace, dir: Dir, verdict: Verdict<'_>)
         ensures { (d : DirValue) → reception_start self.new d
@@ -88,7 +92,7 @@ impl ReceptionStarts {
         }
     }
 
-    /// Takes where the reception of a direction began, if one stands.
+    /// Keeps where the reception of a direction began, if one stands.
     #[inline(always)]
     fn set(&mut self, dir: Dir, begun: Option<FramePlace>)
         ensures { (d : DirValue) → reception_start self.new d
@@ -98,5 +102,16 @@ impl ReceptionStarts {
             Dir::Tester => self.tester = begun,
             Dir::Unit => self.unit = begun,
         }
+    }
+}
+
+/// Where the reception of a direction began, if it still stands after this end. A page asks, whose rows tell of the end
+/// before they tell of the frame.
+pub fn still_begun(dir: Dir, ended: Option<Ended>, begun: Option<FramePlace>) -> Option<FramePlace>
+    ensures { result ≡ Spec.still_begun dir ended begun }
+{
+    match ended {
+        Some(ended) if ended.dir == dir => None,
+        _ => begun,
     }
 }

@@ -24,8 +24,7 @@ use Rattle.trace_canon.specs.MessageLines.{last_start, place_of}
 use Rattle.trace_report.specs.Events.{frames_by}
 use Rattle.trace_canon.specs.declared.reception_starts.FramePlace.{FramePlace}
 use Rattle.trace_report.specs.declared.frames.FrameCounts.{FrameCounts}
-use Rattle.trace_canon.specs.ReceptionStarts.{IsBegunAt}
-use Rattle.trace_canon.specs.proving.ReceptionStarts.{still_begun}
+use Rattle.trace_canon.specs.ReceptionStarts.{IsBegunAt, still_begun}
 use Rattle.trace_report.specs.declared.places.Places.{Places}
 use Rattle.trace_report.specs.proving.Following.{CountFrames, KnowsPlaces, IsTaken, counted_by, frames_with, taken_after}
 use Rattle.trace_canon.proofs.Promises.{role_own, role_other}

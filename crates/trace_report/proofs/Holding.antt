@@ -8,7 +8,8 @@ use Rattle.trace_log.proofs.Promises.{has_own_frame}
 use Rattle.trace_log.specs.Needing.{HasFrame}
 use Rattle.trace_log.specs.Settings.{Settings}
 use Rattle.trace_log.specs.Summing.{summary_of}
-use Rattle.trace_run.specs.Script.{TellsNothing, tells_no_refusal}
+use Rattle.trace_run.specs.Script.{tells_no_refusal}
+use Rattle.trace_run.specs.proving.Scripts.{TellsNothing}
 use Rattle.trace_run.specs.Told.{AnswersTold, IsUnreadFor}
 use Rattle.trace_log.specs.Trace.{trace}
 use Rattle.trace_log.specs.declared.fault.Fault.{Fault}

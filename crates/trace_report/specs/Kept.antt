@@ -1,10 +1,10 @@
 -- What is answered of two logs that are kept: what each of them says, or why one of them can't be read.
-use Rattle.std.specs.Prelude.{◌≡◌, ℕ, ⊤, false, List, Option, Result, Ok, Err}
+use Rattle.std.specs.Prelude.{◌≡◌, ℕ, ⊤, List, Option, Result, Ok, Err}
 use Rattle.can_log.specs.declared.frame.Stamped.{Stamped}
 use Rattle.trace_log.specs.Needing.{HasFrame}
 use Rattle.trace_log.specs.Settings.{Settings}
 use Rattle.trace_log.specs.Summing.{summary_of}
-use Rattle.trace_run.specs.Told.{IsReadToEnd, IsUnreadFor}
+use Rattle.trace_run.specs.Told.{IsReadToEnd, IsUnreadFor, when_lenient}
 use Rattle.trace_log.specs.Trace.{trace}
 use Rattle.trace_log.specs.declared.fault.CompareFault.{CompareFault}
 use Rattle.trace_log.specs.declared.fault.CompareFault.TheVariants.{Left, Right}
@@ -20,9 +20,9 @@ pub record TwoValue : Type 0 where
 -- announced and no canonical log refuses it.
 abbrev pub KeepsOne : ℕ → Settings → List ℕ → Result SessionValue Fault → Type 0
 KeepsOne limit settings log (Ok session) =
-    (meanings : List (Option Stamped)) × IsReadToEnd false limit settings log meanings
+    (meanings : List (Option Stamped)) × IsReadToEnd when_lenient limit settings log meanings
     × (session ≡ session_of limit (trace settings meanings) (summary_of limit settings log meanings))
-KeepsOne limit settings log (Err fault) = IsUnreadFor false limit settings log fault
+KeepsOne limit settings log (Err fault) = IsUnreadFor when_lenient limit settings log fault
 
 -- What is answered of two logs: what both say; else why the first can't be read; or why the second can't, where the
 -- first can.

@@ -2,7 +2,7 @@
 ghost use Rattle.std.specs.Prelude.{◌≡◌};
 ghost use Rattle.trace_report.specs.Causes.{row_value};
 ghost use Rattle.trace_report.specs.Causes as Spec;
-ghost use Rattle.trace_run.specs.Seen.{glimpse_value};
+ghost use Rattle.trace_run.specs.Script.{glimpse_value};
 
 use crate::looks::{Look, lacks_stamp, look_of, look_row};
 use text_parts::{Part, When, say};

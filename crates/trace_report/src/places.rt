@@ -6,14 +6,13 @@ ghost use Rattle.isotp_receive.specs.Trace.{Entry, role};
 ghost use Rattle.trace_run.specs.Seen.{IsEventOf};
 ghost use Rattle.trace_canon.specs.MemoryNeeded.{CompletesMessage};
 ghost use Rattle.trace_canon.specs.MessageLines.{first_frame, place_of};
-ghost use Rattle.trace_canon.specs.proving.ReceptionStarts.{still_begun};
 ghost use Rattle.trace_report.specs.Events.{frames_by};
 ghost use Rattle.trace_report.specs.proving.Following.{KnowsPlaces};
 
 use crate::frames::{FrameCounts, frames_carrying};
 use direction::Dir;
-use isotp_receive::{Ended, Event};
-use trace_canon::reception_starts::{FramePlace, ReceptionStarts};
+use isotp_receive::Event;
+use trace_canon::reception_starts::{FramePlace, ReceptionStarts, still_begun};
 
 /// Where the receptions began that stand, and how many frames they took.
 #[derive(Clone, Copy, Debug)]
@@ -57,15 +56,5 @@ impl Places {
         let first = self.begun.take(here, dir, event);
         self.frames.take(dir, event.verdict);
         MessageExtent { first, frames }
-    }
-}
-
-/// Where the reception of a direction began, if it still stands after this end.
-fn still_begun(dir: Dir, ended: Option<Ended>, begun: Option<FramePlace>) -> Option<FramePlace>
-    ensures { result ≡ still_begun dir ended begun }
-{
-    match ended {
-        Some(ended) if ended.dir == dir => None,
-        _ => begun,
     }
 }

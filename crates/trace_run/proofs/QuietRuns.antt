@@ -6,7 +6,8 @@ use Rattle.trace_log.specs.declared.fault.Fault.{Fault}
 use Rattle.trace_log.specs.declared.fault.Fault.TheVariants.{BadLine, Oversize, LogLimit, OutputLimit, Read, Write, Memory}
 use Rattle.trace_log.specs.Settings.{Settings}
 use Rattle.trace_log.specs.Summing.{summary_of}
-use Rattle.trace_run.specs.Script.{Script, Answering, TellsNothing, tells_no_refusal, told_after}
+use Rattle.trace_run.specs.Script.{Script, Answering, tells_no_refusal, told_after}
+use Rattle.trace_run.specs.proving.Scripts.{TellsNothing}
 use Rattle.trace_run.specs.Told.{AnswersTold}
 use Rattle.trace_log.specs.Trace.{trace}
 

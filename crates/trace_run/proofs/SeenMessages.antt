@@ -9,7 +9,8 @@ use Rattle.isotp_receive.specs.Verdict.{EventValue, VerdictValue, message, began
 use Rattle.uds_exchange.specs.Judging.{sent}
 use Rattle.uds_exchange.specs.declared.judge.Judged.{Judged}
 use Rattle.trace_log.proofs.Promises.{messages_more}
-use Rattle.trace_run.specs.Seen.{CompletesJudged, IsEventOf, IsJudgmentOf, IsSeen}
+use Rattle.trace_run.specs.Seen.{IsEventOf, IsJudgmentOf, IsSeen}
+use Rattle.trace_run.specs.proving.Completing.{CompletesJudged}
 use Rattle.trace_run.specs.declared.machine.Seen.{Seen}
 
 -- a frame told no other message than it completed

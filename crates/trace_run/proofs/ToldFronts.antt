@@ -15,7 +15,7 @@ use Rattle.trace_log.specs.LinesRead.{counts_last, AreGiven, AreLinesRead, AreRe
 use Rattle.trace_log.specs.Settings.{Settings}
 use Rattle.trace_log.specs.Summing.{summary_of}
 use Rattle.trace_run.specs.Script.{Script, RefusalText, told_after, told, told_of_lines, refusal_of_lines, told_and_refusal_of_lines}
-use Rattle.trace_run.specs.Told.{WritesFrontOfTold, HasToldSome, FailsToTell, passing, IsUnreadFor, WritesFrontOfWhole, is_told, TellsEagerly}
+use Rattle.trace_run.specs.Told.{WritesFrontOfTold, HasSomeToTell, FailsToTell, passing, IsUnreadFor, WritesFrontOfWhole, is_told, TellsEagerly}
 use Rattle.trace_log.specs.Trace.{trace, trace_from}
 use Rattle.std.specs.List.{AllByRecursion}
 use Rattle.can_log.specs.Scanning.{Standing}
@@ -73,7 +73,7 @@ had_come passes b count log meanings read =
 -- what is told of the lines read before a failed write is something, where what is told of lines that had come is
 pub told_some : (script : Script) (limit : ℕ) (settings : Settings) (log : List ℕ) (given : ℕ) (meanings : List (Option Stamped))
     → HaveCome (passing script.strict limit settings) true (min given settings.max_bytes) log meanings → 0 < length (told_of_lines script settings meanings)
-    → HasToldSome script limit settings log given
+    → HasSomeToTell script limit settings log given
 told_some script limit settings log given meanings come some =
     let count = min given settings.max_bytes in
     let passes = passing script.strict limit settings in

@@ -19,7 +19,7 @@ use Rattle.uds_exchange.specs.Judging.{IsJudgeOf}
 use Rattle.trace_log.specs.LinesRead.{counts_last, AreLinesRead, AreReadBefore}
 use Rattle.trace_log.specs.Settings.{Settings}
 use Rattle.trace_run.specs.Script.{Answering, Script, RefusalText, told, told_of_lines, refusal_of_lines, told_and_refusal_of_lines}
-use Rattle.trace_run.specs.Told.{WritesFrontOfTold, HasToldSome, passing, IsUnreadFor, is_told, WritesToldAndRefusal, AnswersTold, TellsEagerly}
+use Rattle.trace_run.specs.Told.{WritesFrontOfTold, HasSomeToTell, passing, IsUnreadFor, is_told, WritesToldAndRefusal, AnswersTold, TellsEagerly}
 use Rattle.trace_log.specs.Trace.{trace, trace_from}
 use Rattle.std.specs.List.{AllByRecursion}
 use Rattle.trace_log.specs.proving.Announcing.{AnnouncesWithin}
@@ -262,7 +262,7 @@ module _ {M W : Type 0} (stands : M → List Entry → M → Type 0) (scripts : 
 
           -- and that is something, where what is told of the lines before it is
           some_told : (meanings : List (Option Stamped)) (what : Option Stamped) (line : StoppedOnLine StoppedTelling start meanings what fault.Memory now)
-              → StopsWithin settings.max_bytes log given meanings what → 0 < length (text meanings) → HasToldSome script MESSAGE_LIMIT settings log given
+              → StopsWithin settings.max_bytes log given meanings what → 0 < length (text meanings) → HasSomeToTell script MESSAGE_LIMIT settings log given
           some_told meanings what line place some =
               let more = longer meanings what line in
               let long = ap length more.1 ∙ length-append (text meanings) more.0 in

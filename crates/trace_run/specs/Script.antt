@@ -4,7 +4,7 @@
 --   `whole_of_lines` that, and what is told at the end,
 --   `refusal_of_lines` what is told where behind them something refuses the log,
 --   `told_and_refusal_of_lines` that, behind what is told of their frames.
-use Rattle.std.specs.Prelude.{◌≡◌, ℕ, List, [], ◌∷◌, ◌++◌, Option, Result, Ok, Bool, false}
+use Rattle.std.specs.Prelude.{◌≡◌, ℕ, List, [], ◌∷◌, ◌++◌, Option, Result, Ok, Bool}
 use Rattle.can_log.specs.declared.frame.Stamped.{Stamped}
 use Rattle.isotp_receive.specs.Trace.{Entry}
 use Rattle.trace_io.specs.declared.device.Source.{Ghosts}
@@ -13,6 +13,7 @@ use Rattle.trace_log.specs.declared.summary.Summary.{Summary}
 use Rattle.trace_log.specs.Settings.{Settings}
 use Rattle.trace_log.specs.Trace.{trace}
 use Rattle.trace_log.specs.Summing.{summary_of}
+use Rattle.trace_run.specs.declared.machine.Glimpse.{Glimpse}
 use Rattle.trace_run.specs.declared.machine.NoAnswer.{NoAnswer}
 
 -- What a command tells: of a frame, by the frames before it; and at the end, by all frames and the counts. A strict one
@@ -21,15 +22,6 @@ pub record Script : Type 0 where
   pub strict : Bool
   pub of_frame : List Entry → Entry → List ℕ
   pub at_the_end : List Entry → Summary → List ℕ
-
--- the script that tells this of each frame and this at the end, and is not strict
-abbrev pub lenient : (List Entry → Entry → List ℕ) → (List Entry → Summary → List ℕ) → Script
-lenient of_frame at_the_end = record { strict = false; of_frame = of_frame; at_the_end = at_the_end }
-
--- A script that tells nothing.
-pub record TellsNothing (script : Script) : Type 0 where
-  pub of_frame : (T : List Entry) (e : Entry) → script.of_frame T e ≡ []
-  pub at_the_end : (T : List Entry) (summary : Summary) → script.at_the_end T summary ≡ []
 
 -- what a command tells where a line or the limit refuses the log: by the frames and the counts of the lines before, and
 -- by the reason
@@ -48,6 +40,10 @@ pub record GlimpseValue : Type 0 where
 -- what is seen of a source that stands so after the run
 abbrev pub glimpse_of : {R : Type 0} → Ghosts R → R → GlimpseValue
 glimpse_of source after = record { first = source.first after; is_over = source.is_over after }
+
+-- what is seen of a source, without where its bytes lie in memory
+abbrev pub glimpse_value : Glimpse → GlimpseValue
+glimpse_value glimpse = record { first = glimpse.first.now; is_over = glimpse.is_over }
 
 -- what a command may answer at the end of a trace with these counts
 abbrev pub Answering : Type 0 → Type 1
@@ -93,12 +89,14 @@ told_of_lines script settings meanings = told script.of_frame (trace settings me
 -- all that is told of a log whose lines mean this, that at the end too
 abbrev pub whole_of_lines : Script → ℕ → Settings → List ℕ → List (Option Stamped) → List ℕ
 whole_of_lines script limit settings log meanings =
-    told script.of_frame (trace settings meanings) ++ script.at_the_end (trace settings meanings) (summary_of limit settings log meanings)
+    told script.of_frame (trace settings meanings)
+    ++ script.at_the_end (trace settings meanings) (summary_of limit settings log meanings)
 
 -- what is told of a refusal for this reason, after lines that mean this; the counts are those of a log without a last
 -- line feed
 abbrev pub refusal_of_lines : RefusalText → ℕ → Settings → Fault → List (Option Stamped) → List ℕ
-refusal_of_lines refusal limit settings why meanings = refusal (trace settings meanings) (summary_of limit settings [] meanings) why
+refusal_of_lines refusal limit settings why meanings =
+    refusal (trace settings meanings) (summary_of limit settings [] meanings) why
 
 -- all that is told of a log that is refused for this reason, after lines that mean this
 abbrev pub told_and_refusal_of_lines : Script → RefusalText → ℕ → Settings → Fault → List (Option Stamped) → List ℕ

@@ -1,16 +1,14 @@
 -- What a machine is handed of a frame: what it did after the frames before it, and what becomes of its message.
-use Rattle.std.specs.Prelude.{◌≡◌, ℕ, ◌^◌, ◌<◌, List, [], ◌∷◌, ◌++◌, length, Option, Some, None}
+use Rattle.std.specs.Prelude.{◌≡◌, ℕ, ◌^◌, ◌<◌, List, [], ◌∷◌, length, Option, Some, None}
 use Rattle.direction.specs.Dir.{Message}
 use Rattle.direction.specs.declared.Dir.{Dir}
 use Rattle.isotp_receive.specs.declared.TheConstants.{MESSAGE_LIMIT}
 use Rattle.isotp_receive.specs.declared.event.Event.{Event}
 use Rattle.isotp_receive.specs.EventSeen.{seen_event}
 use Rattle.isotp_receive.specs.Trace.{Entry}
-use Rattle.isotp_receive.specs.Verdict.{message, messages, told_message, verdict}
-use Rattle.uds_exchange.specs.Judging.{IsJudgedAfter, number_after, sent, step_after}
+use Rattle.isotp_receive.specs.Verdict.{messages, told_message, verdict}
+use Rattle.uds_exchange.specs.Judging.{IsJudgedAfter, number_after, sent}
 use Rattle.uds_exchange.specs.declared.judge.Judged.{Judged}
-use Rattle.trace_run.specs.Script.{GlimpseValue}
-use Rattle.trace_run.specs.declared.machine.Glimpse.{Glimpse}
 use Rattle.trace_run.specs.declared.machine.Seen.{Seen}
 
 -- This is what the frame e, of this line, time and direction, did after the frames T, of which there are fewer than
@@ -25,22 +23,12 @@ pub record IsEventOf (T : List Entry) (e : Entry) (at_line at_micros : ℕ) (sen
 -- This was judged of what came behind the messages M: of the one message that did, or none where no message came.
 abbrev pub IsJudgmentOf : List Message → List Message → Option Judged → Type 0
 IsJudgmentOf M came None = came ≡ []
-IsJudgmentOf M came (Some judged) = (came ≡ sent judged ∷ []) × IsJudgedAfter M judged × (judged.item_number ≡ number_after M (sent judged))
+IsJudgmentOf M came (Some judged) =
+    (came ≡ sent judged ∷ []) × IsJudgedAfter M judged × (judged.item_number ≡ number_after M (sent judged))
 
 -- This is seen of the frame e after the frames T: what it did, and the message that it completed, if it completed one,
 -- as it is judged behind those before.
 pub record IsSeen (T : List Entry) (e : Entry) (seen : Seen) : Type 0 where
   pub event : IsEventOf T e seen.line seen.micros seen.dir seen.event
-  pub message : IsJudgmentOf (messages MESSAGE_LIMIT T) (told_message seen.dir (seen_event seen.event).verdict) seen.message
-
--- The frame e completed this message behind those of the frames T, and this becomes of it.
-pub record CompletesJudged (T : List Entry) (e : Entry) (judged : Judged) : Type 0 where
-  pub next : messages MESSAGE_LIMIT (T ++ e ∷ []) ≡ messages MESSAGE_LIMIT T ++ sent judged ∷ []
-  pub dir : e.dir ≡ judged.dir
-  pub did : (verdict MESSAGE_LIMIT T e).verdict ≡ message judged.bytes.now
-  pub step : judged.step ≡ step_after (messages MESSAGE_LIMIT T) (sent judged)
-  pub item : judged.item_number ≡ number_after (messages MESSAGE_LIMIT T) (sent judged)
-
--- what is seen of a source, without where its bytes lie in memory
-abbrev pub glimpse_value : Glimpse → GlimpseValue
-glimpse_value glimpse = record { first = glimpse.first.now; is_over = glimpse.is_over }
+  pub message :
+      IsJudgmentOf (messages MESSAGE_LIMIT T) (told_message seen.dir (seen_event seen.event).verdict) seen.message

@@ -1,8 +1,9 @@
 -- What a run over any command (`Script.antt`) answers and writes. The last two records are what its callers know of it:
 -- `Ran`, and `RanLenient` of a command that is not strict. Above them stand the parts that they are made of. What they
 -- are of comes in one order: limit, settings, log, how many bytes of it were given, fault or answer, and what was
--- written before and after.
-use Rattle.std.specs.Prelude.{◌≡◌, ◌≢◌, ℕ, ◌-◌, ◌≤◌, List, ◌++◌, Option, Result, Ok, Err, IfErr, length, true, ◌⊎◌, ◌<◌, Bool, false, ⊤}
+-- written before and after. Those of one module are of the same command and log.
+use Rattle.std.specs.Prelude.{◌≡◌, ◌≢◌, ℕ, ◌-◌, ◌≤◌, ◌<◌, Bool, false, true, ◌⊎◌, ⊤}
+use Rattle.std.specs.Prelude.{List, ◌++◌, length, Option, Result, Ok, Err, IfErr}
 use Rattle.can_log.specs.declared.frame.Stamped.{Stamped}
 use Rattle.isotp_receive.specs.Trace.{Entry}
 use Rattle.isotp_receive.specs.declared.TheConstants.{MESSAGE_LIMIT}
@@ -10,7 +11,8 @@ use Rattle.trace_io.specs.Written.{HasFront}
 use Rattle.trace_io.specs.declared.device.Source.{Ghosts as SourceGhosts}
 use Rattle.trace_io.specs.declared.device.Target.{Ghosts as TargetGhosts}
 use Rattle.trace_log.specs.declared.fault.Fault.{Fault}
-use Rattle.trace_log.specs.declared.fault.Fault.TheVariants.{BadLine, Oversize, LogLimit, OutputLimit, Read, Write, Memory}
+use Rattle.trace_log.specs.declared.fault.Fault.TheVariants.{BadLine, Oversize, LogLimit, OutputLimit}
+use Rattle.trace_log.specs.declared.fault.Fault.TheVariants.{Read, Write, Memory}
 use Rattle.trace_log.specs.Answers.{piece_length, ReadsWhile, TellsOutcome}
 use Rattle.trace_log.specs.Outcome.{IsReadWhole}
 use Rattle.trace_log.specs.Settings.{AreSettings, Settings}
@@ -21,7 +23,8 @@ use Rattle.trace_log.specs.ReadAs.{no_line, too_long, takes_all, IsReadAs}
 use Rattle.trace_log.specs.Devices.{AgreesWith, bytes_given, ReadFrom, WroteTo}
 use Rattle.trace_log.specs.Needing.{HasFrame, IsKeptForMessage, NeedsMemoryToReceive}
 use Rattle.trace_log.specs.Refusal.{announces_within, HasNoBadPlaceWithin, IsNotRefusedWithin}
-use Rattle.trace_run.specs.Script.{Answering, Command, RefusalText, Script, refusal_of_lines, told_and_refusal_of_lines, told_of_lines, whole_of_lines}
+use Rattle.trace_run.specs.Script.{Answering, Command, RefusalText, Script}
+use Rattle.trace_run.specs.Script.{refusal_of_lines, told_and_refusal_of_lines, told_of_lines, whole_of_lines}
 use Rattle.trace_run.specs.declared.machine.NoAnswer.{NoAnswer}
 use Rattle.trace_run.specs.declared.machine.NoAnswer.TheVariants as no_answer
 
@@ -35,7 +38,12 @@ is_told Read = false
 is_told Write = false
 is_told Memory = false
 
--- the test that each line passes that does not stop a run, of a strict command or another
+-- The next four definitions are of a strict command, `true`, or of another one, which has this name where they are
+-- used.
+abbrev pub when_lenient : Bool
+when_lenient = false
+
+-- the test that each line passes that does not stop a run
 abbrev pub passing : Bool → ℕ → Settings → Option Stamped → Bool
 passing true limit settings = announces_within limit settings
 passing false limit settings = takes_all
@@ -61,98 +69,126 @@ abbrev pub StopsNothingWithin : Bool → ℕ → Settings → List ℕ → ℕ �
 StopsNothingWithin true limit settings log = IsNotRefusedWithin limit settings log
 StopsNothingWithin false limit settings log = HasNoBadPlaceWithin log
 
--- exactly what is told of the lines read before the fault was written
-abbrev pub WritesTold : Script → ℕ → Settings → List ℕ → ℕ → Fault → List ℕ → List ℕ → Type 0
-WritesTold script limit settings = WritesTextOfRead (passing script.strict limit settings) (told_of_lines script settings) settings
+module _ (script : Script) (limit : ℕ) (settings : Settings) (log : List ℕ) (given : ℕ) where
+  -- exactly what is told of the lines read before the fault was written
+  abbrev pub WritesTold : Fault → List ℕ → List ℕ → Type 0
+  WritesTold =
+      WritesTextOfRead (passing script.strict limit settings) (told_of_lines script settings) settings log given
 
--- exactly what is told of the lines read before the fault, and of the refusal behind them, was written
-abbrev pub WritesToldAndRefusal : Script → RefusalText → ℕ → Settings → List ℕ → ℕ → Fault → List ℕ → List ℕ → Type 0
-WritesToldAndRefusal script refusal limit settings log given why =
-    WritesTextOfRead (passing script.strict limit settings) (told_and_refusal_of_lines script refusal limit settings why) settings log given why
+  -- a front of what is told of the lines read before the fault was written
+  abbrev pub WritesFrontOfTold : Fault → List ℕ → List ℕ → Type 0
+  WritesFrontOfTold =
+      WritesFrontOfRead (passing script.strict limit settings) (told_of_lines script settings) settings log given
 
--- a front of what is told of the lines read before the fault was written
-abbrev pub WritesFrontOfTold : Script → ℕ → Settings → List ℕ → ℕ → Fault → List ℕ → List ℕ → Type 0
-WritesFrontOfTold script limit settings = WritesFrontOfRead (passing script.strict limit settings) (told_of_lines script settings) settings
+  -- a front of all that is told of the lines read before the fault, as of a log that ends there, was written
+  abbrev pub WritesFrontOfWhole : Fault → List ℕ → List ℕ → Type 0
+  WritesFrontOfWhole =
+      WritesFrontOfRead (passing script.strict limit settings)
+      (whole_of_lines script limit settings log) settings log given
 
--- a front of all that is told of the lines read before the fault, as of a log that ends there, was written
-abbrev pub WritesFrontOfWhole : Script → ℕ → Settings → List ℕ → ℕ → Fault → List ℕ → List ℕ → Type 0
-WritesFrontOfWhole script limit settings log = WritesFrontOfRead (passing script.strict limit settings) (whole_of_lines script limit settings log) settings log
+  -- What is told of the lines that were read before a write failed is something.
+  pub record HasSomeToTell : Type 0 where
+    pub meanings : List (Option Stamped)
+    pub read : AreReadBefore (passing script.strict limit settings) settings log given Write meanings
+    pub some : 0 < length (told_of_lines script settings meanings)
 
--- the log can be read to its end, this is answered there, and all that is told of it was written
-abbrev pub EndsWith : {A : Type 0} → Script → Answering A → ℕ → Settings → List ℕ → ℕ → Result A NoAnswer → List ℕ → List ℕ → Type 0
-EndsWith script answers limit settings log given result old new =
-    (length log ≤ given) × (meanings : List (Option Stamped)) × IsReadToEnd script.strict limit settings log meanings
-    × answers (trace settings meanings) (summary_of limit settings log meanings) result × (new ≡ old ++ whole_of_lines script limit settings log meanings)
+  -- What was written begins with what is told of the lines that had ended among all bytes given but the last 4,096.
+  pub record TellsEagerly (old new : List ℕ) : Type 0 where
+    pub meanings : List (Option Stamped)
+    pub read : AreReadBefore (passing script.strict limit settings) settings log (given - piece_length) Read meanings
+    pub more : List ℕ
+    pub wrote : new ≡ old ++ (told_of_lines script settings meanings ++ more)
 
--- What is told of the lines that were read before a write failed is something.
-pub record HasToldSome (script : Script) (limit : ℕ) (settings : Settings) (log : List ℕ) (given : ℕ) : Type 0 where
-  pub meanings : List (Option Stamped)
-  pub read : AreReadBefore (passing script.strict limit settings) settings log given Write meanings
-  pub some : 0 < length (told_of_lines script settings meanings)
+module _ (script : Script) (limit : ℕ) (settings : Settings) (log : List ℕ) where
+  -- The log can be read to its end, and a front of all that is told of it, which is something, was written.
+  pub record EndsUnwritten (old new : List ℕ) : Type 0 where
+    pub meanings : List (Option Stamped)
+    pub read : IsReadToEnd script.strict limit settings log meanings
+    pub some : 0 < length (whole_of_lines script limit settings log meanings)
+    pub front : HasFront old (whole_of_lines script limit settings log meanings) new
 
--- The log can be read to its end, and a front of all that is told of it, which is something, was written.
-pub record EndsUnwritten (script : Script) (limit : ℕ) (settings : Settings) (log : List ℕ) (old new : List ℕ) : Type 0 where
-  pub meanings : List (Option Stamped)
-  pub read : IsReadToEnd script.strict limit settings log meanings
-  pub some : 0 < length (whole_of_lines script limit settings log meanings)
-  pub front : HasFront old (whole_of_lines script limit settings log meanings) new
+module _ (script : Script) (refusal : RefusalText) (limit : ℕ) (settings : Settings) (log : List ℕ) (given : ℕ) where
+  -- exactly what is told of the lines read before the fault, and of the refusal behind them, was written
+  abbrev pub WritesToldAndRefusal : Fault → List ℕ → List ℕ → Type 0
+  WritesToldAndRefusal why =
+      WritesTextOfRead (passing script.strict limit settings)
+      (told_and_refusal_of_lines script refusal limit settings why) settings log given why
 
--- A refusal that is told refuses the log, and something is told of it: of all that is told then, a front was written.
-pub record RefusesUnwritten (script : Script) (refusal : RefusalText) (limit : ℕ) (settings : Settings) (log : List ℕ) (given : ℕ) (old new : List ℕ) : Type 0 where
-  pub why : Fault
-  pub tells : is_told why ≡ true
-  pub refused : IsUnreadFor script.strict limit settings log why
-  pub meanings : List (Option Stamped)
-  pub read : AreReadBefore (passing script.strict limit settings) settings log given why meanings
-  pub some : 0 < length (refusal_of_lines refusal limit settings why meanings)
-  pub front : HasFront old (told_and_refusal_of_lines script refusal limit settings why meanings) new
+  -- A refusal that is told refuses the log, and something is told of it: of all that is told then, a front was written.
+  pub record RefusesUnwritten (old new : List ℕ) : Type 0 where
+    pub why : Fault
+    pub tells : is_told why ≡ true
+    pub refused : IsUnreadFor script.strict limit settings log why
+    pub meanings : List (Option Stamped)
+    pub read : AreReadBefore (passing script.strict limit settings) settings log given why meanings
+    pub some : 0 < length (refusal_of_lines refusal limit settings why meanings)
+    pub front : HasFront old (told_and_refusal_of_lines script refusal limit settings why meanings) new
 
--- writing failed: while the log was read, where something was told of it, or at its end; or where it is refused
-abbrev pub FailsToTell : Script → RefusalText → ℕ → Settings → List ℕ → ℕ → List ℕ → List ℕ → Type 0
-FailsToTell script refusal limit settings log given old new =
-    (WritesFrontOfWhole script limit settings log given Write old new × (HasToldSome script limit settings log given ⊎ EndsUnwritten script limit settings log old new))
-    ⊎ RefusesUnwritten script refusal limit settings log given old new
+  -- writing failed: while the log was read, where something was told of it, or at its end; or where it is refused
+  abbrev pub FailsToTell : List ℕ → List ℕ → Type 0
+  FailsToTell old new =
+      (WritesFrontOfWhole script limit settings log given Write old new
+      × (HasSomeToTell script limit settings log given ⊎ EndsUnwritten script limit settings log old new))
+      ⊎ RefusesUnwritten old new
 
--- What is answered on a log, of which `given` bytes were given, and what is then written where `old` was before: all
--- that is told of one that can be read, and an answer or that it is too long; what is told of the lines read before,
--- where it can't be, or reading failed, and behind it what is told of a refusal for a line or the limit; and a front of
--- what is told where writing failed or memory was refused.
-abbrev pub AnswersTold : {A : Type 0} → Script → RefusalText → Answering A → ℕ → Settings → List ℕ → ℕ → Result A Fault → List ℕ → List ℕ → Type 0
-AnswersTold script refusal answers limit settings log given (Ok value) old new = EndsWith script answers limit settings log given (Ok value) old new
-AnswersTold script refusal answers limit settings log given (Err OutputLimit) old new = EndsWith script answers limit settings log given (Err no_answer.OutputLimit) old new
-AnswersTold script refusal answers limit settings log given (Err (BadLine line column)) old new =
-    IsUnreadFor script.strict limit settings log (BadLine line column) × WritesToldAndRefusal script refusal limit settings log given (BadLine line column) old new
-AnswersTold script refusal answers limit settings log given (Err (Oversize line announced)) old new =
-    IsUnreadFor script.strict limit settings log (Oversize line announced) × WritesTold script limit settings log given (Oversize line announced) old new
-AnswersTold script refusal answers limit settings log given (Err LogLimit) old new =
-    IsUnreadFor script.strict limit settings log LogLimit × WritesToldAndRefusal script refusal limit settings log given LogLimit old new
-AnswersTold script refusal answers limit settings log given (Err Read) old new = WritesTold script limit settings log given Read old new
-AnswersTold script refusal answers limit settings log given (Err Write) old new = FailsToTell script refusal limit settings log given old new
-AnswersTold script refusal answers limit settings log given (Err Memory) old new = WritesFrontOfTold script limit settings log given Memory old new
+module _ {A : Type 0} (script : Script) (answers : Answering A)
+    (limit : ℕ) (settings : Settings) (log : List ℕ) (given : ℕ) where
+  -- the log can be read to its end, this is answered there, and all that is told of it was written
+  abbrev pub EndsWith : Result A NoAnswer → List ℕ → List ℕ → Type 0
+  EndsWith result old new =
+      (length log ≤ given) × (meanings : List (Option Stamped)) × IsReadToEnd script.strict limit settings log meanings
+      × answers (trace settings meanings) (summary_of limit settings log meanings) result
+      × (new ≡ old ++ whole_of_lines script limit settings log meanings)
 
--- What was written begins with what is told of the lines that had ended among all bytes given but the last 4,096.
-pub record TellsEagerly (script : Script) (limit : ℕ) (settings : Settings) (log : List ℕ) (given : ℕ) (old new : List ℕ) : Type 0 where
-  pub meanings : List (Option Stamped)
-  pub read : AreReadBefore (passing script.strict limit settings) settings log (given - piece_length) Read meanings
-  pub more : List ℕ
-  pub wrote : new ≡ old ++ (told_of_lines script settings meanings ++ more)
+module _ {A : Type 0} (script : Script) (refusal : RefusalText) (answers : Answering A)
+    (limit : ℕ) (settings : Settings) (log : List ℕ) (given : ℕ) where
+  -- the log was read to its end, where this is answered
+  abbrev Ends : Result A NoAnswer → List ℕ → List ℕ → Type 0
+  Ends = EndsWith script answers limit settings log given
+
+  -- the log is refused for this, what is told of the lines before was written, and behind it what is of the refusal
+  abbrev RefusesTold : Fault → List ℕ → List ℕ → Type 0
+  RefusesTold why old new =
+      IsUnreadFor script.strict limit settings log why
+      × WritesToldAndRefusal script refusal limit settings log given why old new
+
+  -- the log is refused for this, and what is told of the lines before was written
+  abbrev Refuses : Fault → List ℕ → List ℕ → Type 0
+  Refuses why old new =
+      IsUnreadFor script.strict limit settings log why × WritesTold script limit settings log given why old new
+
+  -- What is answered on a log, of which `given` bytes were given, and what is then written where `old` was before: all
+  -- that is told of one that can be read, and an answer or that it is too long; what is told of the lines read before,
+  -- where it can't be, or reading failed, and behind it what is told of a refusal for a line or the limit; and a front
+  -- of what is told where writing failed or memory was refused.
+  abbrev pub AnswersTold : Result A Fault → List ℕ → List ℕ → Type 0
+  AnswersTold (Ok value) old new = Ends (Ok value) old new
+  AnswersTold (Err OutputLimit) old new = Ends (Err no_answer.OutputLimit) old new
+  AnswersTold (Err (BadLine line column)) old new = RefusesTold (BadLine line column) old new
+  AnswersTold (Err LogLimit) old new = RefusesTold LogLimit old new
+  AnswersTold (Err (Oversize line announced)) old new = Refuses (Oversize line announced) old new
+  AnswersTold (Err Read) old new = WritesTold script limit settings log given Read old new
+  AnswersTold (Err Write) old new = FailsToTell script refusal limit settings log given old new
+  AnswersTold (Err Memory) old new = WritesFrontOfTold script limit settings log given Memory old new
 
 -- A run of a command from a source to a target: all that a caller knows of it.
-pub record Ran {R W A : Type 0} (source : SourceGhosts R) (target : TargetGhosts W) (of : Command A) (settings : Settings)
-    (before : R) (old : W) (result : Result A Fault) (after : R) (new : W) : Type 0 where
+pub record Ran {R W A : Type 0} (source : SourceGhosts R) (target : TargetGhosts W) (of : Command A)
+    (settings : Settings) (before : R) (old : W) (result : Result A Fault) (after : R) (new : W) : Type 0 where
   -- what is answered and written, for each log with which the bytes that were read agree
   pub answer : (log : List ℕ) → AgreesWith source before after log
-      → AnswersTold of.script of.refusal of.answers MESSAGE_LIMIT settings log (bytes_given source before after) result (target.taken old) (target.taken new)
+      → AnswersTold of.script of.refusal of.answers MESSAGE_LIMIT settings log (bytes_given source before after) result
+      (target.taken old) (target.taken new)
   -- before each read what was told was written
-  pub eager : (log : List ℕ) → AgreesWith source before after log
-      → TellsEagerly of.script MESSAGE_LIMIT settings log (bytes_given source before after) (target.taken old) (target.taken new)
+  pub eager : (log : List ℕ) → AgreesWith source before after log → TellsEagerly of.script MESSAGE_LIMIT settings log
+      (bytes_given source before after) (target.taken old) (target.taken new)
   -- memory is refused only for a log that needs it: for a message of several frames, or for a frame for which the
   -- command needs some
   pub memory : (log : List ℕ) → AgreesWith source before after log
       → result ≡ Err Memory → HasFrame (λ T e. IsKeptForMessage MESSAGE_LIMIT T e ⊎ of.needs T e) settings log
   -- reading stops within one piece
   pub near : (log : List ℕ) → AgreesWith source before after log
-      → ReadsWhile (StopsNothingWithin of.script.strict MESSAGE_LIMIT settings log) (bytes_given source before after) (source.failures before) (source.failures after)
+      → ReadsWhile (StopsNothingWithin of.script.strict MESSAGE_LIMIT settings log) (bytes_given source before after)
+      (source.failures before) (source.failures after)
   -- the settings are those of a configuration
   pub configured : AreSettings settings
   -- what it did with its devices
@@ -160,12 +196,13 @@ pub record Ran {R W A : Type 0} (source : SourceGhosts R) (target : TargetGhosts
   pub wrote : WroteTo target Write result old new
 
 -- A run of a command that is not strict, and has an answer at the end of each log: all that a caller knows of it.
-pub record RanLenient {R W A : Type 0} (source : SourceGhosts R) (target : TargetGhosts W) (of : Command A) (settings : Settings)
-    (before : R) (old : W) (result : Result A Fault) (after : R) (new : W) : Type 0 where
+pub record RanLenient {R W A : Type 0} (source : SourceGhosts R) (target : TargetGhosts W) (of : Command A)
+    (settings : Settings) (before : R) (old : W) (result : Result A Fault) (after : R) (new : W) : Type 0 where
   pub run : Ran source target of settings before old result after new
   -- reading stops within one piece of a refused place
   pub near : (log : List ℕ) → AgreesWith source before after log
-      → ReadsWhile (HasNoBadPlaceWithin log) (bytes_given source before after) (source.failures before) (source.failures after)
+      → ReadsWhile (HasNoBadPlaceWithin log) (bytes_given source before after)
+      (source.failures before) (source.failures after)
   -- no log is refused for an announced length, nor for the length of what would be told of it
   pub never_oversize : IfErr result (λ fault. (line announced : ℕ) → fault ≢ Oversize line announced)
   pub never_output_limit : IfErr result (λ fault. fault ≢ OutputLimit)

@@ -4,3 +4,5 @@ pub mod Carrying
 pub mod PageSinks
 pub mod Telling
 pub mod Ending
+pub mod Scripts
+pub mod Completing

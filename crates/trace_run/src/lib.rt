@@ -4,18 +4,39 @@
 //! bytes -> Source -> feed -> lines -> receiver -> telling -> machine -> page -> Target
 //! ```
 //!
-//! A frame goes this way, and each call hands on what it found:
+//! A [`Machine`] is what a caller writes. It is handed what each frame did, and the message that it completed, as one
+//! [`Seen`], beside a page as its sink. This one says a dot for each message, and answers the counts:
 //!
-//! - `feed` and `lines` (of `trace_log`): what each line means;
-//! - `Receiver::take`: of which side the frame is, if it is of one;
-//! - `Receiver::receive`: what it did to the receptions;
-//! - `hand_on`: the same, by ways of their own for what most frames do;
-//! - `count_and_tell`: it is counted;
-//! - `Telling::take`: the message that it completed is judged; a strict run stops for a length that a dropped frame
-//!   announced;
-//! - `tell`: the [`Machine`] is handed all of it as one [`Seen`], beside the page as its sink;
-//! - `Machine::event`: the command says text;
-//! - `Page::put`: the text goes onto a page, which is written where it is full and before more is read.
+//! ```text
+//! impl Machine for Dots {
+//!     type Answer = Summary;
+//!
+//!     ghost stands = { λ start T now. ⊤ };
+//!     ghost script = { λ start. dots };
+//!     ghost answers = { λ start. answers_counts };
+//!     ghost needs = { λ start. needs_none };
+//!
+//!     fn is_strict(&self) -> bool {
+//!         false
+//!     }
+//!
+//!     fn event<S: TextSink>(&mut self, seen: Seen<'_>, out: &mut S) -> Result<(), AllocError> {
+//!         if seen.message.is_some() {
+//!             out.put(b".");
+//!         }
+//!         Ok(())
+//!     }
+//!
+//!     fn end<S: TextSink>(self, _: &Pair, summary: &Summary, _: &mut S) -> Result<Summary, NoAnswer> {
+//!         Ok(*summary)
+//!     }
+//!
+//!     fn refused<S: TextSink>(self, _: &Summary, _: Fault, _: Glimpse<'_>, _: &mut S) {}
+//! }
+//! ```
+//!
+//! Here `dots` is a `Script` of its own: of a frame that completed a message a dot, of another one nothing, and nothing
+//! at the end. That `event` says this is what its proof shows. The machine keeps nothing, so `stands` asks nothing of it.
 //!
 //! The machine sees no device: [`run`] (`driver`) joins the two ends, and makes each fault of theirs one of
 //! [`Fault`](trace_log::Fault).

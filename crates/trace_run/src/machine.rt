@@ -4,8 +4,8 @@ ghost use Rattle.isotp_receive.specs.declared.TheConstants.{MESSAGE_LIMIT};
 ghost use Rattle.isotp_receive.specs.Capacities.{KeepsWithin};
 ghost use Rattle.isotp_receive.specs.StandingReception.{receptions_after};
 ghost use Rattle.isotp_receive.specs.Trace.{Entry};
-ghost use Rattle.trace_run.specs.Seen.{IsSeen, glimpse_value};
-ghost use Rattle.trace_run.specs.Script.{GlimpseValue, RefusalText, Script, tells_no_refusal};
+ghost use Rattle.trace_run.specs.Seen.{IsSeen};
+ghost use Rattle.trace_run.specs.Script.{GlimpseValue, RefusalText, Script, glimpse_value, tells_no_refusal};
 ghost use Rattle.trace_run.specs.declared.machine.NoAnswer.{NoAnswer as NoAnswerValue};
 ghost use Rattle.trace_log.specs.declared.fault.Fault.TheVariants.{OutputLimit};
 ghost use Rattle.trace_log.specs.declared.summary.Summary.{Summary as SummaryValue};
@@ -101,8 +101,7 @@ pub struct Glimpse<'a> {
 
 impl<'a> Glimpse<'a> {
     ghost use Rattle.std.specs.Prelude.{◌≡◌};
-    ghost use Rattle.trace_run.specs.Seen.{glimpse_value};
-    ghost use Rattle.trace_run.specs.Script.{glimpse_of};
+    ghost use Rattle.trace_run.specs.Script.{glimpse_of, glimpse_value};
 
     /// What is now seen of a source.
     pub fn of<R: Source>(source: &'a R) -> Glimpse<'a>

@@ -72,7 +72,7 @@ impl Page {
     }
 
     /// Puts three texts on the page, one after another. Each is laid where it is to lie: put together first, they would
-    /// be stored in pieces and then read by one load over several of these stores, which has to wait for them.
+    /// be read by a covering load (`docs/DECISIONS.md`).
     #[inline(always)]
     fn put_three<W: Target>(&mut self, target: &mut W, first: &[u8], second: &[u8], third: &[u8])
         ensures { Says W.Target self.old target.old (first.now ++ second.now ++ third.now) self.new target.new }

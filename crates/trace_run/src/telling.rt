@@ -9,7 +9,8 @@ ghost use Rattle.isotp_receive.specs.StandingReception.{receptions_after};
 ghost use Rattle.isotp_receive.specs.Trace.{Entry};
 ghost use Rattle.isotp_receive.specs.Verdict.{told_message};
 ghost use Rattle.uds_exchange.specs.Judging.{HasCounted, IsJudgeOf};
-ghost use Rattle.trace_run.specs.Seen.{IsJudgmentOf, IsSeen, glimpse_value};
+ghost use Rattle.trace_run.specs.Script.{glimpse_value};
+ghost use Rattle.trace_run.specs.Seen.{IsJudgmentOf, IsSeen};
 ghost use Rattle.trace_run.specs.proving.Carrying.{Says};
 ghost use Rattle.trace_run.specs.proving.Telling.{oversize_for};
 

@@ -1,6 +1,6 @@
 -- What a proof of a crate above cites: the proofs of the public laws, each under the name of its statement in specs/,
--- and at the end how items go on with one more message, in the words of specs/proving, and how many there are. Nothing
--- else of proofs/ is for them.
+-- some of them written out at the end, and before these how items go on with one more message, in the words of
+-- specs/proving, and how many there are. Nothing else of proofs/ is for them.
 use Rattle.std.proofs.Common.{[], refl}
 use Rattle.uds_exchange.specs.Meaning.{meaning}
 use Rattle.uds_exchange.specs.Laws.{NoneIsMadeUp, EachHasOneRole, MessagesByRoles, HeldByOpenRequest}

@@ -48,7 +48,8 @@ role_of_step step.Removed = as_removed
 role_of_step step.Hold = as_stray
 role_of_step step.Pass = as_stray
 
--- what becomes of a message, which the open request alone decides, tells the role that `HasRole` finds by looking back
+-- what becomes of a message, which it and the open request alone decide, tells the role that `HasRole` finds by looking
+-- back
 abbrev pub StepTellsTheRole : Type 0
 StepTellsTheRole = (M : List Message) (message : Message) → HasRole M message (role_of_step (step_after M message))
 

@@ -49,7 +49,7 @@ impl JudgedOrderer {
 
     /// The sum of the lengths of the messages that are held; 0 where no request is open, if each message was judged
     /// rightly. After a fault of the sink it says nothing.
-    pub(crate) fn held_len(&self) -> u64
+    pub fn held(&self) -> u64
         ensures { result ≡ sum_by (λ x. length x.1) self.now.holds }
     {
         self.held.total_len() as u64

@@ -50,7 +50,8 @@ pub fn messages_by_roles()
     ensures { MessagesByRoles }
 {}
 
-/// What becomes of a message, by the first byte of the open request alone, tells its role by the messages before it.
+/// What becomes of a message, by it and the first byte of the open request alone, tells its role by the messages before
+/// it.
 pub fn step_tells_the_role()
     ensures { StepTellsTheRole }
 {}

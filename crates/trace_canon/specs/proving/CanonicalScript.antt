@@ -21,17 +21,17 @@ use Rattle.trace_canon.specs.proving.Writing.{ProgressValue, start_of, text_from
 abbrev pub progress_behind : Settings → List Message → ProgressValue
 progress_behind settings put = progress_after settings (start_of settings.max_bytes) (all_frames MESSAGE_LIMIT put)
 
--- the lines of the messages that are early of these, and were not of those
+-- the lines of the messages that are early now, after these messages, and were not before
 abbrev pub lines_due : Settings → List Message → List Message → List ℕ
 lines_due settings before now =
     text_from settings (progress_behind settings (early before))
     (all_frames MESSAGE_LIMIT (drop (length (early before)) (early now)))
 
--- the lines of the messages that are held of these
+-- the lines of those of these messages that are held
 abbrev pub lines_held : Settings → List Message → List ℕ
 lines_held settings M = text_from settings (progress_behind settings (early M)) (all_frames MESSAGE_LIMIT (held M))
 
--- of each frame the lines of what is due with it, and at the end of what is held
+-- of each frame the lines of the messages that are due with it, and at the end those of the messages that are held
 abbrev pub canonical_script : Settings → Script
 canonical_script settings = record {
   strict = true;

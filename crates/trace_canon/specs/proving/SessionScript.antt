@@ -19,7 +19,7 @@ use Rattle.trace_canon.specs.proving.Measuring.{HaveLengths}
 abbrev pub fits_within : Settings → List ItemValue → Bool
 fits_within settings items = nat_le (length (canonical_log MESSAGE_LIMIT settings (flattened items))) settings.max_bytes
 
--- a message of which this becomes has a place in the meaning
+-- a message with this step has a place in the meaning
 abbrev pub has_place : Step → Bool
 has_place (step.Request service) = true
 has_place step.Answer = true
@@ -49,7 +49,7 @@ answers_session settings T summary (Ok session) =
     × (fits_within settings (items_of_trace MESSAGE_LIMIT T) ≡ true)
 answers_session settings T summary (Err OutputLimit) = fits_within settings (items_of_trace MESSAGE_LIMIT T) ≡ false
 
--- what a run by these two answers gives the session
+-- a run with this script and these answers gives the session, or why there is none
 abbrev pub SessionIsTheSame : Type 0
 SessionIsTheSame = (settings : Settings) (log : List ℕ) (given : ℕ) (result : Result Session Fault) (old new : List ℕ)
     → AnswersTold silent_script tells_no_refusal (answers_session settings) MESSAGE_LIMIT settings log given result old new

@@ -12,7 +12,10 @@ use Rattle.trace_log.specs.declared.fault.Fault.{Fault}
 use Rattle.trace_run.specs.declared.receiver.Receiver.{Receiver}
 use Rattle.uds_exchange.specs.Judging.{IsJudgeOf}
 use Rattle.trace_log.specs.proving.Announcing.{AnnouncesWithin}
-use Rattle.trace_log.specs.proving.Receiving.{Receives, IsStart}
+use Rattle.trace_log.specs.proving.Receiving.{Receives, IsStart, entry_in}
+use Rattle.trace_log.specs.Settings.{direction_of}
+use Rattle.trace_log.specs.Trace.{trace}
+use Rattle.direction.specs.declared.Dir.{Dir}
 use Rattle.trace_log.specs.Needing.{IsKeptForMessage}
 use Rattle.trace_run.specs.Script.{Script, told}
 use Rattle.trace_run.specs.Seen.{IsEventOf}
@@ -92,3 +95,46 @@ abbrev pub HasReceived : {M W : Type 0} → (M → List Entry → M → Type 0) 
 HasReceived stands target before old meanings after IsTold =
     (after.config ≡ before.config) × (IsStart before.pair before.lines before.counts → Receives before.config meanings after.pair after.lines after.counts
     × (HasToldNothing stands before.telling → target.failures old ≤ 2 ^ 62 → IsTold))
+
+-- A receiver with its target, as they were before lines that mean this were taken, and as they are now. `.0` is the
+-- receiver, `.1` the target.
+module _ {M W : Type 0} (stands : M → List Entry → M → Type 0) (scripts : M → Script) (target : Ghosts W) where
+  -- the lines were taken, and their frames told
+  abbrev pub HasTaken : Receiver M W × W → List (Option Stamped) → Receiver M W × W → Type 0
+  HasTaken before meanings now =
+      HasReceived stands target before.0 before.1 meanings now.0
+      (HasTold stands scripts target before.1 before.0.telling.machine (trace before.0.config meanings)
+      now.0.telling now.1)
+
+  -- the same, and all that was told of them is written
+  abbrev pub HasRested : Receiver M W × W → List (Option Stamped) → Receiver M W × W → Type 0
+  HasRested before meanings now =
+      HasReceived stands target before.0 before.1 meanings now.0
+      (HasToldAndWritten stands scripts target before.1 before.0.telling.machine (trace before.0.config meanings)
+      now.0.telling false now.1)
+
+  -- the same, and writing failed
+  abbrev pub HasBroken : Receiver M W × W → List (Option Stamped) → Receiver M W × W → Type 0
+  HasBroken before meanings now =
+      HasReceived stands target before.0 before.1 meanings now.0
+      (HasToldAndWritten stands scripts target before.1 before.0.telling.machine (trace before.0.config meanings)
+      now.0.telling true now.1)
+
+  -- at least what is told of these lines, the first that were taken, is written
+  abbrev pub IsSureOf : Receiver M W × W → List (Option Stamped) → Receiver M W × W → Type 0
+  IsSureOf before earlier now =
+      IsStart before.0.pair before.0.lines before.0.counts → HasToldNothing stands before.0.telling
+      → target.failures before.1 ≤ 2 ^ 62
+      → HasWrittenAtLeast scripts target before.1 before.0.telling.machine (trace before.0.config earlier)
+      now.0.telling now.1
+
+  -- the lines were taken, and the run stopped at the next, which means `what` and has a frame of a side
+  abbrev pub HasStoppedAt : (M → List Entry → Entry → Type 0) → Receiver M W × W → List (Option Stamped)
+      → Option Stamped → Fault → Receiver M W × W → Type 0
+  HasStoppedAt needs before meanings what fault now =
+      IsStart before.0.pair before.0.lines before.0.counts
+      → (stamped : Stamped) × (d : Dir) × (what ≡ Some stamped)
+      × (Some d ≡ direction_of before.0.config stamped.frame.id)
+      × (HasToldNothing stands before.0.telling → target.failures before.1 ≤ 2 ^ 62
+      → HasStopped scripts needs target before.1 before.0.telling.machine (trace before.0.config meanings)
+      (entry_in meanings stamped d) fault now.0.telling now.1)

@@ -1,4 +1,4 @@
--- The pairs were found, or why not; their text was written, or a front of it.
+-- The credit lines were found, or why not; their text was written, or a front of it.
 use Rattle.std.proofs.Common.{refl, rules}
 use Rattle.trace_log.proofs.Promises.{handed_on}
 use Rattle.trace_canon.proofs.LeftAlone.{left_alone}

@@ -1,4 +1,4 @@
--- All lines were heard, and their pairs are answered; or reading them failed.
+-- All lines were heard, and their credit lines are answered; or reading them failed.
 use Rattle.std.proofs.Common.{arith, rules}
 use Rattle.std.proofs.lemmas.Result.{IfOk-weaker, IfErr-weaker}
 use Rattle.trace_canon.proofs.Hearings.{heard_fault, heard_need, heard_unwritten, heard_end, heard_end_need}

@@ -2,8 +2,7 @@
 use Rattle.std.proofs.Common.{inl, inr, sym, subst}
 use Rattle.trace_log.specs.declared.fault.Fault.{Fault}
 use Rattle.trace_run.specs.proving.Ending.{GivesUp, RefusesTelling}
-use Rattle.trace_run.specs.Seen.{glimpse_value}
-use Rattle.trace_run.specs.Script.{RefusalText}
+use Rattle.trace_run.specs.Script.{RefusalText, glimpse_value}
 use Rattle.trace_run.proofs.driver.give_up.Goals as goal
 
 pub returns-in-BadLine : goal.returns-in-BadLine

@@ -4,7 +4,7 @@ use Rattle.trace_run.specs.proving.Ending.{EndsAs}
 use Rattle.trace_log.specs.Trace.{trace}
 use Rattle.trace_log.specs.declared.fault.Fault.{Fault}
 use Rattle.trace_log.specs.declared.summary.Summary.{Summary}
-use Rattle.trace_run.specs.Seen.{glimpse_value}
+use Rattle.trace_run.specs.Script.{glimpse_value}
 use Rattle.trace_run.proofs.driver.refuse.Goals as goal
 
 pub returns : goal.returns

@@ -2,4 +2,4 @@
 use Rattle.trace_report.proofs.places.Places.start.Goals as goal
 
 pub returns : goal.returns
-returns c = record { begun = c.start.ensures; frames = record { tester = tt; unit = tt } }
+returns c = record { begun = c.start.ensures.begun; frames = record { tester = tt; unit = tt } }

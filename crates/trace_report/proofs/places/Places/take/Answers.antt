@@ -11,13 +11,13 @@ pub returns-clause-next : goal.returns-clause-next
 returns-clause-next c = λ T e is known.
     let few = is.few in
     record {
-      begun = c.take-first.ensures.stands T e is known.begun;
+      begun = c.take-first.ensures.begun T e is known.begun;
       frames = frames_next T e c.args.dir (seen_event c.args.event).verdict is.dir (ap (λ (x : EventValue). x.verdict) is.did) (omega arith) c.args.self.now.frames c.take.new.self known.frames
           c.take.ensures.tester c.take.ensures.unit;
     }
 
 pub returns-clause-first : goal.returns-clause-first
-returns-clause-first c = λ T e is known completes. c.take-first.ensures.first T e is known.begun completes
+returns-clause-first c = λ T e is known completes. c.take-first.ensures.place T e is known.begun completes
 
 pub returns-clause-frames : goal.returns-clause-frames
 returns-clause-frames c = λ T e is known completes.
