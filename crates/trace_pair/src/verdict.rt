@@ -14,6 +14,7 @@ use crate::verdict_words::{BoundLine, DifferentHeading, LossLine, SizeLine};
 use shown_rows::{Change, change_at, count_changes, count_of, differs, left_in, right_in};
 use text_parts::say;
 use trace_io::TextSink;
+use trace_log::Summary;
 use trace_report::Session;
 use uds_difference::Row;
 use uds_exchange::Item;
@@ -72,7 +73,7 @@ fn say_same<S: TextSink>(count: usize, sessions: Sessions<'_>, out: &mut S)
         out,
         (
             SameHeading {
-                exchanged: left.looks_exchanged || right.looks_exchanged,
+                exchanged: look_exchanged(&left, &right),
                 asked: has_request(sessions.left),
                 left_clean: left.is_clean(),
                 right_clean: right.is_clean(),
@@ -81,6 +82,13 @@ fn say_same<S: TextSink>(count: usize, sessions: Sessions<'_>, out: &mut S)
             SizeLine(count),
         ),
     );
+}
+
+/// Whether tester and unit look exchanged in one of both logs.
+fn look_exchanged(left: &Summary, right: &Summary) -> bool
+    ensures { result ≡ (left.now.looks_exchanged || right.now.looks_exchanged) }
+{
+    left.looks_exchanged || right.looks_exchanged
 }
 
 /// Whether a session has a request.
