@@ -1,6 +1,6 @@
 -- What is told of an exchange without an answer.
 use Rattle.std.proofs.Common.{◌≡◌, ℕ, Bool, true, false, Some, None, refl}
-use Rattle.std.specs.Prelude.{⊥, if◌then◌else◌}
+use Rattle.std.specs.Prelude.{if◌then◌else◌}
 use Rattle.uds_message.specs.Message.{is_negative_response, response_code}
 use Rattle.trace_pair.specs.Laws.{UnansweredHasNone}
 use Rattle.trace_pair.specs.declared.outcome.Outcome.{Outcome}

@@ -1,5 +1,6 @@
 -- What holds of a page of two logs, whatever logs it is of.
-use Rattle.std.specs.Prelude.{◌≡◌, ◌==◌, ◌<◌, ℕ, ◌+◌, ◌-◌, code, false, List, ◌++◌, length, Option, None, slice_get, Ok}
+use Prim.Native.Char.{code}
+use Rattle.std.specs.Prelude.{◌≡◌, ◌==◌, ◌<◌, ℕ, ◌+◌, ◌-◌, false, List, ◌++◌, length, Option, None, slice_get, Ok}
 use Rattle.std.specs.List.{list_any}
 use Rattle.isotp_receive.specs.declared.TheConstants.{MESSAGE_LIMIT}
 use Rattle.trace_canon.specs.Compared.{Compares, difference}

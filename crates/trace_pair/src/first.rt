@@ -1,5 +1,5 @@
 //! The first difference as recorded: both logs around it.
-ghost use Rattle.std.specs.Prelude.{◌≡◌, ◌+◌, ◌<◌, ◌^◌, option_map, slice_get};
+ghost use Rattle.std.specs.Prelude.{◌≡◌, ◌+◌, ◌<◌, ◌^◌, IfSome, option_map, slice_get};
 ghost use Rattle.shown_rows.specs.Changes.{changes};
 ghost use Rattle.trace_report.specs.proving.Lending.{item_of};
 ghost use Rattle.trace_pair.specs.ChangeWords.{IsSmall};
@@ -43,7 +43,8 @@ pub(crate) fn say_first<S: TextSink>(
 
 /// The first change of rows, if there is one.
 fn first_change(rows: &[Row]) -> Option<Change>
-    ensures { result ≡ slice_get (changes rows.now) 0 }
+    ensures value { result ≡ slice_get (changes rows.now) 0 }
+    ensures small { IfSome result IsSmall }
 {
     let mut i: usize = 0;
     let mut j: usize = 0;

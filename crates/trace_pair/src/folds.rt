@@ -31,7 +31,8 @@ pub(crate) fn say_fold<S: TextSink>(
     if count <= MOST_ROWS {
         say(out, "<details class=\"b same\">\n<summary>");
         say_fold_line(sessions, left, right, count, out);
-        say(out, ("</summary>\n", TableStart));
+        say(out, "</summary>\n");
+        say(out, TableStart);
         say_same_rows(sessions, left, right, count, out);
         say(out, "</table>\n</details>\n");
     } else {
@@ -57,13 +58,14 @@ fn say_fold_line<S: TextSink>(
 {
     say(out, ("<b>", ItemsWord(count as u64), ", the same</b> <i>"));
     say_both_ranges(left, right, count, out);
+    say(out, "</i>");
     say(
         out,
-        (
-            "</i>",
-            FoldLosses("A", count_losses(sessions.left, left, count)),
-            FoldLosses("B", count_losses(sessions.right, right, count)),
-        ),
+        FoldLosses("A", count_losses(sessions.left, left, count)),
+    );
+    say(
+        out,
+        FoldLosses("B", count_losses(sessions.right, right, count)),
     );
 }
 
@@ -112,7 +114,8 @@ fn say_fold_part<S: TextSink>(
 {
     say(out, "<details class=\"b\">\n<summary>");
     say_both_ranges(left, right, count, out);
-    say(out, ("</summary>\n", TableStart));
+    say(out, "</summary>\n");
+    say(out, TableStart);
     say_same_rows(sessions, left, right, count, out);
     say(out, "</table>\n</details>\n");
 }

@@ -1,7 +1,7 @@
 //! The front of a page of two logs.
 use crate::log::{LetteredName, Log};
 use crate::title::Title;
-use text_parts::{Either, Part, When, say};
+use text_parts::{Either, Part, say};
 use trace_io::TextSink;
 use trace_report::{Identifiers, Name, PageStart, Shapes};
 
@@ -20,8 +20,8 @@ impl<'a> Part for Front<'a> {
         say(
             out,
             (
-                PageStart,
                 (
+                    PageStart,
                     "<title>",
                     Name(title.left),
                     " and ",
@@ -29,15 +29,13 @@ impl<'a> Part for Front<'a> {
                     " - udsnorm report</title>\n<style>\n",
                     title.style,
                     "</style>\n</head>\n<body>\n",
+                    Shapes,
                 ),
-                Shapes,
-                (
-                    "<div class=\"page wide\">\n<header>\n<p class=\"brand\">udsnorm report</p>\n<h1>",
-                    LetteredName(Log::A, title.left),
-                    "<br>",
-                    LetteredName(Log::B, title.right),
-                    "</h1>\n",
-                ),
+                "<div class=\"page wide\">\n<header>\n<p class=\"brand\">udsnorm report</p>\n<h1>",
+                LetteredName(Log::A, title.left),
+                "<br>",
+                LetteredName(Log::B, title.right),
+                "</h1>\n",
                 Identifiers(title.tester, title.unit),
                 Links(count),
                 CutNotice,
@@ -62,8 +60,12 @@ impl Part for Links {
             out,
             (
                 "<p class=\"skip\"><a href=\"#verdict\">Verdict</a> ",
-                When(self.0 > 1, "<a href=\"#differences\">Differences</a> "),
-                When(self.0 > 0, Either(self.0 == 1, one, first)),
+                Either(
+                    self.0 <= 1,
+                    (),
+                    "<a href=\"#differences\">Differences</a> ",
+                ),
+                Either(self.0 == 0, (), Either(self.0 == 1, one, first)),
                 "<a href=\"#items\">Items</a> <a href=\"#help\">How to read this page</a></p>\n",
             ),
         );

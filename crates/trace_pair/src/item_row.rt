@@ -43,11 +43,12 @@ pub(crate) fn say_item_row<S: TextSink>(
 {
     let one = left_item(sessions.left, place);
     let other = right_item(sessions.right, place);
-    say(out, (RowStart(place.kind, begun), Numbers(place)));
-    say(out, TopIf(begun, place.kind, one, other));
     say(
         out,
         (
+            RowStart(place.kind, begun),
+            Numbers(place),
+            TopIf(begun, place.kind, one, other),
             "<div class=\"it\">",
             Told(place.kind, one, other),
             "</div><div class=\"ab\">",
@@ -56,13 +57,27 @@ pub(crate) fn say_item_row<S: TextSink>(
             "</div>",
         ),
     );
-    if has_left(place.kind) {
-        say_losses(Log::A, sessions.left, place.left, out);
-    }
-    if has_right(place.kind) {
-        say_losses(Log::B, sessions.right, place.right, out);
-    }
+    say_left_losses(sessions.left, place, out);
+    say_right_losses(sessions.right, place, out);
     say(out, "\n");
+}
+
+/// Says what is missing of the item that a row has of the left log, if it has one.
+fn say_left_losses<S: TextSink>(session: &Session, place: RowPlace, out: &mut S)
+    ensures { S.says out.old (Spec.left_losses session.now place.kind place.left) out.new }
+{
+    if has_left(place.kind) {
+        say_losses(Log::A, session, place.left, out);
+    }
+}
+
+/// Says what is missing of the one that it has of the right log.
+fn say_right_losses<S: TextSink>(session: &Session, place: RowPlace, out: &mut S)
+    ensures { S.says out.old (Spec.right_losses session.now place.kind place.right) out.new }
+{
+    if has_right(place.kind) {
+        say_losses(Log::B, session, place.right, out);
+    }
 }
 
 /// Whether a row of this kind has an item of the left log.

@@ -1,6 +1,8 @@
 //! The table of items: each row of both sessions once.
-ghost use Rattle.std.specs.Prelude.{◌≡◌, ◌+◌, ◌<◌, ◌∷◌, List, length};
+ghost use Rattle.std.specs.Prelude.{◌≡◌, ◌==◌, ◌+◌, ◌<◌, ◌&&◌, not, ◌∷◌, List, codes, length, if◌then◌else◌};
 ghost use Rattle.uds_difference.specs.declared.row.Row.{Row as RowValue};
+ghost use Rattle.uds_difference.specs.declared.row.Row.TheVariants as RowKind;
+ghost use Rattle.shown_rows.specs.Rows.{count_of, differs};
 ghost use Rattle.shown_rows.specs.Changes.{changes};
 ghost use Rattle.trace_pair.specs.ItemTables.{IsRoomy};
 ghost use Rattle.trace_pair.specs.ItemTables as Spec;
@@ -10,7 +12,7 @@ use crate::item_row::{Begun, RowPlace, say_item_row};
 use crate::sessions::Sessions;
 use crate::standing::{Standing, Table};
 use shown_rows::{change_at, count_changes, count_of, differs, folded, is_shown};
-use text_parts::{Part, When, say};
+use text_parts::{Either, Part, When, say};
 use trace_io::TextSink;
 use trace_text::Place;
 use uds_difference::Row;
@@ -22,23 +24,36 @@ const OPEN_BLOCKS: usize = 4;
 pub(crate) fn say_items<S: TextSink>(sessions: Sessions<'_>, rows: &[Row], out: &mut S)
     ensures { S.says out.old (Spec.items_text sessions.entry.left.now sessions.entry.right.now rows.now) out.new }
 {
-    let filtered = differs(rows) && count_of(Row::Same, rows) != 0;
     say(
         out,
         (
             "<section id=\"items\">\n<h2>Items</h2>\n",
             When(
-                filtered,
+                is_filtered(rows),
                 "<p class=\"filter\"><input type=\"checkbox\" id=\"apart\"> <label for=\"apart\">Show only differences</label></p>\n",
             ),
         ),
     );
+    say_rows_or_none(sessions, rows, out);
+    say(out, "</section>\n");
+}
+
+/// Whether a box can leave the differences alone: something differs, and something is the same.
+fn is_filtered(rows: &[Row]) -> bool
+    ensures { result ≡ (differs rows.now && not (count_of RowKind.Same rows.now == 0)) }
+{
+    differs(rows) && count_of(Row::Same, rows) != 0
+}
+
+/// Says all rows, or that there are none.
+fn say_rows_or_none<S: TextSink>(sessions: Sessions<'_>, rows: &[Row], out: &mut S)
+    ensures { S.says out.old (if length rows.now == 0 then codes "<p>None.</p>\n" else Spec.rows_text sessions.entry.left.now sessions.entry.right.now (length (changes rows.now)) Spec.at_start rows.now) out.new }
+{
     if rows.is_empty() {
         say(out, "<p>None.</p>\n");
     } else {
         say_rows(sessions, rows, out);
     }
-    say(out, "</section>\n");
 }
 
 /// Says all rows.
@@ -127,24 +142,49 @@ impl Part for Opening {
 
     fn say<S: TextSink>(self, out: &mut S) {
         let at = self.0;
-        if at.table == Table::Closed {
-            say(out, TableStart);
-        } else if at.table.is_full() {
-            say(
-                out,
-                (
-                    TableEnd(at.table),
-                    "<details class=\"b\"",
-                    When(at.blocks < OPEN_BLOCKS, " open"),
-                    ">\n<summary>From A&#160;",
-                    Place(at.left),
-                    ", B&#160;",
-                    Place(at.right),
-                    "</summary>\n",
-                    TableStart,
-                ),
-            );
+        match at.table {
+            Table::Closed => say(out, TableStart),
+            Table::Open(_) | Table::Block(_) => {
+                if at.table.is_full() {
+                    say(
+                        out,
+                        (
+                            TableEnd(at.table),
+                            BlockStart(at.blocks, at.left, at.right),
+                        ),
+                    );
+                }
+            }
         }
+    }
+}
+
+/// The start of a table that folds, by how many such stand before it, and by how many items of both.
+#[derive(Clone, Copy)]
+struct BlockStart(usize, usize, usize);
+
+impl Part for BlockStart {
+    ghost use Rattle.trace_pair.specs.ItemTables.{block_start};
+
+    ghost text = { λ t. block_start t.0 t.1 t.2 };
+
+    fn say<S: TextSink>(self, out: &mut S) {
+        let BlockStart(blocks, left, right) = self;
+        say(
+            out,
+            (
+                Either(
+                    blocks < OPEN_BLOCKS,
+                    "<details class=\"b\" open>\n<summary>From A&#160;",
+                    "<details class=\"b\">\n<summary>From A&#160;",
+                ),
+                Place(left),
+                ", B&#160;",
+                Place(right),
+                "</summary>\n",
+                TableStart,
+            ),
+        );
     }
 }
 

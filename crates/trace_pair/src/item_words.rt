@@ -1,10 +1,10 @@
 //! Items in the words of a technician.
-ghost use Rattle.std.specs.Prelude.{◌≡◌};
+ghost use Rattle.std.specs.Prelude.{◌≡◌, take};
 ghost use Rattle.trace_pair.specs.ItemWords as Spec;
 
 use crate::outcome::came_of;
 use direction::Dir;
-use text_parts::{Part, When, say};
+use text_parts::{Either, Part, say};
 use trace_io::TextSink;
 use trace_report::{BytesApart, MoreWords};
 use trace_text::{Number, Sender, Service};
@@ -70,21 +70,28 @@ impl<'a> Part for FirstBytes<'a> {
 
     fn say<S: TextSink>(self, out: &mut S) {
         let bytes = self.0;
-        let (front, rest) = bytes.split_at(bytes.len().min(TOLD));
-        let more = rest.len() as u64;
+        let more = bytes.len().saturating_sub(TOLD) as u64;
         say(
             out,
             (
                 "<code>",
-                BytesApart(front),
+                BytesApart(told(bytes)),
                 "</code>",
-                When(
-                    more > 0,
+                Either(
+                    bytes.len() <= TOLD,
+                    (),
                     (" <i>and ", Number(more), MoreWords(more), "</i>"),
                 ),
             ),
         );
     }
+}
+
+/// The first bytes of a message.
+fn told(bytes: &[u8]) -> &[u8]
+    ensures { result.now ≡ take 8 bytes.now }
+{
+    &bytes[..TOLD.min(bytes.len())]
 }
 
 /// What came of an item, behind its title, where it is an exchange.

@@ -13,6 +13,7 @@ use crate::help::Help;
 use crate::item_tables::say_items;
 use crate::log::{LetteredName, Log};
 use crate::recordings::{State, say_recordings};
+use crate::sessions::Sessions;
 use crate::title::Title;
 use crate::verdict::say_verdict;
 use shown_rows::count_changes;
@@ -82,13 +83,22 @@ fn say_aligned<S: TextSink>(title: &Title<'_>, aligned: &Aligned, out: &mut S)
     say_differences(sessions, rows, out);
     say_first(title.left, title.right, sessions, rows, out);
     say_items(sessions, rows, out);
+    say_both_counts(title, sessions, out);
+    say(out, "</main>\n");
+    say(out, Help);
+}
+
+/// Says all counts of both logs.
+fn say_both_counts<S: TextSink>(title: &Title<'_>, sessions: Sessions<'_>, out: &mut S)
+    ensures { S.says out.old (Spec.counts_section (title_of title.now) sessions.entry.left.now sessions.entry.right.now) out.new }
+{
     say(
         out,
         "<section id=\"counts\">\n<h2>The recordings</h2>\n<div class=\"two\">\n",
     );
     say_counts(Log::A, title.left, sessions.left, out);
     say_counts(Log::B, title.right, sessions.right, out);
-    say(out, ("</div>\n</section>\n</main>\n", Help));
+    say(out, "</div>\n</section>\n");
 }
 
 /// Says all counts of a log.

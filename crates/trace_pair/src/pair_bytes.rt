@@ -9,7 +9,7 @@ use crate::log::Log;
 use crate::outcome::{Outcome, came_of, same_outcome};
 use crate::told_items::ToldAnswer;
 use byte_columns::Beside;
-use text_parts::{Part, say};
+use text_parts::{Either, Part, When, say};
 use trace_io::TextSink;
 use trace_report::{Data, PlacedItem, RoleWords, RowMessage, has_word, is_request_role};
 
@@ -25,15 +25,22 @@ impl<'a> Part for ToldPair<'a> {
 
     fn say<S: TextSink>(self, out: &mut S) {
         let ToldPair(one, other) = self;
-        say(out, OfBoth(one.begin, other.begin));
-        if is_request_role(one.begin.sent.role) {
-            let answers = Answers(one, other);
-            if same_outcome(outcome_of(one), outcome_of(other)) {
-                say(out, (" &#8594; ", SameOutcomes(answers)));
-            } else {
-                say(out, OtherOutcomes(answers));
-            }
-        }
+        let answers = Answers(one, other);
+        let same = same_outcome(outcome_of(one), outcome_of(other));
+        say(
+            out,
+            (
+                OfBoth(one.begin, other.begin),
+                When(
+                    is_request_role(one.begin.sent.role),
+                    Either(
+                        same,
+                        (" &#8594; ", SameOutcomes(answers)),
+                        OtherOutcomes(answers),
+                    ),
+                ),
+            ),
+        );
     }
 }
 

@@ -76,14 +76,11 @@ impl Part for UncleanWords {
     ghost text = { λ words. unclean_words words.0 words.1 };
 
     fn say<S: TextSink>(self, out: &mut S) {
-        say(
-            out,
-            Either(
-                self.0,
-                "B is not clean",
-                Either(self.1, "A is not clean", "neither is clean"),
-            ),
-        );
+        match (self.0, self.1) {
+            (false, false) => say(out, "neither is clean"),
+            (false, true) => say(out, "A is not clean"),
+            (true, _) => say(out, "B is not clean"),
+        }
     }
 }
 

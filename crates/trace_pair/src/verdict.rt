@@ -10,12 +10,12 @@ ghost use Rattle.uds_exchange.specs.ItemSeen.{item_value};
 use crate::losses::{left_lossy, right_lossy};
 use crate::same_words::{NothingVerdict, SameHeading, SameItems};
 use crate::sessions::{Sessions, item_at};
-use crate::verdict_words::{DifferentHeading, LossLine, SizeLine};
+use crate::verdict_words::{BoundLine, DifferentHeading, LossLine, SizeLine};
 use shown_rows::{Change, change_at, count_changes, count_of, differs, left_in, right_in};
-use text_parts::{When, say};
+use text_parts::say;
 use trace_io::TextSink;
+use trace_log::Summary;
 use trace_report::Session;
-use trace_text::Number;
 use uds_difference::Row;
 use uds_exchange::Item;
 
@@ -46,11 +46,6 @@ fn say_different<S: TextSink>(found: Found<'_>, sessions: Sessions<'_>, out: &mu
     ensures { S.says out.old (Spec.different_verdict found.entry.shortest found.entry.bound found.entry.rows.now sessions.entry.left.now sessions.entry.right.now) out.new }
 {
     let rows = found.rows;
-    let bound = (
-        "<p>Perhaps not the shortest: more than ",
-        Number(found.bound as u64),
-        " items would be removed or added.</p>\n",
-    );
     say(
         out,
         (
@@ -62,7 +57,7 @@ fn say_different<S: TextSink>(found: Found<'_>, sessions: Sessions<'_>, out: &mu
                 changed: count_of(Row::Changed, rows),
             },
             losses_at_changes(rows, sessions),
-            When(!found.shortest, bound),
+            BoundLine(found.shortest, found.bound),
             SizeLine(rows.len()),
         ),
     );
@@ -78,7 +73,7 @@ fn say_same<S: TextSink>(count: usize, sessions: Sessions<'_>, out: &mut S)
         out,
         (
             SameHeading {
-                exchanged: left.looks_exchanged || right.looks_exchanged,
+                exchanged: look_exchanged(&left, &right),
                 asked: has_request(sessions.left),
                 left_clean: left.is_clean(),
                 right_clean: right.is_clean(),
@@ -87,6 +82,13 @@ fn say_same<S: TextSink>(count: usize, sessions: Sessions<'_>, out: &mut S)
             SizeLine(count),
         ),
     );
+}
+
+/// Whether tester and unit look exchanged in one of both logs.
+fn look_exchanged(left: &Summary, right: &Summary) -> bool
+    ensures { result ≡ (left.now.looks_exchanged || right.now.looks_exchanged) }
+{
+    left.looks_exchanged || right.looks_exchanged
 }
 
 /// Whether a session has a request.

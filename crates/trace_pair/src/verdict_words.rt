@@ -1,7 +1,7 @@
 //! The words of a verdict over two sessions.
-ghost use Rattle.std.specs.Prelude.{◌≡◌, ◌+◌, ◌<◌, ◌≤◌, ◌^◌, ◌||◌, false, if◌then◌else◌};
+ghost use Rattle.std.specs.Prelude.{◌≡◌, ◌==◌, ◌+◌, ◌<◌, ◌≤◌, ◌^◌, ◌||◌, false, if◌then◌else◌};
 
-use text_parts::{Either, Part, When, say};
+use text_parts::{Either, Part, say};
 use trace_io::TextSink;
 use trace_text::Number;
 
@@ -79,19 +79,21 @@ impl Part for CountsWords {
         say(
             out,
             (
-                When(left != 0, (ItemsWord(left), " only in A")),
-                When(
-                    right != 0,
+                Either(left == 0, (), (ItemsWord(left), " only in A")),
+                Either(
+                    right == 0,
+                    (),
                     (
                         Either(left == 0, ItemsWord(right), (", ", Number(right))),
                         " only in B",
                     ),
                 ),
-                When(
-                    changed != 0,
+                Either(
+                    changed == 0,
+                    (),
                     (
                         Either(
-                            left == 0 && right == 0,
+                            are_none(left, right),
                             ItemsWord(changed),
                             (", ", Number(changed)),
                         ),
@@ -101,6 +103,13 @@ impl Part for CountsWords {
             ),
         );
     }
+}
+
+/// Whether neither session has an item alone.
+fn are_none(left: u64, right: u64) -> bool
+    ensures { result ≡ (left + right == 0) }
+{
+    left == 0 && right == 0
 }
 
 /// How many items are the same.
@@ -181,14 +190,28 @@ impl Part for LossLine {
                     "<p class=\"lossline\"><b>",
                     AtWords(self.lossy, self.all),
                     "</b> ",
-                    Either(
-                        self.left,
-                        Either(self.right, "A or B is not clean", "A is not clean"),
-                        "B is not clean",
-                    ),
+                    WhoWords(self.left, self.right),
                     ": frames are missing, late, out of order or of no legal form there. The recording may differ, and not the session.</p>\n",
                 ),
             );
+        }
+    }
+}
+
+/// Which log is not clean at one of them.
+#[derive(Clone, Copy)]
+struct WhoWords(bool, bool);
+
+impl Part for WhoWords {
+    ghost use Rattle.trace_pair.specs.Verdict.{who_words};
+
+    ghost text = { λ words. who_words words.0 words.1 };
+
+    fn say<S: TextSink>(self, out: &mut S) {
+        match (self.0, self.1) {
+            (true, true) => say(out, "A or B is not clean"),
+            (true, false) => say(out, "A is not clean"),
+            (false, _) => say(out, "B is not clean"),
         }
     }
 }
@@ -222,6 +245,29 @@ impl Part for AtWords {
                     " of these ",
                     Number(all),
                     " differences",
+                ),
+            );
+        }
+    }
+}
+
+/// That a shorter difference may be there, where up to this bound none was found to be the shortest.
+#[derive(Clone, Copy)]
+pub(crate) struct BoundLine(pub bool, pub usize);
+
+impl Part for BoundLine {
+    ghost use Rattle.trace_pair.specs.Verdict.{bound_line};
+
+    ghost text = { λ line. bound_line line.0 line.1 };
+
+    fn say<S: TextSink>(self, out: &mut S) {
+        if !self.0 {
+            say(
+                out,
+                (
+                    "<p>Perhaps not the shortest: more than ",
+                    Number(self.1 as u64),
+                    " items would be removed or added.</p>\n",
                 ),
             );
         }
