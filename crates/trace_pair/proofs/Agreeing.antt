@@ -22,7 +22,7 @@ use Rattle.trace_report.specs.Kept as Keeps
 use Rattle.trace_report.specs.Laws.{ItemsAreTheMeaning}
 use Rattle.trace_report.specs.Session.{SessionValue}
 use Rattle.trace_pair.specs.Compared.{comparison_by, comparison_in}
-use Rattle.trace_pair.specs.Laws.{AgreesWithCompare}
+use Rattle.trace_pair.specs.Laws.{AgreesWithCompare, ComparisonIsOfItems}
 use Rattle.trace_pair.specs.Sessions.{values_in}
 
 -- Two lists have one first difference.
@@ -65,6 +65,12 @@ its-place : (place : Option ℕ) → place ≡ difference (comparison_by place)
 its-place None = refl
 its-place (Some n) = refl
 
+pub of-items : ComparisonIsOfItems
+of-items two =
+    let xs = values_in two.left in
+    let ys = values_in two.right in
+    subst (IsFirstDifference xs ys) (its-place (first_change (rows_of xs ys))) (first_change_is_first_difference xs ys)
+
 module _ (are_the_meaning : ItemsAreTheMeaning) where
   -- the items of a log that is kept are those that `compare` has
   same-items : (settings : Settings) (log : List ℕ) (held : SessionValue) (session : Session) → Keeps.KeepsOne MESSAGE_LIMIT settings log (Ok held)
@@ -80,7 +86,7 @@ module _ (are_the_meaning : ItemsAreTheMeaning) where
       let xs = values_in held.left in
       let ys = values_in held.right in
       let place = difference (comparison_in held) in
-      let own : IsFirstDifference xs ys place = subst (IsFirstDifference xs ys) (its-place (first_change (rows_of xs ys))) (first_change_is_first_difference xs ys) in
+      let own : IsFirstDifference xs ys place = of-items held in
       same-comparison (comparison_in held) compared.comparison
       (one-difference compared.left.meaning compared.right.meaning place (difference compared.comparison)
       (subst (λ (items : List ItemValue). IsFirstDifference items compared.right.meaning place) left

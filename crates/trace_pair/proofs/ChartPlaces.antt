@@ -15,7 +15,7 @@ same-test a b x y forth back = elim (cases_Bool (a == b)) [
   | inr other ↦ other ∙ sym (ne_eqb x y (λ same. eqb-false a b other (back same)))
 ]
 
-up-by : (item more : ℕ) (rows : List RowValue) → rows_before item rows ≤ rows_before (item + more) rows
+pub up-by : (item more : ℕ) (rows : List RowValue) → rows_before item rows ≤ rows_before (item + more) rows
 up-by item more rows = by more
   where
     by : (more : ℕ) → rows_before item rows ≤ rows_before (item + more) rows

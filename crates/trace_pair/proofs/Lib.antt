@@ -17,6 +17,7 @@ pub mod Asking
 mod Beside
 mod FirstChanges
 mod Agreeing
+mod ChartItems
 mod ToldOutcomes
 mod PagesInMemory
 mod PageStyle

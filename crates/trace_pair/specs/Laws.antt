@@ -1,13 +1,18 @@
 -- What holds of a page of two logs, whatever logs it is of.
-use Rattle.std.specs.Prelude.{◌≡◌, ◌==◌, ℕ, code, false, List, Option, None, Ok}
+use Rattle.std.specs.Prelude.{◌≡◌, ◌==◌, ◌<◌, ℕ, ◌+◌, ◌-◌, code, false, List, ◌++◌, length, Option, None, slice_get, Ok}
 use Rattle.std.specs.List.{list_any}
 use Rattle.isotp_receive.specs.declared.TheConstants.{MESSAGE_LIMIT}
-use Rattle.trace_canon.specs.Compared.{Compares}
+use Rattle.trace_canon.specs.Compared.{Compares, difference}
 use Rattle.trace_canon.specs.declared.comparing.Compared.{Compared}
 use Rattle.trace_log.specs.Settings.{Settings}
+use Rattle.uds_exchange.specs.Difference.{IsFirstDifference}
+use Rattle.trace_report.specs.Items.{rows_before}
 use Rattle.trace_report.specs.Kept.{KeepsTwo, TwoValue}
+use Rattle.trace_report.specs.Rows.{RowValue}
 use Rattle.trace_pair.specs.Compared.{comparison_in}
+use Rattle.trace_pair.specs.First.{chart_from, chart_rows}
 use Rattle.trace_pair.specs.ItemWords.{outcome}
+use Rattle.trace_pair.specs.Sessions.{values_in}
 use Rattle.trace_pair.specs.Style.{page_style}
 use Rattle.trace_pair.specs.declared.outcome.Outcome.TheVariants.{Silent, Unanswered}
 
@@ -16,11 +21,24 @@ use Rattle.trace_pair.specs.declared.outcome.Outcome.TheVariants.{Silent, Unansw
 abbrev pub StyleHoldsNoTag : Type 0
 StyleHoldsNoTag = list_any (λ b. b == code "<") page_style ≡ false
 
+-- what two sessions are to each other is so: they are the same exactly if their items are, and else differ first where
+-- these do
+abbrev pub ComparisonIsOfItems : Type 0
+ComparisonIsOfItems = (two : TwoValue) → IsFirstDifference (values_in two.left) (values_in two.right) (difference (comparison_in two))
+
 -- how the sessions of two logs compare is what `compare` answers, where that accepts both
 abbrev pub AgreesWithCompare : Type 0
 AgreesWithCompare = (settings : Settings) (one other : List ℕ) (held : TwoValue) (compared : Compared)
     → KeepsTwo MESSAGE_LIMIT settings one other (Ok held) → Compares MESSAGE_LIMIT settings one other (Ok compared)
     → comparison_in held ≡ compared.comparison
+
+-- the chart of a log around the item of a place is one piece of the log's rows, and has the row with which the item begins,
+-- if the log has one and the item before it has less than forty rows
+abbrev pub ChartHasTheItem : Type 0
+ChartHasTheItem = (item : ℕ) (rows : List RowValue)
+    → ((front more : List RowValue) × (rows ≡ front ++ (chart_rows item rows ++ more)))
+    × (rows_before item rows < length rows → rows_before item rows < chart_from item rows + 40
+    → slice_get (chart_rows item rows) (rows_before item rows - chart_from item rows) ≡ slice_get rows (rows_before item rows))
 
 -- an exchange that is told as one without an answer, or as silent, has none
 abbrev pub UnansweredHasNone : Type 0

@@ -1,6 +1,6 @@
 //! What holds of a page of two logs, whatever logs it is of. A law is its contract; a call does nothing. A law of a lower
 //! crate that a proof needs is called.
-ghost use Rattle.trace_pair.specs.Laws.{AgreesWithCompare, StyleHoldsNoTag, UnansweredHasNone};
+ghost use Rattle.trace_pair.specs.Laws.{AgreesWithCompare, ChartHasTheItem, ComparisonIsOfItems, StyleHoldsNoTag, UnansweredHasNone};
 
 use trace_report::laws::items_are_the_meaning;
 
@@ -9,12 +9,23 @@ pub fn style_holds_no_tag()
     ensures { StyleHoldsNoTag }
 {}
 
+/// What is answered of how two sessions compare is so of their items.
+pub fn comparison_is_of_items()
+    ensures { ComparisonIsOfItems }
+{}
+
 /// What is answered of two logs beside their page is what `compare` answers, where that accepts both.
 pub fn agrees_with_compare()
     ensures { AgreesWithCompare }
 {
     items_are_the_meaning();
 }
+
+/// The chart of the first difference shows the item that differs, but where its rows begin further behind those of the item
+/// before it than a chart goes.
+pub fn chart_has_the_item()
+    ensures { ChartHasTheItem }
+{}
 
 /// An item that is said to have no answer has none.
 pub fn unanswered_has_none()

@@ -1,6 +1,7 @@
 -- Where items begin among rows, with one row more.
 use Rattle.std.proofs.Common.{◌≡◌, ℕ, ◌+◌, ◌-◌, suc, zero, Bool, true, false, List, [], ◌∷◌, ◌++◌, length, map, Option, Some, None, refl, ap, sym, ◌∙◌, arith, append-nil}
 use Rattle.std.specs.Prelude.{◌==◌, slice_get, if◌then◌else◌}
+use Rattle.std.proofs.lemmas.Bool.{ne_eqb}
 use Rattle.std.proofs.lemmas.List.{map-append}
 use Rattle.trace_report.specs.Items.{begins, rows_before}
 use Rattle.trace_report.specs.Rows.{RowValue, message, no_answer, dropped, ended, unfinished}
@@ -59,9 +60,13 @@ one-behind before number rest behind =
 found-at : (is : Bool) (before item : ℕ) (rest : List RowValue)
     → ((number : ℕ) → before + 1 + rows_before number rest ≡ place_or (before + 1 + length rest) (slice_get (begin_places (before + 1) rest) number))
     → before + (if is then (if item == 0 then 0 else 1 + rows_before (item - 1) rest) else 1 + rows_before item rest)
-      ≡ place_or (before + suc (length rest)) (slice_get (if is then before ∷ begin_places (before + 1) rest else begin_places (before + 1) rest) item)
+    ≡ place_or (before + suc (length rest)) (slice_get (if is then before ∷ begin_places (before + 1) rest else begin_places (before + 1) rest) item)
 found-at true before zero rest behind = let none : before + 0 ≡ before = omega arith in none
-found-at true before (suc number) rest behind = one-behind before number rest behind
+found-at true before (suc number) rest behind =
+    let later : (suc number == 0) ≡ false = ne_eqb (suc number) 0 (λ same. omega (arith, same)) in
+    let less : suc number - 1 ≡ number = omega arith in
+    ap (λ (b : Bool). before + (if b then 0 else 1 + rows_before (suc number - 1) rest)) later
+    ∙ ap (λ (n : ℕ). before + (1 + rows_before n rest)) less ∙ one-behind before number rest behind
 found-at false before number rest behind = one-behind before number rest behind
 
 pub before-found : (rows : List RowValue) (before item : ℕ) → before + rows_before item rows ≡ place_or (before + length rows) (slice_get (begin_places before rows) item)

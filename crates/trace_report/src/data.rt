@@ -81,7 +81,7 @@ fn eight_behind(bytes: &[u8; 8]) -> [u8; 24]
 pub struct BytesApart<'a>(pub &'a [u8]);
 
 impl<'a> Part for BytesApart<'a> {
-    ghost use Rattle.trace_report.specs.Data.{bytes_apart, more_words, data_text, brief_data};
+    ghost use Rattle.trace_report.specs.Data.{bytes_apart};
 
     ghost text = { λ bytes. bytes_apart bytes.0.now };
 
@@ -98,6 +98,8 @@ impl<'a> Part for BytesApart<'a> {
 pub struct Data<'a>(pub &'a [u8]);
 
 impl<'a> Part for Data<'a> {
+    ghost use Rattle.trace_report.specs.Data.{data_text};
+
     ghost text = { λ bytes. data_text bytes.0.now };
 
     fn say<S: TextSink>(self, out: &mut S) {
@@ -146,6 +148,8 @@ impl<'a> Part for Data<'a> {
 pub(crate) struct BriefData<'a>(pub &'a [u8]);
 
 impl<'a> Part for BriefData<'a> {
+    ghost use Rattle.trace_report.specs.Data.{brief_data};
+
     ghost text = { λ bytes. brief_data bytes.0.now };
 
     fn say<S: TextSink>(self, out: &mut S) {
@@ -168,6 +172,8 @@ impl<'a> Part for BriefData<'a> {
 pub struct MoreWords(pub u64);
 
 impl Part for MoreWords {
+    ghost use Rattle.trace_report.specs.Data.{more_words};
+
     ghost text = { λ more. more_words more.0 };
 
     fn say<S: TextSink>(self, out: &mut S) {

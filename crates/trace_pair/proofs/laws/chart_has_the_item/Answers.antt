@@ -1,0 +1,5 @@
+use Rattle.trace_pair.proofs.ChartItems.{has-the-item}
+use Rattle.trace_pair.proofs.laws.chart_has_the_item.Goals as goal
+
+pub returns : goal.returns
+returns c = has-the-item
