@@ -4,7 +4,7 @@ use Rattle.direction.specs.Dir.{Message}
 use Rattle.trace_log.specs.CanonicalLog.{canonical_log, log_of_frames, canonical_log_of_lines, early_text, fitting}
 use Rattle.trace_log.specs.Laws.{IsCanonicalFor, Records, Certifies}
 use Rattle.trace_log.specs.Settings.{AreSettings, Settings}
-use Rattle.trace_log.proofs.Promises.{written_is_canonical, written_of_recording, answer_certifies, messages_more, all_frames-append, fitting_frames, fitting_log_begins}
+use Rattle.trace_log.proofs.Promises.{all_begin, written_is_canonical, written_of_recording, answer_certifies, messages_more, all_frames-append, fitting_frames, fitting_log_begins}
 use Rattle.std.proofs.Common.{arith, ◌+◌, ◌≡◌, Bool, true, false, refl, subst, Option, Ok, Err, ◌≤◌, ◌<◌, ℕ, List, [], ◌∷◌, ◌++◌, length, drop, ap, sym, ◌∙◌, append-nil, append_assoc, length-append, Result, inl, inr}
 use Rattle.std.proofs.Math.Seq.{drop-append_seam}
 use Rattle.can_log.specs.declared.frame.Stamped.{Stamped}
@@ -17,13 +17,12 @@ use Rattle.uds_exchange.specs.Orderer.{JudgedOrdererValue}
 use Rattle.uds_exchange.specs.Meaning.{meaning, flattened}
 use Rattle.uds_exchange.proofs.Promises.{early_grows, early_then_held}
 use Rattle.trace_canon.specs.proving.CanonicalScript.{StandsCanonical, is_too_long, answers_canonical, CanonicalTellsTheSame, canonical_script, progress_behind, lines_due, text_of_early, CanonicalTellsEarly}
-use Rattle.trace_canon.specs.InMemory.{HasTextOf}
+use Rattle.trace_log.specs.Needing.{HasTextOf}
 use Rattle.trace_run.specs.Script.{tells_no_refusal, told_after, told, told_of_lines, whole_of_lines}
 use Rattle.trace_run.specs.Told.{AnswersTold, EndsWith, FailsToTell, WritesTold, WritesToldAndRefusal, WritesFrontOfWhole, TellsEagerly}
 use Rattle.trace_canon.specs.proving.Writing.{ProgressValue, start_of, text_from, progress_after}
 use Rattle.trace_canon.proofs.CanonicalWriting.{text_none, text_append, place_append}
 use Rattle.trace_canon.proofs.Answered.{answers_accepted, answers_output_limit}
-use Rattle.trace_canon.proofs.Hearings.{all_begin}
 use Rattle.trace_canon.proofs.FittingLines.{over_when, within_when}
 use Rattle.trace_run.proofs.Promises.{front_of_whole}
 use Rattle.trace_log.specs.declared.fault.Fault.{Fault}
@@ -61,17 +60,17 @@ module _ (settings : Settings) where
       ∙ ap (text_from settings begin) (sym (all_frames-append MESSAGE_LIMIT (early M) grows.0))
       ∙ ap (λ x. text_from settings begin (all_frames MESSAGE_LIMIT x)) (sym longer)
 
-  from_there : (past xs : List Entry) → text_of_early settings past ++ told_after ((canonical_script settings).word) past xs ≡ text_of_early settings (past ++ xs)
+  from_there : (past xs : List Entry) → text_of_early settings past ++ told_after ((canonical_script settings).of_frame) past xs ≡ text_of_early settings (past ++ xs)
   from_there past [] = append-nil (text_of_early settings past) ∙ ap (text_of_early settings) (sym (append-nil past))
   from_there past (e ∷ rest) =
-      let word = lines_due settings (messages MESSAGE_LIMIT past) (messages MESSAGE_LIMIT (past ++ e ∷ [])) in
-      let later = told_after ((canonical_script settings).word) (past ++ e ∷ []) rest in
-      sym (append_assoc (text_of_early settings past) word later) ∙ ap (λ x. x ++ later) (one_more past e) ∙ from_there (past ++ e ∷ []) rest
+      let due = lines_due settings (messages MESSAGE_LIMIT past) (messages MESSAGE_LIMIT (past ++ e ∷ [])) in
+      let later = told_after ((canonical_script settings).of_frame) (past ++ e ∷ []) rest in
+      sym (append_assoc (text_of_early settings past) due later) ∙ ap (λ x. x ++ later) (one_more past e) ∙ from_there (past ++ e ∷ []) rest
       ∙ ap (text_of_early settings) (append_assoc past (e ∷ []) rest)
 
 pub canonical_tells_early : CanonicalTellsEarly
 canonical_tells_early settings T =
-    ap (λ x. x ++ told ((canonical_script settings).word) T) (sym (text_none settings (start_of settings.max_bytes))) ∙ from_there settings [] T
+    ap (λ x. x ++ told ((canonical_script settings).of_frame) T) (sym (text_none settings (start_of settings.max_bytes))) ∙ from_there settings [] T
 
 -- where the text stands at the end
 pub place_at_end : (settings : Settings) (M : List Message)
@@ -156,7 +155,7 @@ module _ (settings : Settings) where
         let script = canonical_script settings in
         let begins = fitting_log_begins MESSAGE_LIMIT settings (flattened (meaning (messages MESSAGE_LIMIT (trace settings meanings)))) in
         no_longer (whole_of_lines script MESSAGE_LIMIT settings log meanings) (told_of_lines script settings meanings)
-        (script.last (trace settings meanings) (summary_of MESSAGE_LIMIT settings log meanings)) (canonical_log_of_lines MESSAGE_LIMIT settings meanings) _ begins.0 refl (whole_is log meanings) begins.1
+        (script.at_the_end (trace settings meanings) (summary_of MESSAGE_LIMIT settings log meanings)) (canonical_log_of_lines MESSAGE_LIMIT settings meanings) _ begins.0 refl (whole_is log meanings) begins.1
 
     whole_within : (meanings : List (Option Stamped))
         → length (whole_of_lines (canonical_script settings) MESSAGE_LIMIT settings log meanings) ≤ length (canonical_log_of_lines MESSAGE_LIMIT settings meanings)

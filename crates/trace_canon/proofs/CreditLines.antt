@@ -1,4 +1,4 @@
--- The line of a pair, in the parts that are said.
+-- A credit line as an object, in the parts that are said.
 use Rattle.std.proofs.Common.{◌≡◌, List, ℕ, ◌++◌, sym, ◌∙◌, append_assoc, codes}
 use Rattle.std.specs.Fmt.{decimal}
 use Rattle.trace_canon.specs.Finding.{credit_line_text, credit_object}

@@ -12,6 +12,7 @@ use Rattle.trace_canon.specs.MessageLines.{starts, last_start}
 use Rattle.trace_canon.specs.PlaceLaws.{BeginsWithItsReception, BeginsWithItsFrame}
 use Rattle.trace_canon.proofs.MessagePlaces.{last_start_more}
 
+-- where no frame starts a message, the last start is the one before
 none_starts : (d : Dir) (x : Entry) (T : List Entry) → ((place : ℕ) (g : Entry) → At T place g → starts (role d g) ≡ false) → last_start d x T ≡ x
 none_starts d x [] none = refl
 none_starts d x (g ∷ rest) none =
@@ -41,6 +42,7 @@ open_by start in_first count before OnTime no_part leaves = refl
 here : (T : List Entry) (e g : Entry) → At (T ++ e ∷ []) (length T) g → g ≡ e
 here T e g stands = (let there = get-here T [] e in cc)
 
+-- a place that has a frame is within the trace
 within : (T : List Entry) (place : ℕ) (g : Entry) → At T place g → place < length T
 within [] place g there = absurd (cc)
 within (x ∷ T) zero g there = omega arith

@@ -1,14 +1,8 @@
 -- What is known of the result of a call, where it is handed on as it is.
 use Rattle.std.specs.Prelude.{Result, Ok, Err}
-use Rattle.std.specs.Result.{OnOk, OnErr}
+use Rattle.std.specs.Result.{OnOk}
 
-module _ {A E : Type 0} where
-  -- what follows from two things that are known of a success
-  pub two_ok : {P Q S : Type 0} (r : Result A E) → (P → Q → S) → OnOk r P → OnOk r Q → OnOk r S
-  two_ok (Ok x) f p q = f p q
-  two_ok (Err e) f p q = tt
-
-  -- what is so in any case
-  pub any_err : {P : Type 0} (r : Result A E) → P → OnErr r P
-  any_err (Ok x) p = tt
-  any_err (Err e) p = p
+-- what follows from two things that are known of a success
+pub two_ok : {A E P Q S : Type 0} (r : Result A E) → (P → Q → S) → OnOk r P → OnOk r Q → OnOk r S
+two_ok (Ok x) f p q = f p q
+two_ok (Err e) f p q = tt

@@ -3,21 +3,20 @@ use Rattle.std.proofs.Common.{◌≡◌, ◌≢◌, ℕ, ◌+◌, ◌^◌, ◌<�
 use Rattle.std.proofs.lemmas.List.{take-append-drop}
 use Rattle.std.specs.Prelude.{IfOk, IfErr}
 use Rattle.can_log.specs.Frame.{FrameValue}
-use Rattle.can_log.specs.Log.{LogMeans, log_lines}
+use Rattle.can_log.specs.Log.{LogMeans}
 use Rattle.can_log.specs.declared.frame.Stamped.{Stamped}
 use Rattle.trace_log.specs.declared.fault.Fault.{Fault}
 use Rattle.trace_log.specs.declared.fault.Fault.TheVariants as fault
 use Rattle.trace_canon.specs.declared.hearing.Found.{Found}
 use Rattle.trace_canon.specs.declared.hearing.Hearing.{Hearing}
 use Rattle.trace_canon.specs.Finding.{frames_in, GivesFound, IsFoundOf, IsUnheardFor, NeedsMemoryToFind}
-use Rattle.trace_log.specs.Needing.{BeginsWithLines}
 use Rattle.trace_log.specs.Settings.{Settings}
 use Rattle.trace_log.specs.Feeding.{FeedsLog, FeedsSome, Took, Stopped, StopsWithin}
 use Rattle.trace_canon.specs.proving.Hearing.{HasHeard}
 use Rattle.uds_find.specs.Credit.{HasCredit, IsFirstCredit}
 use Rattle.uds_find.specs.Finding.{FinderValue, StandsAfter}
 use Rattle.uds_find.proofs.Promises.{first_credit_is_credit}
-use Rattle.trace_log.proofs.Promises.{begins_with_lines, bad_counts, no_place_counts, bad_in_front, bad_at_end}
+use Rattle.trace_log.proofs.Promises.{all_begin, begins_with_lines, bad_counts, no_place_counts, bad_in_front, bad_at_end}
 
 -- ---- one line more
 
@@ -116,10 +115,6 @@ heard_unwritten why start now feeds is = by (subst (λ f. FeedsSome TookHeard To
     by (meanings, never) = never
 
 -- ---- the end
-
--- the first lines of a log are all
-pub all_begin : (log : List ℕ) (meanings : List (Option Stamped)) → LogMeans log meanings → BeginsWithLines log meanings
-all_begin log meanings means = record { lines = log_lines log; later = []; parts = sym (append-nil (log_lines log)); means = means }
 
 module _ (settings : Settings) (log : List ℕ) (meanings : List (Option Stamped)) (short : length log ≤ settings.max_bytes) (means : LogMeans log meanings) where
   pub heard_end : (result : Result Found Fault) → IfOk result (λ found. IsFoundOf log meanings found.credit_lines.items found.summary) → IfErr result (λ why. why ≡ fault.Memory)

@@ -10,7 +10,7 @@ pub mod SaidFrames
 pub mod CanonicalSayings
 pub mod CanonicalMachines
 pub mod CanonicalScripts
-pub mod Begins
+pub mod MovedStarts
 pub mod MessagePlaces
 pub mod FirstFrames
 pub mod PlacingScripts

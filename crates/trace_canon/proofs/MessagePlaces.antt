@@ -1,26 +1,32 @@
 -- Where the receptions that stand began, after one more frame, and where a message began.
-use Rattle.std.proofs.Common.{◌≡◌, ℕ, ◌==◌, Bool, true, false, List, [], ◌∷◌, ◌++◌, Option, Some, None, Result, Ok, Err, refl, nat_le, inl, inr, option_map}
+use Rattle.std.proofs.Common.{◌≡◌, ℕ, ◌==◌, Bool, true, false, List, [], ◌∷◌, ◌++◌, Option, Some, None, Result, Ok, Err, refl, sym, subst, ◌∙◌, nat_le, inl, inr, option_map}
 use Rattle.std.specs.Prelude.{if◌then◌else◌}
 use Rattle.std.proofs.lemmas.Bool.{cases_Bool}
 use Rattle.can_log.specs.Frame.{FrameValue}
 use Rattle.direction.specs.Dir.{other_direction}
 use Rattle.direction.specs.declared.Dir.{Dir}
+use Rattle.direction.specs.declared.Dir.TheVariants.{Tester, Unit}
 use Rattle.isotp_pdu.specs.Layout.{Layout}
 use Rattle.isotp_pdu.specs.Layout as layout
 use Rattle.isotp_pdu.specs.Reading.{layout_of}
 use Rattle.isotp_pdu.specs.declared.PduFault.{PduFault}
 use Rattle.isotp_pdu.specs.declared.Status.TheVariants.{Continue, Wait, Overflow}
 use Rattle.isotp_receive.specs.declared.TheConstants.{MESSAGE_LIMIT}
+use Rattle.isotp_receive.specs.declared.event.Event.{Event}
+use Rattle.isotp_receive.specs.EventSeen.{seen_event}
 use Rattle.isotp_receive.specs.Fit.{Fit, late, wrong_number, wrong_length, one_more as one_more_fits, last}
 use Rattle.isotp_receive.specs.proving.Machine.{after, continued_by}
 use Rattle.isotp_receive.specs.StandingReception.{StandingReception, fit_of, stands}
 use Rattle.isotp_receive.specs.Trace.{Entry, role, own_role, other_role, same_direction}
 use Rattle.isotp_receive.specs.Verdict.{message, on_layout, on_fit, verdict}
 use Rattle.isotp_receive.proofs.Promises.{one_more, same-self, other-apart, apart-flipped}
-use Rattle.trace_canon.specs.proving.ReceptionStarts.{IsBegunAt}
-use Rattle.trace_canon.specs.ReceptionStarts.{start_after_event, message_start}
+use Rattle.trace_run.specs.Seen.{IsEventOf}
+use Rattle.trace_canon.specs.MemoryNeeded.{CompletesMessage}
 use Rattle.trace_canon.specs.MessageLines.{place_of, starts, last_start, first_frame}
+use Rattle.trace_canon.specs.ReceptionStarts.{AreStartsAfter, IsBegunAt, reception_start}
 use Rattle.trace_canon.specs.declared.reception_starts.FramePlace.{FramePlace}
+use Rattle.trace_canon.specs.declared.reception_starts.ReceptionStarts.{ReceptionStarts}
+use Rattle.trace_canon.specs.proving.ReceptionStarts.{start_after_event, message_start}
 
 other : (d : Dir) → same_direction d (other_direction d) ≡ false
 other d = apart-flipped (other_direction d) d (other-apart d)
@@ -136,36 +142,65 @@ pub role_other : (d : Dir) (line micros : ℕ) (frame : FrameValue) → role (ot
 unfolding role
 role_other d line micros frame = rw (other-apart d) refl
 
--- what is kept of the sender's direction is right with one more frame
-pub own_begun : (d : Dir) (T : List Entry) (line micros : ℕ) (frame : FrameValue) (begun : Option FramePlace)
-    → IsBegunAt d T begun
-    → IsBegunAt d (T ++ record { line = line; micros = micros; dir = d; frame = frame } ∷ [])
-    (start_after_event d d (verdict MESSAGE_LIMIT T (record { line = line; micros = micros; dir = d; frame = frame })) (record { line = line; micros = micros }) begun)
+-- a frame of this line, time, direction and content, and where it stands
+abbrev entry_at : ℕ → ℕ → Dir → FrameValue → Entry
+entry_at line micros d frame = record { line = line; micros = micros; dir = d; frame = frame }
+
+abbrev pub here_at : ℕ → ℕ → FramePlace
+here_at line micros = record { line = line; micros = micros }
+
+-- where the sender's reception began, after its frame
+own_begun : (d : Dir) (T : List Entry) (line micros : ℕ) (frame : FrameValue) (begun : Option FramePlace) → IsBegunAt MESSAGE_LIMIT d T begun
+    → IsBegunAt MESSAGE_LIMIT d (T ++ entry_at line micros d frame ∷ []) (start_after_event d d (verdict MESSAGE_LIMIT T (entry_at line micros d frame)) (here_at line micros) begun)
 unfolding verdict
 own_begun d T line micros frame begun is earlier =
-    let e : Entry = record { line = line; micros = micros; dir = d; frame = frame } in
+    let e : Entry = entry_at line micros d frame in
     rw (is earlier, one_more MESSAGE_LIMIT d T e, last_start_more d earlier T e, place_if (starts (role d e)) e (last_start d earlier T), role_own d line micros frame)
-    (own_next line micros (record { line = line; micros = micros }) d (stands MESSAGE_LIMIT d T) (stands MESSAGE_LIMIT (other_direction d) T) (place_of (last_start d earlier T)) (layout_of frame))
+    (own_next line micros (here_at line micros) d (stands MESSAGE_LIMIT d T) (stands MESSAGE_LIMIT (other_direction d) T) (place_of (last_start d earlier T)) (layout_of frame))
 
-pub other_begun : (d : Dir) (T : List Entry) (line micros : ℕ) (frame : FrameValue) (begun : Option FramePlace)
-    → IsBegunAt (other_direction d) T begun
-    → IsBegunAt (other_direction d) (T ++ record { line = line; micros = micros; dir = d; frame = frame } ∷ [])
-    (start_after_event (other_direction d) d (verdict MESSAGE_LIMIT T (record { line = line; micros = micros; dir = d; frame = frame })) (record { line = line; micros = micros }) begun)
+-- and that of the other direction
+other_begun : (d : Dir) (T : List Entry) (line micros : ℕ) (frame : FrameValue) (begun : Option FramePlace) → IsBegunAt MESSAGE_LIMIT (other_direction d) T begun
+    → IsBegunAt MESSAGE_LIMIT (other_direction d) (T ++ entry_at line micros d frame ∷ [])
+    (start_after_event (other_direction d) d (verdict MESSAGE_LIMIT T (entry_at line micros d frame)) (here_at line micros) begun)
 unfolding verdict
 other_begun d T line micros frame begun is earlier =
     let o : Dir = other_direction d in
-    let e : Entry = record { line = line; micros = micros; dir = d; frame = frame } in
+    let e : Entry = entry_at line micros d frame in
     rw (is earlier, one_more MESSAGE_LIMIT o T e, last_start_more o earlier T e, place_if (starts (role o e)) e (last_start o earlier T), role_other d line micros frame)
-    (other_next line micros (record { line = line; micros = micros }) d (stands MESSAGE_LIMIT d T) (stands MESSAGE_LIMIT o T) (place_of (last_start o earlier T)) (layout_of frame))
+    (other_next line micros (here_at line micros) d (stands MESSAGE_LIMIT d T) (stands MESSAGE_LIMIT o T) (place_of (last_start o earlier T)) (layout_of frame))
 
--- and where the message began is the place of its first frame
-pub first_of : (d : Dir) (T : List Entry) (line micros : ℕ) (frame : FrameValue) (begun : Option FramePlace) (whole : List ℕ)
-    → IsBegunAt d T begun
-    → (verdict MESSAGE_LIMIT T (record { line = line; micros = micros; dir = d; frame = frame })).verdict ≡ message whole
-    → message_start d (verdict MESSAGE_LIMIT T (record { line = line; micros = micros; dir = d; frame = frame })) (record { line = line; micros = micros }) begun
-    ≡ place_of (first_frame T (record { line = line; micros = micros; dir = d; frame = frame }))
+-- so that of either
+begun_by : (d x : Dir) (T : List Entry) (line micros : ℕ) (frame : FrameValue) (kept : ReceptionStarts) → AreStartsAfter MESSAGE_LIMIT T kept
+    → IsBegunAt MESSAGE_LIMIT x (T ++ entry_at line micros d frame ∷ [])
+    (start_after_event x d (verdict MESSAGE_LIMIT T (entry_at line micros d frame)) (here_at line micros) (reception_start kept x))
+begun_by Tester Tester T line micros frame kept are = own_begun Tester T line micros frame kept.tester (are Tester)
+begun_by Tester Unit T line micros frame kept are = other_begun Tester T line micros frame kept.unit (are Unit)
+begun_by Unit Tester T line micros frame kept are = other_begun Unit T line micros frame kept.tester (are Tester)
+begun_by Unit Unit T line micros frame kept are = own_begun Unit T line micros frame kept.unit (are Unit)
+
+-- where the message began that a frame completed is the place of its first frame
+first_of : (d : Dir) (T : List Entry) (line micros : ℕ) (frame : FrameValue) (begun : Option FramePlace) (whole : List ℕ) → IsBegunAt MESSAGE_LIMIT d T begun
+    → (verdict MESSAGE_LIMIT T (entry_at line micros d frame)).verdict ≡ message whole
+    → message_start d (verdict MESSAGE_LIMIT T (entry_at line micros d frame)) (here_at line micros) begun ≡ place_of (first_frame T (entry_at line micros d frame))
 unfolding verdict
 first_of d T line micros frame begun whole is completes =
-    let e : Entry = record { line = line; micros = micros; dir = d; frame = frame } in
+    let e : Entry = entry_at line micros d frame in
     rw (is e, last_start_more d e T e, place_if (starts (role d e)) e (last_start d e T), role_own d line micros frame)
-    (first_found line micros (record { line = line; micros = micros }) d (stands MESSAGE_LIMIT d T) (stands MESSAGE_LIMIT (other_direction d) T) (place_of (last_start d e T)) (layout_of frame) whole completes)
+    (first_found line micros (here_at line micros) d (stands MESSAGE_LIMIT d T) (stands MESSAGE_LIMIT (other_direction d) T) (place_of (last_start d e T)) (layout_of frame) whole completes)
+
+module _ (T : List Entry) (e : Entry) (here : FramePlace) (d : Dir) (event : Event) (is : IsEventOf T e here.line here.micros d event)
+    (kept : ReceptionStarts) (are : AreStartsAfter MESSAGE_LIMIT T kept) where
+  -- what one more frame moves them to are the starts after it
+  pub starts_next : (moved : ReceptionStarts) → ((x : Dir) → reception_start moved x ≡ start_after_event x d (seen_event event) here (reception_start kept x))
+      → AreStartsAfter MESSAGE_LIMIT (T ++ e ∷ []) moved
+  starts_next moved by x =
+      subst (λ b. IsBegunAt MESSAGE_LIMIT x (T ++ e ∷ []) b)
+      (sym (by x ∙ (λ i. start_after_event x (sym is.dir i) (is.did i) (here_at (sym is.line i) (sym is.micros i)) (reception_start kept x))))
+      (begun_by e.dir x T e.line e.micros e.frame kept are)
+
+  -- and a message that it completes begins where its first frame stands
+  pub begins_at : CompletesMessage MESSAGE_LIMIT T e → (first : FramePlace) → first ≡ message_start d (seen_event event) here (reception_start kept d)
+      → first ≡ place_of (first_frame T e)
+  begins_at (whole, completes) first first_is =
+      first_is ∙ (λ i. message_start (sym is.dir i) (is.did i) (here_at (sym is.line i) (sym is.micros i)) (reception_start kept (sym is.dir i)))
+      ∙ first_of e.dir T e.line e.micros e.frame (reception_start kept e.dir) whole (are e.dir) completes

@@ -4,8 +4,7 @@ use Rattle.std.proofs.lemmas.Bool.{leb-true, leb-false}
 use Rattle.isotp_receive.specs.declared.TheConstants.{MESSAGE_LIMIT}
 use Rattle.trace_log.specs.declared.fault.Fault.TheVariants.{BadLine, Oversize, LogLimit, OutputLimit, Read, Write, Memory}
 use Rattle.trace_log.specs.declared.summary.Summary.{Summary}
-use Rattle.trace_canon.specs.Sessions.{IsAcceptedWith}
-use Rattle.trace_canon.specs.Sessions.{GivesMeaning}
+use Rattle.trace_canon.specs.Sessions.{GivesMeaning, IsAcceptedWith}
 use Rattle.trace_log.specs.CanonicalLog.{canonical_log_of_lines}
 use Rattle.trace_canon.specs.proving.SessionScript.{SessionIsTheSame, silent_script}
 use Rattle.trace_log.specs.Settings.{Settings}
@@ -15,7 +14,7 @@ use Rattle.uds_exchange.specs.Meaning.{ItemValue}
 
 -- it tells nothing
 pub silent_tells_nothing : TellsNothing silent_script
-silent_tells_nothing = record { of_frames = λ T e. refl; at_the_end = λ T summary. refl }
+silent_tells_nothing = record { of_frame = λ T e. refl; at_the_end = λ T summary. refl }
 
 pub session_is_the_same : SessionIsTheSame
 session_is_the_same settings log given (Ok session) old new (all, meanings, read, answer, wrote) = record {

@@ -74,7 +74,7 @@ module _ {S : Type 0} (says : S → List ℕ → S → Type 0) (nothing : (s : S
 -- ---- one more frame
 
 -- there are no more items than frames, decided or not
-few_items : (T : List Entry) → length (decided_of T) + length (undecided (messages MESSAGE_LIMIT T)) ≤ length T
+few_items : (T : List Entry) → length (decided_of MESSAGE_LIMIT T) + length (undecided (messages MESSAGE_LIMIT T)) ≤ length T
 few_items T =
     let M = messages MESSAGE_LIMIT T in
     let both = sym (length-append (decided M) (undecided M)) ∙ ap length (decided_then_undecided M) in
@@ -93,11 +93,11 @@ module _ {S : Type 0} (says : S → List ℕ → S → Type 0) (style kept : Ite
   pub watches_next : (e : Entry) (message : Message) (decider decider_now : DeciderValue) (number number_now : ℕ) (out out_now : S) → length T < 2 ^ 62
       → messages MESSAGE_LIMIT (T ++ e ∷ []) ≡ messages MESSAGE_LIMIT T ++ message ∷ [] → WatchesItems style T decider kept number
       → decider_now ≡ decider_after (messages MESSAGE_LIMIT T ++ message ∷ []) → SaysDecided says kept (messages MESSAGE_LIMIT T) message number out number_now out_now
-      → WatchesItems style (T ++ e ∷ []) decider_now kept number_now × says out (text_behind style T (newly_decided T e)) out_now
+      → WatchesItems style (T ++ e ∷ []) decider_now kept number_now × says out (text_behind style MESSAGE_LIMIT T (newly_decided MESSAGE_LIMIT T e)) out_now
   watches_next e message decider decider_now number number_now out out_now few next stood decides (items, are, lines) =
-      let before = decided_of T in
-      let longer : decided_of (T ++ e ∷ []) ≡ before ++ items = ap decided next ∙ are in
-      let left : newly_decided T e ≡ items = ap (drop (length before)) longer ∙ drop-append_seam before items in
+      let before = decided_of MESSAGE_LIMIT T in
+      let longer : decided_of MESSAGE_LIMIT (T ++ e ∷ []) ≡ before ++ items = ap decided next ∙ are in
+      let left : newly_decided MESSAGE_LIMIT T e ≡ items = ap (drop (length before)) longer ∙ drop-append_seam before items in
       let grown = ap length longer ∙ length-append before items in
       let frames = length-append T (e ∷ []) in
       let all_few = few_items (T ++ e ∷ []) in
@@ -111,11 +111,11 @@ module _ {S : Type 0} (says : S → List ℕ → S → Type 0) (style kept : Ite
   -- no message: nothing is
   pub watches_on : (nothing : (s : S) → says s [] s) (e : Entry) (decider : DeciderValue) (number : ℕ) (out : S) → length T < 2 ^ 62
       → messages MESSAGE_LIMIT (T ++ e ∷ []) ≡ messages MESSAGE_LIMIT T → WatchesItems style T decider kept number
-      → WatchesItems style (T ++ e ∷ []) decider kept number × says out (text_behind style T (newly_decided T e)) out
+      → WatchesItems style (T ++ e ∷ []) decider kept number × says out (text_behind style MESSAGE_LIMIT T (newly_decided MESSAGE_LIMIT T e)) out
   watches_on nothing e decider number out few next stood =
-      let before = decided_of T in
+      let before = decided_of MESSAGE_LIMIT T in
       let same : messages MESSAGE_LIMIT (T ++ e ∷ []) ≡ messages MESSAGE_LIMIT T = next in
-      let none : newly_decided T e ≡ [] = ap (λ M. drop (length before) (decided M)) same ∙ ap (drop (length before)) (sym (append-nil before)) ∙ drop-append_seam before [] in
+      let none : newly_decided MESSAGE_LIMIT T e ≡ [] = ap (λ M. drop (length before) (decided M)) same ∙ ap (drop (length before)) (sym (append-nil before)) ∙ drop-append_seam before [] in
       let frames = length-append T (e ∷ []) in (
         record {
           decides = stood.decides ∙ ap decider_after (sym same);
@@ -123,13 +123,13 @@ module _ {S : Type 0} (says : S → List ℕ → S → Type 0) (style kept : Ite
           numbered = stood.numbered ∙ ap (λ M. 1 + length (decided M)) (sym same);
           few = omega arith;
         },
-        subst (λ text. says out text out) (sym (ap (text_behind style T) none)) (nothing out),
+        subst (λ text. says out text out) (sym (ap (text_behind style MESSAGE_LIMIT T) none)) (nothing out),
       )
 
   -- at the end what is not decided
   pub watched : (decider : DeciderValue) (number number_now : ℕ) (out out_now : S) → WatchesItems style T decider kept number
       → SaysLines says kept (undecided (messages MESSAGE_LIMIT T)) number out number_now out_now
-      → says out (text_behind style T (undecided (messages MESSAGE_LIMIT T))) out_now
+      → says out (text_behind style MESSAGE_LIMIT T (undecided (messages MESSAGE_LIMIT T))) out_now
   watched decider number number_now out out_now stood lines =
       let all_few = few_items T in
       let numbered = stood.numbered in
@@ -139,41 +139,48 @@ module _ {S : Type 0} (says : S → List ℕ → S → Type 0) (style kept : Ite
 
 -- ---- all that is told
 
-module _ (style : ItemStyle) where
+module _ (style : ItemStyle) (limit : ℕ) where
   -- the list of items, and the text of those behind them
-  joined : (T : List Entry) (items : List ItemValue) → list_text style (decided_of T) ++ text_behind style T items ≡ list_text style (decided_of T ++ items)
-  joined T items = sym (lines-append style 1 (decided_of T) items)
+  joined : (T : List Entry) (items : List ItemValue)
+      → list_text style (decided_of limit T) ++ text_behind style limit T items ≡ list_text style (decided_of limit T ++ items)
+  joined T items = sym (lines-append style 1 (decided_of limit T) items)
 
-  next_told : (T : List Entry) (e : Entry) → list_text style (decided_of T) ++ text_behind style T (newly_decided T e) ≡ list_text style (decided_of (T ++ e ∷ []))
+  -- the list so far, and what is told of one more frame
+  next_told : (T : List Entry) (e : Entry)
+      → list_text style (decided_of limit T) ++ text_behind style limit T (newly_decided limit T e) ≡ list_text style (decided_of limit (T ++ e ∷ []))
   next_told T e =
-      let M = messages MESSAGE_LIMIT T in
-      let grows = decided_grows M (told_message e.dir (verdict MESSAGE_LIMIT T e).verdict) in
-      let longer : decided_of (T ++ e ∷ []) ≡ decided M ++ grows.0 = ap decided (messages_more MESSAGE_LIMIT T e) ∙ grows.1 in
-      let left : newly_decided T e ≡ grows.0 = ap (drop (length (decided M))) longer ∙ drop-append_seam (decided M) grows.0 in
-      ap (λ items. list_text style (decided_of T) ++ text_behind style T items) left ∙ joined T grows.0 ∙ ap (list_text style) (sym longer)
+      let M = messages limit T in
+      let grows = decided_grows M (told_message e.dir (verdict limit T e).verdict) in
+      let longer : decided_of limit (T ++ e ∷ []) ≡ decided M ++ grows.0 = ap decided (messages_more limit T e) ∙ grows.1 in
+      let left : newly_decided limit T e ≡ grows.0 = ap (drop (length (decided M))) longer ∙ drop-append_seam (decided M) grows.0 in
+      ap (λ items. list_text style (decided_of limit T) ++ text_behind style limit T items) left ∙ joined T grows.0 ∙ ap (list_text style) (sym longer)
 
-  from_there : (past rest : List Entry) → list_text style (decided_of past) ++ told_after ((watching_script style).word) past rest ≡ list_text style (decided_of (past ++ rest))
-  from_there past [] = append-nil (list_text style (decided_of past)) ∙ ap (λ T. list_text style (decided_of T)) (sym (append-nil past))
+  -- and of all that follow
+  from_there : (past rest : List Entry)
+      → list_text style (decided_of limit past) ++ told_after ((watching_script style limit).of_frame) past rest ≡ list_text style (decided_of limit (past ++ rest))
+  from_there past [] = append-nil (list_text style (decided_of limit past)) ∙ ap (λ T. list_text style (decided_of limit T)) (sym (append-nil past))
   from_there past (e ∷ rest) =
-      let word = text_behind style past (newly_decided past e) in
-      let later = told_after ((watching_script style).word) (past ++ e ∷ []) rest in
-      sym (append_assoc (list_text style (decided_of past)) word later) ∙ ap (λ x. x ++ later) (next_told past e) ∙ from_there (past ++ e ∷ []) rest
-      ∙ ap (λ T. list_text style (decided_of T)) (append_assoc past (e ∷ []) rest)
+      let word = text_behind style limit past (newly_decided limit past e) in
+      let later = told_after ((watching_script style limit).of_frame) (past ++ e ∷ []) rest in
+      sym (append_assoc (list_text style (decided_of limit past)) word later) ∙ ap (λ x. x ++ later) (next_told past e) ∙ from_there (past ++ e ∷ []) rest
+      ∙ ap (λ T. list_text style (decided_of limit T)) (append_assoc past (e ∷ []) rest)
 
 pub watch_tells_decided : WatchTellsDecided
-watch_tells_decided style T = from_there style [] T
+watch_tells_decided style limit T = from_there style limit [] T
 
 pub watch_tells_the_list : WatchTellsTheList
-watch_tells_the_list style T summary =
-    let M = messages MESSAGE_LIMIT T in
-    ap (λ x. x ++ text_behind style T (undecided M)) (watch_tells_decided style T) ∙ joined style T (undecided M) ∙ ap (list_text style) (decided_then_undecided M)
+watch_tells_the_list style limit T summary =
+    let M = messages limit T in
+    ap (λ x. x ++ text_behind style limit T (undecided M)) (watch_tells_decided style limit T) ∙ joined style limit T (undecided M)
+    ∙ ap (list_text style) (decided_then_undecided M)
 
 -- so where a run comes to the end of the log, that was written
 pub writes_the_list : (style : ItemStyle) (settings : Settings) (log : List ℕ) (given : ℕ) (result : Result Summary Fault) (old new : List ℕ)
-    → AnswersTold (watching_script style) tells_no_refusal answers_counts MESSAGE_LIMIT settings log given result old new → OnOk result (WritesTheList style MESSAGE_LIMIT settings log old new)
+    → AnswersTold (watching_script style MESSAGE_LIMIT) tells_no_refusal answers_counts MESSAGE_LIMIT settings log given result old new
+    → OnOk result (WritesTheList style MESSAGE_LIMIT settings log old new)
 writes_the_list style settings log given (Ok summary) old new (all, meanings, is, counted, wrote) = (
   meaning_of_lines MESSAGE_LIMIT settings meanings,
   record { meanings = meanings; means = is.1; found = refl },
-  wrote ∙ ap (λ x. old ++ x) (watch_tells_the_list style (trace settings meanings) (summary_of MESSAGE_LIMIT settings log meanings)),
+  wrote ∙ ap (λ x. old ++ x) (watch_tells_the_list style MESSAGE_LIMIT (trace settings meanings) (summary_of MESSAGE_LIMIT settings log meanings)),
 )
 writes_the_list style settings log given (Err why) old new answers = tt

@@ -1,5 +1,5 @@
--- What is written of two logs that are compared: whether they are the same, and where they first differ; and, where that is
--- shown, the items of both there. In words, or as an object of JSON.
+-- What is written of two logs that are compared: whether they are the same, and where they first differ; and, where
+-- that is shown, the items of both there. In words, or as an object of JSON.
 use Rattle.std.specs.Prelude.{ℕ, ◌+◌, Bool, true, false, List, [], ◌++◌, codes, Option, Some, None, slice_get, if◌then◌else◌}
 use Rattle.std.specs.Fmt.{decimal}
 use Rattle.uds_exchange.specs.Meaning.{ItemValue}
@@ -32,12 +32,14 @@ shown_text Json number item = value_text (shown_value number item)
 -- the lines of the items of both logs at this place, which is counted from 0
 abbrev pub shown_lines : ℕ → List ItemValue → List ItemValue → List ℕ
 shown_lines place left right =
-    codes "left: " ++ shown_line (place + 1) (slice_get left place) ++ codes "right: " ++ shown_line (place + 1) (slice_get right place)
+    codes "left: " ++ shown_line (place + 1) (slice_get left place)
+    ++ codes "right: " ++ shown_line (place + 1) (slice_get right place)
 
 -- the items of both logs at this place, as members of an object
 abbrev pub shown_members : ℕ → List ItemValue → List ItemValue → Members
 shown_members place left right =
-    member (codes "left") (shown_value (place + 1) (slice_get left place)) (member (codes "right") (shown_value (place + 1) (slice_get right place)) nothing)
+    member (codes "left") (shown_value (place + 1) (slice_get left place))
+    (member (codes "right") (shown_value (place + 1) (slice_get right place)) nothing)
 
 -- the answer of a comparison in words, in which items are counted from 1, and the items that are shown
 abbrev pub comparison_lines : Bool → Comparison → List ItemValue → List ItemValue → List ℕ
@@ -47,12 +49,14 @@ comparison_lines shows (Different place) left right =
 
 -- the members of two logs that differ at this place, and what else is told of them
 abbrev pub different_members : ℕ → Members → Members
-different_members place later = member (codes "same") (json.truth false) (member (codes "item") (json.number (place + 1)) later)
+different_members place later =
+    member (codes "same") (json.truth false) (member (codes "item") (json.number (place + 1)) later)
 
 -- the answer of a comparison as members of an object, and the items that are shown
 abbrev pub comparison_members : Bool → Comparison → List ItemValue → List ItemValue → Members
 comparison_members shows Same left right = member (codes "same") (json.truth true) nothing
-comparison_members shows (Different place) left right = different_members place (if shows then shown_members place left right else nothing)
+comparison_members shows (Different place) left right =
+    different_members place (if shows then shown_members place left right else nothing)
 
 -- the answer of a comparison as it is written in a notation
 abbrev pub written_comparison : Notation → Bool → Comparison → List ItemValue → List ItemValue → List ℕ
@@ -61,4 +65,5 @@ written_comparison Json shows comparison left right = object_line (comparison_me
 
 -- the text of a comparison in a style
 abbrev pub comparison_text : ComparisonStyle → Compared → List ℕ
-comparison_text style compared = written_comparison style.notation style.shows_items compared.comparison compared.left.meaning compared.right.meaning
+comparison_text style compared =
+    written_comparison style.notation style.shows_items compared.comparison compared.left.meaning compared.right.meaning

@@ -11,12 +11,12 @@ use Rattle.trace_log.specs.declared.summary.Summary.{Summary}
 use Rattle.trace_text.specs.RemarkLines.{remark_text}
 use Rattle.trace_run.specs.Script.{Script}
 
--- of a reception that the frame of this line ended, if it ended one
+-- what is told of a reception that the frame of this line ended, if it ended one
 abbrev pub ended_text : Notation → ℕ → Option Ended → List ℕ
 ended_text notation line None = []
 ended_text notation line (Some ended) = remark_text notation (remark.Ended line ended)
 
--- of a frame of this line, sent by this side, if it was dropped
+-- what is told of a frame of this line, sent by this side, if it was dropped
 abbrev pub dropped_text : Notation → ℕ → Dir → VerdictValue → List ℕ
 dropped_text notation line d (dropped reason) = remark_text notation (remark.Dropped line d reason)
 dropped_text notation line d (message bytes) = []
@@ -47,10 +47,10 @@ unfinished_text notation receptions =
 abbrev pub end_text : Notation → Receptions → Summary → List ℕ
 end_text notation receptions summary = unfinished_text notation receptions ++ remark_text notation (remark.Counts summary)
 
--- of each frame its lines, and at the end the receptions that stand, and the counts
+-- what `explain` tells: of each frame its lines, and at the end the receptions that stand, and the counts
 abbrev pub explain_script : Notation → ℕ → Script
 explain_script notation limit = record {
   strict = false;
-  word = λ T e. event_text notation e.line e.dir (verdict limit T e);
-  last = λ T summary. end_text notation (receptions_after limit T) summary;
+  of_frame = λ T e. event_text notation e.line e.dir (verdict limit T e);
+  at_the_end = λ T summary. end_text notation (receptions_after limit T) summary;
 }

@@ -46,7 +46,8 @@ IsFoundOf log meanings pairs summary = AreCreditLines (frames_in meanings) pairs
 
 -- the log can be read, and these are its credits and its counts
 abbrev pub IsFoundIn : Settings → List ℕ → List CreditLine → Summary → Type 0
-IsFoundIn settings log pairs summary = (meanings : List (Option Stamped)) × IsReadAs settings log (Ok meanings) × IsFoundOf log meanings pairs summary
+IsFoundIn settings log pairs summary =
+    (meanings : List (Option Stamped)) × IsReadAs settings log (Ok meanings) × IsFoundOf log meanings pairs summary
 
 -- why the log can't be read, where the fault tells that
 abbrev pub IsUnheardFor : Settings → List ℕ → Fault → Type 0
@@ -63,7 +64,8 @@ NeedsMemoryToFind log = (meanings : List (Option Stamped)) × BeginsWithLines lo
 
 -- the line of who answered whom, in words: how often, and the options by which other commands take the identifiers
 abbrev pub worded_credit : CreditLine → List ℕ
-worded_credit pair = decimal pair.credits ++ codes " --tester " ++ pair.tester.items ++ codes " --unit " ++ pair.unit.items ++ codes "\n"
+worded_credit pair =
+    decimal pair.credits ++ codes " --tester " ++ pair.tester.items ++ codes " --unit " ++ pair.unit.items ++ codes "\n"
 
 -- the line of who answered whom, as an object of JSON
 abbrev pub credit_object : CreditLine → Members
@@ -80,13 +82,15 @@ credit_line_text Json pair = object_line (credit_object pair)
 abbrev pub credit_lines_text : Notation → List CreditLine → List ℕ
 credit_lines_text notation pairs = flat_map (credit_line_text notation) pairs
 
--- What is answered on a log, and what is then written: the lines of its credits, and its counts; else why it can't be read.
+-- What is answered on a log, and what is then written: the lines of its credits, and its counts; else why it can't be
+-- read.
 abbrev pub Finds : Notation → Settings → List ℕ → Result Summary Fault → List ℕ → List ℕ → Type 0
 Finds notation settings log = WritesOnce (credit_lines_text notation) (IsFoundIn settings log) (IsUnheardFor settings log)
 
 -- how a log is read for these lines: memory is needed where an answer is credited
 abbrev pub reading_to_find : Settings → WayOfReading
-reading_to_find settings = record { unrefused = HasNoBadPlaceWithin; needs = NeedsMemoryToFind; max_bytes = settings.max_bytes }
+reading_to_find settings =
+    record { unrefused = HasNoBadPlaceWithin; needs = NeedsMemoryToFind; max_bytes = settings.max_bytes }
 
 -- the lines of a log's credits, as a call writes them at the end
 abbrev pub text_of_credits : Notation → Settings → TextOfLog (List CreditLine)
@@ -98,5 +102,6 @@ text_of_credits notation settings = record {
 }
 
 -- the run of a call that writes the lines of a log's credits
-abbrev pub RanToFind : {R W : Type 0} → SourceGhosts R → TargetGhosts W → Notation → Settings → R → W → Result Summary Fault → R → W → Type 0
+abbrev pub RanToFind : {R W : Type 0} → SourceGhosts R → TargetGhosts W → Notation → Settings
+    → R → W → Result Summary Fault → R → W → Type 0
 RanToFind source target notation settings = RanOnce source target (text_of_credits notation settings)

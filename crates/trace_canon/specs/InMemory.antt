@@ -12,8 +12,7 @@ use Rattle.trace_text.specs.declared.item_style.ItemStyle.{ItemStyle}
 use Rattle.trace_text.specs.declared.notation.Notation.{Notation}
 use Rattle.trace_log.specs.declared.summary.Summary.{Summary}
 use Rattle.trace_log.specs.Answers.{TellsOutcome}
-use Rattle.trace_canon.specs.Sessions.{IsAcceptedWith}
-use Rattle.trace_canon.specs.Sessions.{GivesMeaning}
+use Rattle.trace_canon.specs.Sessions.{GivesMeaning, IsAcceptedWith}
 use Rattle.trace_canon.specs.Compared.{Compares, fault_in}
 use Rattle.trace_log.specs.ReadAs.{IsReadAs}
 use Rattle.trace_canon.specs.ExplainScript.{explain_script}
@@ -21,7 +20,7 @@ use Rattle.trace_canon.specs.Finding.{IsFoundIn, NeedsMemoryToFind, credit_lines
 use Rattle.trace_canon.specs.MemoryNeeded.{NeedsMemoryToCollect, NeedsMemoryToOrder}
 use Rattle.trace_text.specs.ItemLines.{list_text}
 use Rattle.trace_log.specs.CanonicalLog.{canonical_log_of_lines}
-use Rattle.trace_log.specs.Needing.{BeginsWithLines, NeedsMemoryToReceive}
+use Rattle.trace_log.specs.Needing.{HasTextOf, NeedsMemoryToReceive}
 use Rattle.trace_log.specs.Outcome.{IsOutcome}
 use Rattle.trace_canon.specs.MessageLines.{placing_script}
 use Rattle.trace_log.specs.Settings.{Settings}
@@ -38,16 +37,19 @@ pub record IsOfMemory (NeedsMemory : Type 0) (fault : Fault) : Type 0 where
 
 -- the log is refused for what the fault tells, or memory was refused, which it needs
 abbrev pub IsRefused : (ℕ → Settings → List ℕ → Type 0) → ℕ → Settings → List ℕ → Fault → Type 0
-IsRefused NeedsMemory limit settings log fault = TellsOutcome limit settings log fault × IsOfMemory (NeedsMemory limit settings log) fault
+IsRefused NeedsMemory limit settings log fault =
+    TellsOutcome limit settings log fault × IsOfMemory (NeedsMemory limit settings log) fault
 
 -- the log can't be read for what the fault tells, or memory was refused, which it needs: no length that is announced
 -- refuses it
 abbrev pub IsUnread : (ℕ → Settings → List ℕ → Type 0) → ℕ → Settings → List ℕ → Fault → Type 0
-IsUnread NeedsMemory limit settings log fault = IsUnreadFor false limit settings log fault × IsOfMemory (NeedsMemory limit settings log) fault
+IsUnread NeedsMemory limit settings log fault =
+    IsUnreadFor false limit settings log fault × IsOfMemory (NeedsMemory limit settings log) fault
 
 -- the log is accepted, and these are its canonical log and its counts
 abbrev pub IsCanonicalLogWith : ℕ → Settings → List ℕ → List ℕ → Summary → Type 0
-IsCanonicalLogWith limit settings log text summary = IsOutcome limit settings log (Ok (record { text = text; summary = summary }))
+IsCanonicalLogWith limit settings log text summary =
+    IsOutcome limit settings log (Ok (record { text = text; summary = summary }))
 
 -- the log is accepted with these counts, and this is the list of its items in this style
 abbrev pub IsListWith : ItemStyle → ℕ → Settings → List ℕ → List ℕ → Summary → Type 0
@@ -57,8 +59,8 @@ IsListWith style limit settings log text summary =
 -- the log can be read and has these counts, and this is all that a script tells of it
 abbrev pub IsToldWith : Script → ℕ → Settings → List ℕ → List ℕ → Summary → Type 0
 IsToldWith script limit settings log text summary =
-    (meanings : List (Option Stamped)) × IsReadAs settings log (Ok meanings) × (summary ≡ summary_of limit settings log meanings)
-    × (text ≡ whole_of_lines script limit settings log meanings)
+    (meanings : List (Option Stamped)) × IsReadAs settings log (Ok meanings)
+    × (summary ≡ summary_of limit settings log meanings) × (text ≡ whole_of_lines script limit settings log meanings)
 
 -- the log can be read and has these counts, and this places its messages in this notation
 abbrev pub IsPlacingWith : Notation → ℕ → Settings → List ℕ → List ℕ → Summary → Type 0
@@ -70,13 +72,8 @@ IsExplanationWith notation limit = IsToldWith (explain_script notation limit) li
 
 -- the log can be read and has these counts, and this has a line for each who answered another
 abbrev pub IsFindingWith : Notation → Settings → List ℕ → List ℕ → Summary → Type 0
-IsFindingWith notation settings log text summary = (pairs : List CreditLine) × IsFoundIn settings log pairs summary × (text ≡ credit_lines_text notation pairs)
-
--- The first lines of the log have some text of this kind, of one byte at least.
-pub record HasTextOf (text : List (Option Stamped) → List ℕ) (log : List ℕ) : Type 0 where
-  pub meanings : List (Option Stamped)
-  pub begins : BeginsWithLines log meanings
-  pub some : 0 < length (text meanings)
+IsFindingWith notation settings log text summary =
+    (pairs : List CreditLine) × IsFoundIn settings log pairs summary × (text ≡ credit_lines_text notation pairs)
 
 -- there is a text of this kind, of one byte at least
 abbrev pub HasBytes : (List ℕ → Summary → Type 0) → Type 0
@@ -84,11 +81,13 @@ HasBytes IsTextWith = (text : List ℕ) × (summary : Summary) × IsTextWith tex
 
 -- Memory is needed to gather a canonical log: to read the log, or since its first lines have a canonical line.
 abbrev pub NeedsMemoryForCanonicalLog : ℕ → Settings → List ℕ → Type 0
-NeedsMemoryForCanonicalLog limit settings log = NeedsMemoryToOrder limit settings log ⊎ HasTextOf (canonical_log_of_lines limit settings) log
+NeedsMemoryForCanonicalLog limit settings log =
+    NeedsMemoryToOrder limit settings log ⊎ HasTextOf (canonical_log_of_lines limit settings) log
 
 -- Memory is needed to gather a list: to read the log, or since it has an item.
 abbrev pub NeedsMemoryForList : ItemStyle → ℕ → Settings → List ℕ → Type 0
-NeedsMemoryForList style limit settings log = NeedsMemoryToCollect limit settings log ⊎ HasBytes (IsListWith style limit settings log)
+NeedsMemoryForList style limit settings log =
+    NeedsMemoryToCollect limit settings log ⊎ HasBytes (IsListWith style limit settings log)
 
 -- Memory is needed to gather the lines of messages: to read the log, or since its first lines deliver one.
 abbrev pub NeedsMemoryForPlacing : Notation → ℕ → Settings → List ℕ → Type 0
@@ -115,13 +114,16 @@ NeedsMemoryOnSide limit settings one other (Right fault) = NeedsMemoryToCollect 
 
 -- what two logs are to each other, and the counts of each, without what they mean
 abbrev pub counted_comparison : Compared → CountedComparison
-counted_comparison compared = record { comparison = compared.comparison; left = compared.left.summary; right = compared.right.summary }
+counted_comparison compared =
+    record { comparison = compared.comparison; left = compared.left.summary; right = compared.right.summary }
 
 -- how the meanings of the two logs compare, with the counts of each; or why one has none
 abbrev pub ComparesWithCounts : ℕ → Settings → List ℕ → List ℕ → Result CountedComparison CompareFault → Type 0
-ComparesWithCounts limit settings one other (Ok counted) = (compared : Compared) × Compares limit settings one other (Ok compared) × (counted ≡ counted_comparison compared)
+ComparesWithCounts limit settings one other (Ok counted) =
+    (compared : Compared) × Compares limit settings one other (Ok compared) × (counted ≡ counted_comparison compared)
 ComparesWithCounts limit settings one other (Err fault) =
-    Compares limit settings one other (Err fault) × IsOfMemory (NeedsMemoryOnSide limit settings one other fault) (fault_in fault)
+    Compares limit settings one other (Err fault)
+    × IsOfMemory (NeedsMemoryOnSide limit settings one other fault) (fault_in fault)
 
 -- the fault of a text that is gathered in memory, where a write fails for want of memory alone
 abbrev pub fault_in_memory : Fault → Fault

@@ -9,11 +9,13 @@ use Rattle.trace_log.specs.Needing.{HasFrame, IsKeptForMessage}
 
 -- The frame completes a message that is held: a stray behind a request that waits for its answer.
 abbrev pub CompletesHeld : ℕ → List Entry → Entry → Type 0
-CompletesHeld limit T e = (bytes : List ℕ) × ((verdict limit T e).verdict ≡ message bytes) × IsHeld (messages limit T) (e.dir, bytes)
+CompletesHeld limit T e =
+    (bytes : List ℕ) × ((verdict limit T e).verdict ≡ message bytes) × IsHeld (messages limit T) (e.dir, bytes)
 
 -- The frame completes a message that is kept: a request, or a stray behind a request that waits for its answer.
 abbrev pub CompletesKept : ℕ → List Entry → Entry → Type 0
-CompletesKept limit T e = (bytes : List ℕ) × ((verdict limit T e).verdict ≡ message bytes) × IsKept (messages limit T) (e.dir, bytes)
+CompletesKept limit T e =
+    (bytes : List ℕ) × ((verdict limit T e).verdict ≡ message bytes) × IsKept (messages limit T) (e.dir, bytes)
 
 -- The frame completes a message.
 abbrev pub CompletesMessage : ℕ → List Entry → Entry → Type 0

@@ -24,7 +24,8 @@ place_of e = record { line = e.line; micros = e.micros }
 -- the lines and the stamps of the first frame of a message and of its last one
 abbrev pub extent_text : FramePlace → FramePlace → List ℕ
 extent_text start end =
-    codes " lines " ++ decimal start.line ++ codes " to " ++ decimal end.line ++ codes " at " ++ stamp_text start.micros ++ codes " to " ++ stamp_text end.micros
+    codes " lines " ++ decimal start.line ++ codes " to " ++ decimal end.line
+    ++ codes " at " ++ stamp_text start.micros ++ codes " to " ++ stamp_text end.micros
 
 -- A message that is delivered, with its place.
 pub record PlacedMessage : Type 0 where
@@ -39,7 +40,8 @@ pub record PlacedMessage : Type 0 where
 
 -- a message that was judged, from its first frame to its last one
 abbrev pub judged_at : Judged → FramePlace → FramePlace → PlacedMessage
-judged_at judged start end = record { number = judged.item_number; step = judged.step; sent = sent judged; start = start; end = end }
+judged_at judged start end =
+    record { number = judged.item_number; step = judged.step; sent = sent judged; start = start; end = end }
 
 -- the line of a placed message in words
 abbrev pub placed_line : PlacedMessage → List ℕ
@@ -53,7 +55,8 @@ placed_members placed =
     member (codes "item") (json.number placed.number) (member (codes "role") (json.string (role_text placed.step))
     (member (codes "direction") (json.string (direction_text placed.sent.0))
     (member (codes "first_line") (json.number placed.start.line) (member (codes "last_line") (json.number placed.end.line)
-    (member (codes "start") (json.string (stamp_text placed.start.micros)) (member (codes "end") (json.string (stamp_text placed.end.micros))
+    (member (codes "start") (json.string (stamp_text placed.start.micros))
+    (member (codes "end") (json.string (stamp_text placed.end.micros))
     (member (codes "message") (json.string (bytes_text placed.sent.1)) nothing)))))))
 
 -- the line of a placed message in a notation
@@ -64,7 +67,13 @@ placed_text Json placed = object_line (placed_members placed)
 -- a message that comes behind the messages M, as it is judged there, from its first frame to its last one
 abbrev pub placed_behind : List Message → Message → Entry → Entry → PlacedMessage
 placed_behind M sent start end =
-    record { number = number_after M sent; step = step_after M sent; sent = sent; start = place_of start; end = place_of end }
+    record {
+      number = number_after M sent;
+      step = step_after M sent;
+      sent = sent;
+      start = place_of start;
+      end = place_of end;
+    }
 
 -- a frame of this role starts a message: a single frame or a first frame
 abbrev pub starts : FrameRole → Bool
@@ -86,7 +95,8 @@ first_frame T e = last_start e.dir e (T ++ e ∷ [])
 
 -- the line of the message that the frame e completes after the frames T, where it does this
 abbrev pub delivered_line : Notation → ℕ → List Entry → Entry → VerdictValue → List ℕ
-delivered_line notation limit T e (message bytes) = placed_text notation (placed_behind (messages limit T) (e.dir, bytes) (first_frame T e) e)
+delivered_line notation limit T e (message bytes) =
+    placed_text notation (placed_behind (messages limit T) (e.dir, bytes) (first_frame T e) e)
 delivered_line notation limit T e began = []
 delivered_line notation limit T e stored = []
 delivered_line notation limit T e flowed = []
@@ -94,5 +104,8 @@ delivered_line notation limit T e (dropped reason) = []
 
 -- what `messages` tells: of each frame the line of the message that it completes, and nothing at the end
 abbrev pub placing_script : Notation → ℕ → Script
-placing_script notation limit =
-    record { strict = false; word = λ T e. delivered_line notation limit T e (verdict limit T e).verdict; last = λ T summary. [] }
+placing_script notation limit = record {
+  strict = false;
+  of_frame = λ T e. delivered_line notation limit T e (verdict limit T e).verdict;
+  at_the_end = λ T summary. [];
+}

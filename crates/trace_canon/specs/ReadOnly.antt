@@ -16,8 +16,8 @@ pub record WayOfReading : Type 1 where
   pub max_bytes : ℕ
 
 -- All that a caller knows of a run that reads so. `Gives` says what it answers of a log.
-pub record RanToRead {R A : Type 0} (source : SourceGhosts R) (Gives : List ℕ → Result A Fault → Type 0) (reading : WayOfReading)
-    (before : R) (result : Result A Fault) (after : R) : Type 0 where
+pub record RanToRead {R A : Type 0} (source : SourceGhosts R) (Gives : List ℕ → Result A Fault → Type 0)
+    (reading : WayOfReading) (before : R) (result : Result A Fault) (after : R) : Type 0 where
   -- what is answered, for each log with which the bytes that were read agree
   pub answer : (log : List ℕ) → AgreesWith source before after log → Gives log result
   -- reading stops within one piece: of all bytes given but the last 4,096 none refuses the log, and of all where a read

@@ -1,36 +1,25 @@
--- Where the receptions that stand began, after a frame.
-use Rattle.std.specs.Prelude.{Bool, true, false, Option, Some, None, unwrap_or, if◌then◌else◌}
+-- Where the receptions began that stand after the frames of a log.
+use Rattle.std.specs.Prelude.{◌≡◌, ℕ, List, Option, option_map}
 use Rattle.direction.specs.declared.Dir.{Dir}
 use Rattle.direction.specs.declared.Dir.TheVariants.{Tester, Unit}
-use Rattle.isotp_receive.specs.declared.event.Ended.{Ended}
-use Rattle.isotp_receive.specs.Trace.{same_direction}
-use Rattle.isotp_receive.specs.Verdict.{VerdictValue, message, began, stored, flowed, dropped, EventValue}
-use Rattle.trace_canon.specs.declared.reception_starts.ReceptionStarts.{ReceptionStarts}
+use Rattle.isotp_receive.specs.StandingReception.{StandingReception, stands}
+use Rattle.isotp_receive.specs.Trace.{Entry}
+use Rattle.trace_canon.specs.MessageLines.{last_start, place_of}
 use Rattle.trace_canon.specs.declared.reception_starts.FramePlace.{FramePlace}
+use Rattle.trace_canon.specs.declared.reception_starts.ReceptionStarts.{ReceptionStarts}
 
 -- where the reception of d began, if one stands
 abbrev pub reception_start : ReceptionStarts → Dir → Option FramePlace
-reception_start begun Tester = begun.tester
-reception_start begun Unit = begun.unit
+reception_start starts Tester = starts.tester
+reception_start starts Unit = starts.unit
 
--- where a reception of d began, if one stands, after an end
-abbrev pub still_begun : Dir → Option Ended → Option FramePlace → Option FramePlace
-still_begun d None begun = begun
-still_begun d (Some ended) begun = if same_direction d ended.dir then None else begun
+-- The reception of d that stands after the frames T began in this place, and none stands where there is no place: it
+-- began with the last frame of T that starts a message of d, whatever frame `earlier` came before T.
+abbrev pub IsBegunAt : ℕ → Dir → List Entry → Option FramePlace → Type 0
+IsBegunAt limit d T begun =
+    (earlier : Entry)
+    → begun ≡ option_map (λ (standing : StandingReception). place_of (last_start d earlier T)) (stands limit d T)
 
--- where a reception began, if one stands, after what became of a frame in this place, of the same direction or the other one
-abbrev pub start_after_verdict : Bool → VerdictValue → FramePlace → Option FramePlace → Option FramePlace
-start_after_verdict true (message bytes) here begun = None
-start_after_verdict true began here begun = Some here
-start_after_verdict true stored here begun = begun
-start_after_verdict true flowed here begun = begun
-start_after_verdict true (dropped reason) here begun = begun
-start_after_verdict false did here begun = begun
-
--- where a reception of d began, if one stands, after all that a frame of this sender did in this place: the end first
-abbrev pub start_after_event : Dir → Dir → EventValue → FramePlace → Option FramePlace → Option FramePlace
-start_after_event d sender event here begun = start_after_verdict (same_direction d sender) event.verdict here (still_begun d event.ended begun)
-
--- where the message began that a frame completed: here, where no reception stood that it did not end
-abbrev pub message_start : Dir → EventValue → FramePlace → Option FramePlace → FramePlace
-message_start sender event here begun = unwrap_or (still_begun sender event.ended begun) here
+-- of both directions, this is where the receptions began that stand after the frames T
+abbrev pub AreStartsAfter : ℕ → List Entry → ReceptionStarts → Type 0
+AreStartsAfter limit T starts = (d : Dir) → IsBegunAt limit d T (reception_start starts d)

@@ -1,11 +1,13 @@
--- What is answered of a log by a call that writes nothing.
+-- What the frames of a log mean, and what a call that writes nothing answers of it.
 use Rattle.std.specs.Prelude.{◌≡◌, ℕ, List, Result, Ok, Err}
 use Rattle.trace_io.specs.declared.device.Source.{Ghosts as SourceGhosts}
 use Rattle.trace_canon.specs.MemoryNeeded.{NeedsMemoryToCollect}
 use Rattle.trace_canon.specs.ReadOnly.{RanToRead, WayOfReading}
 use Rattle.trace_canon.specs.declared.collector.Session.{Session}
 use Rattle.trace_log.specs.declared.fault.Fault.{Fault}
-use Rattle.uds_exchange.specs.Meaning.{ItemValue}
+use Rattle.isotp_receive.specs.Trace.{Entry}
+use Rattle.isotp_receive.specs.Verdict.{messages}
+use Rattle.uds_exchange.specs.Meaning.{ItemValue, meaning}
 use Rattle.trace_log.specs.Settings.{Settings}
 use Rattle.trace_log.specs.Messages.{HasMeaning}
 use Rattle.trace_log.specs.Outcome.{Accepted, IsOutcome}
@@ -13,8 +15,13 @@ use Rattle.trace_log.specs.Refusal.{IsNotRefusedWithin}
 use Rattle.trace_log.specs.Answers.{TellsOutcome}
 use Rattle.trace_log.specs.declared.summary.Summary.{Summary}
 
+-- what the trace means
+abbrev pub items_of_trace : ℕ → List Entry → List ItemValue
+items_of_trace limit T = meaning (messages limit T)
+
 -- The log is accepted, with this meaning and this summary.
-pub record IsAcceptedWith (limit : ℕ) (settings : Settings) (log : List ℕ) (items : List ItemValue) (summary : Summary) : Type 0 where
+pub record IsAcceptedWith (limit : ℕ) (settings : Settings) (log : List ℕ) (items : List ItemValue) (summary : Summary)
+    : Type 0 where
   pub accepted : Accepted
   pub outcome : IsOutcome limit settings log (Ok accepted)
   pub means : HasMeaning limit settings log items
@@ -27,10 +34,12 @@ GivesSession limit settings log (Err fault) = TellsOutcome limit settings log fa
 
 -- what a call answers that gives the meaning of an accepted log alone, or why the log is refused
 abbrev pub GivesMeaning : ℕ → Settings → List ℕ → Result (List ItemValue) Fault → Type 0
-GivesMeaning limit settings log (Ok items) = ((accepted : Accepted) × IsOutcome limit settings log (Ok accepted)) × HasMeaning limit settings log items
+GivesMeaning limit settings log (Ok items) =
+    ((accepted : Accepted) × IsOutcome limit settings log (Ok accepted)) × HasMeaning limit settings log items
 GivesMeaning limit settings log (Err fault) = TellsOutcome limit settings log fault
 
--- how a log is read whose items are collected: memory is needed for a message of several frames, or for one that is complete
+-- how a log is read whose items are collected: memory is needed for a message of several frames, or for one that is
+-- complete
 abbrev pub reading_to_collect : ℕ → Settings → WayOfReading
 reading_to_collect limit settings = record {
   unrefused = IsNotRefusedWithin limit settings;

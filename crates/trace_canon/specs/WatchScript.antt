@@ -1,50 +1,47 @@
 -- What is told of a log whose items are watched: the list of them, each line as soon as its item is decided.
 use Rattle.std.specs.Prelude.{◌≡◌, ℕ, ◌+◌, false, List, [], ◌∷◌, ◌++◌, length, drop}
-use Rattle.isotp_receive.specs.declared.TheConstants.{MESSAGE_LIMIT}
 use Rattle.isotp_receive.specs.Trace.{Entry}
 use Rattle.isotp_receive.specs.Verdict.{messages}
 use Rattle.uds_exchange.specs.Decided.{decided, undecided}
-use Rattle.uds_exchange.specs.Meaning.{ItemValue, meaning}
+use Rattle.uds_exchange.specs.Meaning.{ItemValue}
 use Rattle.trace_text.specs.ItemLines.{list_text, list_text_from}
 use Rattle.trace_log.specs.Messages.{HasMeaning}
 use Rattle.trace_log.specs.Settings.{Settings}
 use Rattle.trace_run.specs.Script.{Script, told}
+use Rattle.trace_canon.specs.Sessions.{items_of_trace}
 use Rattle.trace_text.specs.declared.item_style.ItemStyle.{ItemStyle}
 use Rattle.trace_log.specs.declared.summary.Summary.{Summary}
 
--- what the trace means
-abbrev pub items_of_trace : List Entry → List ItemValue
-items_of_trace T = meaning (messages MESSAGE_LIMIT T)
-
 -- the items that the frames of a trace decide
-abbrev pub decided_of : List Entry → List ItemValue
-decided_of T = decided (messages MESSAGE_LIMIT T)
+abbrev pub decided_of : ℕ → List Entry → List ItemValue
+decided_of limit T = decided (messages limit T)
 
 -- the items that the frame e decides after the frames T
-abbrev pub newly_decided : List Entry → Entry → List ItemValue
-newly_decided T e = drop (length (decided_of T)) (decided_of (T ++ e ∷ []))
+abbrev pub newly_decided : ℕ → List Entry → Entry → List ItemValue
+newly_decided limit T e = drop (length (decided_of limit T)) (decided_of limit (T ++ e ∷ []))
 
 -- the text of items that come behind those which the frames T decide
-abbrev pub text_behind : ItemStyle → List Entry → List ItemValue → List ℕ
-text_behind style T items = list_text_from style (1 + length (decided_of T)) items
+abbrev pub text_behind : ItemStyle → ℕ → List Entry → List ItemValue → List ℕ
+text_behind style limit T items = list_text_from style (1 + length (decided_of limit T)) items
 
 -- what `watch` tells: of each frame the items that it decides, and at the end those that are not decided
-abbrev pub watching_script : ItemStyle → Script
-watching_script style = record {
+abbrev pub watching_script : ItemStyle → ℕ → Script
+watching_script style limit = record {
   strict = false;
-  word = λ T e. text_behind style T (newly_decided T e);
-  last = λ T summary. text_behind style T (undecided (messages MESSAGE_LIMIT T));
+  of_frame = λ T e. text_behind style limit T (newly_decided limit T e);
+  at_the_end = λ T summary. text_behind style limit T (undecided (messages limit T));
 }
 
 -- what is told of the frames of a trace is the list of the items that they decide
 abbrev pub WatchTellsDecided : Type 0
-WatchTellsDecided = (style : ItemStyle) (T : List Entry)
-    → told ((watching_script style).word) T ≡ list_text style (decided_of T)
+WatchTellsDecided = (style : ItemStyle) (limit : ℕ) (T : List Entry)
+    → told ((watching_script style limit).of_frame) T ≡ list_text style (decided_of limit T)
 
 -- what is told of the frames of a trace and at its end is the list of its meaning
 abbrev pub WatchTellsTheList : Type 0
-WatchTellsTheList = (style : ItemStyle) (T : List Entry) (summary : Summary)
-    → told ((watching_script style).word) T ++ (watching_script style).last T summary ≡ list_text style (items_of_trace T)
+WatchTellsTheList = (style : ItemStyle) (limit : ℕ) (T : List Entry) (summary : Summary)
+    → told ((watching_script style limit).of_frame) T ++ (watching_script style limit).at_the_end T summary
+    ≡ list_text style (items_of_trace limit T)
 
 -- the log is legal, and the list of its meaning was written
 abbrev pub WritesTheList : ItemStyle → ℕ → Settings → List ℕ → List ℕ → List ℕ → Type 0

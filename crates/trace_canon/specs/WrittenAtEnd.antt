@@ -13,7 +13,8 @@ use Rattle.trace_log.specs.Devices.{AgreesWith, bytes_given, ReadFrom, WroteTo}
 -- What is written after `old` where a log has no such text: a front of one, which has bytes, where writing failed, and
 -- else nothing. `Is` says of what a text is made, with the counts of the log.
 abbrev pub LeavesOnce : {V : Type 0} → (V → List ℕ) → (V → Summary → Type 0) → Fault → List ℕ → List ℕ → Type 0
-LeavesOnce {V = V} text Is Write old new = (value : V) × (summary : Summary) × Is value summary × (0 < length (text value)) × HasFront old (text value) new
+LeavesOnce {V = V} text Is Write old new =
+    (value : V) × (summary : Summary) × Is value summary × (0 < length (text value)) × HasFront old (text value) new
 LeavesOnce text Is (BadLine line column) old new = new ≡ old
 LeavesOnce text Is (Oversize line announced) old new = new ≡ old
 LeavesOnce text Is LogLimit old new = new ≡ old
@@ -23,7 +24,8 @@ LeavesOnce text Is Memory old new = new ≡ old
 
 -- What is answered by a call that writes a text at its end alone, and what is then written where `old` was before: the
 -- text, and the counts; else a fault, which is known for what it is, and what that leaves.
-abbrev pub WritesOnce : {V : Type 0} → (V → List ℕ) → (V → Summary → Type 0) → (Fault → Type 0) → Result Summary Fault → List ℕ → List ℕ → Type 0
+abbrev pub WritesOnce : {V : Type 0} → (V → List ℕ) → (V → Summary → Type 0) → (Fault → Type 0) → Result Summary Fault
+    → List ℕ → List ℕ → Type 0
 WritesOnce {V = V} text Is IsFault (Ok summary) old new = (value : V) × Is value summary × (new ≡ old ++ text value)
 WritesOnce text Is IsFault (Err fault) old new = IsFault fault × LeavesOnce text Is fault old new
 
@@ -48,7 +50,8 @@ pub record RanOnce {V R W : Type 0} (source : SourceGhosts R) (target : Ghosts W
   pub unwritten : IfErr result (λ fault. fault ≢ Write → new ≡ old)
   -- reading stops within one piece
   pub near : (log : List ℕ) → AgreesWith source before after log
-      → ReadsWhile (of.reading.unrefused log) (bytes_given source before after) (source.failures before) (source.failures after)
+      → ReadsWhile (of.reading.unrefused log) (bytes_given source before after)
+      (source.failures before) (source.failures after)
   -- memory is refused only for a log that needs it
   pub memory : (log : List ℕ) → AgreesWith source before after log → result ≡ Err Memory → of.reading.needs log
   -- what it did with its devices

@@ -1,5 +1,5 @@
 //! Canonical lines, said as soon as the place of their messages is known.
-ghost use Rattle.std.specs.Prelude.{◌≡◌, ◌≤◌, ℕ, List, [], ◌∷◌, ◌++◌, length, true, false, OnOk, OnErr};
+ghost use Rattle.std.specs.Prelude.{◌≡◌, ◌≤◌, ℕ, List, [], ◌∷◌, ◌++◌, length, false, OnOk, OnErr};
 ghost use Rattle.can_log.specs.Canonical.{canonical_line, canonical_name};
 ghost use Rattle.can_log.specs.declared.frame.Id.TheVariants.{Std, Ext};
 ghost use Rattle.direction.specs.Dir.{Message};
@@ -38,12 +38,13 @@ pub(crate) fn say_due<S: TextSink>(
     orderer: &mut JudgedOrderer,
     message: Judged<'_>,
 ) -> Result<(), AllocError>
-    ensures stands { OnOk result ((M : List Message) → orderer.old ≡ judged_orderer_after M → IsJudgedAfter M message.entry
-        → orderer.new ≡ judged_orderer_after (M ++ sent message.entry ∷ [])) }
-    ensures says { OnOk result ((M : List Message) → orderer.old ≡ judged_orderer_after M → IsJudgedAfter M message.entry
+    ensures stands { OnOk result ((M : List Message) → orderer.old ≡ judged_orderer_after M
+        → IsJudgedAfter M message.entry → orderer.new ≡ judged_orderer_after (M ++ sent message.entry ∷ [])) }
+    ensures says { OnOk result ((M : List Message) → orderer.old ≡ judged_orderer_after M
+        → IsJudgedAfter M message.entry
         → SaysDue S.says config.now M (sent message.entry) progress.old out.old progress.new out.new) }
-    ensures needs { OnErr result ((M : List Message) → orderer.old ≡ judged_orderer_after M → IsJudgedAfter M message.entry
-        → IsHeld M (sent message.entry)) }
+    ensures needs { OnErr result ((M : List Message) → orderer.old ≡ judged_orderer_after M
+        → IsJudgedAfter M message.entry → IsHeld M (sent message.entry)) }
     ensures err { OnErr result ((progress.new ≡ progress.old) × S.says out.old [] out.new) }
 {
     let mut sink = CanonicalSink {
@@ -79,8 +80,8 @@ pub(crate) fn say_held<S: TextSink>(
     let _ = orderer.finish(&mut sink);
 }
 
-/// Says the canonical lines of each message that is put, as far as they are within the limit. What it calls takes its parts
-/// one by one: so a frame's line is said without a look through the sink.
+/// Says the canonical lines of each message that is put, as far as they are within the limit. What it calls takes its
+/// parts one by one: so a frame's line is said without a look through the sink.
 #[derive(Drop)]
 pub(crate) struct CanonicalSink<'a, S> {
     pub out: &'a mut S,
@@ -96,8 +97,9 @@ impl<'a, S: TextSink> MessageSink for CanonicalSink<'a, S> {
 
     type Fault = NoFault;
 
-    ghost after_ok = { λ s d m t. (t.out.ghost_name ≡ s.out.ghost_name) × (t.progress.ghost_name ≡ s.progress.ghost_name)
-        × (t.config ≡ s.config) × (t.progress.now ≡ progress_after s.config s.progress.now (canonical_frames MESSAGE_LIMIT d m))
+    ghost after_ok = { λ s d m t. (t.out.ghost_name ≡ s.out.ghost_name)
+        × (t.progress.ghost_name ≡ s.progress.ghost_name) × (t.config ≡ s.config)
+        × (t.progress.now ≡ progress_after s.config s.progress.now (canonical_frames MESSAGE_LIMIT d m))
         × S.says s.out.now (text_from s.config s.progress.now (canonical_frames MESSAGE_LIMIT d m)) t.out.now };
 
     ghost after_err = { λ s d m e t. ⊥ };
@@ -116,8 +118,10 @@ fn say_canonical<S: TextSink>(
     dir: Dir,
     message: &[u8],
 )
-    ensures says { S.says out.old (text_from config.now progress.old (canonical_frames MESSAGE_LIMIT dir message.now)) out.new }
-    ensures progress { progress.new ≡ progress_after config.now progress.old (canonical_frames MESSAGE_LIMIT dir message.now) }
+    ensures says { S.says out.old
+        (text_from config.now progress.old (canonical_frames MESSAGE_LIMIT dir message.now)) out.new }
+    ensures progress { progress.new
+        ≡ progress_after config.now progress.old (canonical_frames MESSAGE_LIMIT dir message.now) }
 {
     if has_frames(message) {
         if message.len() <= SINGLE_LIMIT {
@@ -229,9 +233,10 @@ fn extended_name_in_memory(number: u32) -> [u8; EXTENDED_NAME]
     extended_name(number)
 }
 
-/// Says the lines of the full consecutive frames of a sender that come next, by the name of the sender, as far as there is
-/// room, and answers the frames that are left. The three parts of a line are said as they lie: put together first, it would be
-/// loaded by a covering load. The frames are moved in and out, so that none of their parts has to lie in memory meanwhile.
+/// Says the lines of the full consecutive frames of a sender that come next, by the name of the sender, as far as there
+/// is room, and answers the frames that are left. The three parts of a line are said as they lie: put together first,
+/// it would be loaded by a covering load. The frames are moved in and out, so that none of their parts has to lie in
+/// memory meanwhile.
 #[inline(always)]
 fn say_stretch<'a, S: TextSink, const NAME: usize>(
     out: &mut S,

@@ -69,57 +69,6 @@ pub(crate) struct Collector {
     pub config: Config,
 }
 
-impl Collector {
-    ghost use Rattle.std.specs.Prelude.{◌+◌, ℕ, List, [], ◌∷◌, ◌++◌, OnOk};
-    ghost use Rattle.direction.specs.Dir.{Message};
-    ghost use Rattle.uds_exchange.specs.Meaning.{meaning, flattened};
-    ghost use Rattle.uds_exchange.specs.Judging.{IsJudgedAfter, sent};
-    ghost use Rattle.trace_log.specs.Settings.{Settings};
-    ghost use Rattle.trace_canon.specs.proving.SessionScript.{Collects};
-    ghost use Rattle.trace_canon.specs.proving.Measuring.{HaveLengths};
-
-    /// Takes one more message: what it adds to the length, and the message itself where the canonical log is within the
-    /// limit.
-    fn take(&mut self, message: Judged<'_>) -> Result<(), AllocError>
-        ensures { OnOk result ((settings : Settings) (M : List Message) → IsJudgedAfter M message.entry
-            → Collects settings M self.old.pairing self.old.length self.old.config
-            → Collects settings (M ++ sent message.entry ∷ []) self.new.pairing self.new.length self.new.config) }
-    {
-        let length = self.length.saturating_add(self.added(message));
-        if length > self.config.max_bytes() {
-            self.pairing = JudgedPairing::new(self.alloc);
-            self.length = length;
-            return Ok(());
-        }
-        self.pairing.take(message)?;
-        self.length = length;
-        Ok(())
-    }
-
-    /// By how many bytes one more message makes the canonical log longer.
-    fn added(&self, message: Judged<'_>) -> u64
-        ensures { (M : List Message) (size : ℕ) → IsJudgedAfter M message.entry
-            → HaveLengths self.now.config (flattened (meaning M)) size
-            → HaveLengths self.now.config (flattened (meaning (M ++ sent message.entry ∷ []))) (size + result) }
-    {
-        if has_place(message.step) {
-            lines_length(&self.config, message.dir, message.bytes)
-        } else {
-            0
-        }
-    }
-}
-
-/// Whether a message of which this becomes has a place in the meaning.
-fn has_place(step: Step) -> bool
-    ensures { result ≡ has_place step }
-{
-    match step {
-        Step::Removed => false,
-        Step::Request(_) | Step::Answer | Step::Hold | Step::Pass => true,
-    }
-}
-
 impl Machine for Collector {
     ghost use Rattle.isotp_receive.specs.declared.TheConstants.{MESSAGE_LIMIT};
     ghost use Rattle.isotp_receive.specs.Verdict.{messages};
@@ -178,4 +127,55 @@ impl Machine for Collector {
         _glimpse: Glimpse<'_>,
         _out: &mut S,
     ) {}
+}
+
+impl Collector {
+    ghost use Rattle.std.specs.Prelude.{◌+◌, ℕ, List, [], ◌∷◌, ◌++◌, OnOk};
+    ghost use Rattle.direction.specs.Dir.{Message};
+    ghost use Rattle.uds_exchange.specs.Meaning.{meaning, flattened};
+    ghost use Rattle.uds_exchange.specs.Judging.{IsJudgedAfter, sent};
+    ghost use Rattle.trace_log.specs.Settings.{Settings};
+    ghost use Rattle.trace_canon.specs.proving.SessionScript.{Collects};
+    ghost use Rattle.trace_canon.specs.proving.Measuring.{HaveLengths};
+
+    /// Takes one more message: what it adds to the length, and the message itself where the canonical log is within the
+    /// limit.
+    fn take(&mut self, message: Judged<'_>) -> Result<(), AllocError>
+        ensures { OnOk result ((settings : Settings) (M : List Message) → IsJudgedAfter M message.entry
+            → Collects settings M self.old.pairing self.old.length self.old.config
+            → Collects settings (M ++ sent message.entry ∷ []) self.new.pairing self.new.length self.new.config) }
+    {
+        let length = self.length.saturating_add(self.added(message));
+        if length > self.config.max_bytes() {
+            self.pairing = JudgedPairing::new(self.alloc);
+            self.length = length;
+            return Ok(());
+        }
+        self.pairing.take(message)?;
+        self.length = length;
+        Ok(())
+    }
+
+    /// By how many bytes one more message makes the canonical log longer.
+    fn added(&self, message: Judged<'_>) -> u64
+        ensures { (M : List Message) (size : ℕ) → IsJudgedAfter M message.entry
+            → HaveLengths self.now.config (flattened (meaning M)) size
+            → HaveLengths self.now.config (flattened (meaning (M ++ sent message.entry ∷ []))) (size + result) }
+    {
+        if has_place(message.step) {
+            lines_length(&self.config, message.dir, message.bytes)
+        } else {
+            0
+        }
+    }
+}
+
+/// Whether a message of which this becomes has a place in the meaning.
+fn has_place(step: Step) -> bool
+    ensures { result ≡ has_place step }
+{
+    match step {
+        Step::Removed => false,
+        Step::Request(_) | Step::Answer | Step::Hold | Step::Pass => true,
+    }
 }

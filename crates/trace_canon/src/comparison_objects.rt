@@ -17,7 +17,8 @@ pub(crate) fn say_comparison_object<S: TextSink>(
 )
     ensures { S.says out.old
         (object_line
-        (comparison_members shows_items compared.now.comparison compared.now.left.meaning compared.now.right.meaning)) out.new }
+        (comparison_members shows_items compared.now.comparison compared.now.left.meaning compared.now.right.meaning))
+        out.new }
 {
     match compared.comparison {
         Comparison::Same => say_text(out, "{\"same\":true}\n"),
@@ -31,7 +32,8 @@ pub(crate) fn say_comparison_object<S: TextSink>(
 /// Says the object of two logs that differ at this place, with the items of both there.
 fn say_shown_object<S: TextSink>(compared: &Compared, place: usize, out: &mut S)
     ensures { S.says out.old
-        (object_line (different_members place (shown_members place compared.now.left.meaning compared.now.right.meaning)))
+        (object_line
+        (different_members place (shown_members place compared.now.left.meaning compared.now.right.meaning)))
         out.new }
 {
     say(

@@ -60,7 +60,8 @@ impl<'a> Part for InStyle<'a> {
 /// Says in words how two logs compare.
 fn say_lines<S: TextSink>(compared: &Compared, shows_items: bool, out: &mut S)
     ensures { S.says out.old
-        (comparison_lines shows_items compared.now.comparison compared.now.left.meaning compared.now.right.meaning) out.new }
+        (comparison_lines shows_items compared.now.comparison compared.now.left.meaning compared.now.right.meaning)
+        out.new }
 {
     match compared.comparison {
         Comparison::Same => say_text(out, "same\n"),

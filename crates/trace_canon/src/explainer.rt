@@ -96,8 +96,8 @@ impl Machine for Explainer {
     ) {}
 }
 
-/// Says the lines of a frame, which is in this line and was sent by this side. Inlined, where it is known of most frames
-/// that they have none: a call would hand over what the frame did in memory, for a covering load.
+/// Says the lines of a frame, which is in this line and was sent by this side. Inlined, where it is known of most
+/// frames that they have none: a call would hand over what the frame did in memory, for a covering load.
 #[inline(always)]
 fn say_event<S: TextSink>(notation: Notation, line: u64, dir: Dir, event: Event<'_>, out: &mut S)
     ensures { S.says out.old (event_text notation line dir (seen_event event.entry)) out.new }

@@ -13,8 +13,8 @@ use trace_run::print;
 use trace_text::Notation;
 use uds_find::CreditLine;
 
-/// Reads a log, and then writes a line for each pair of identifiers of which one answered the other, in this notation. Of
-/// the configuration the limit alone counts.
+/// Reads a log, and then writes a line for each pair of identifiers of which one answered the other, in this notation.
+/// Of the configuration the limit alone counts.
 ///
 /// The target is not flushed.
 pub fn find<R: Source, W: Target>(

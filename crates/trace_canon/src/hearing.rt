@@ -58,7 +58,8 @@ impl Hearing {
     fn finish(self, alloc: Global, ends_in_line_feed: bool) -> Result<Found, Fault>
         ensures found { IfOk result (λ found. (log : List ℕ) (meanings : List (Option StampedValue))
             → HasHeard meanings self.finder self.lines
-            → ends_in_line_feed ≡ Spec.ends_in_line_feed log → IsFoundOf log meanings found.credit_lines.items found.summary) }
+            → ends_in_line_feed ≡ Spec.ends_in_line_feed log
+            → IsFoundOf log meanings found.credit_lines.items found.summary) }
         ensures fault { IfErr result (λ fault. fault ≡ Fault.Memory) }
         ensures needs { IfErr result (λ fault. (meanings : List (Option StampedValue))
             → HasHeard meanings self.finder self.lines → HasCredit (frames_in meanings)) }

@@ -1,11 +1,11 @@
-//! What logs in memory are answered with: the meaning of one, or a text, with the counts of the log beside it. No device
-//! is asked: so what has no answer is refused, or memory was.
+//! What logs in memory are answered with: the meaning of one, or a text, with the counts of the log beside it. No
+//! device is asked: so what has no answer is refused, or memory was.
 ghost use Rattle.std.specs.Prelude.{◌≡◌, Ok, Err, MatchResult};
 ghost use Rattle.isotp_receive.specs.declared.TheConstants.{MESSAGE_LIMIT};
-ghost use Rattle.trace_canon.specs.InMemory.{IsCanonicalLogWith, IsListWith, IsPlacingWith, IsExplanationWith, IsFindingWith};
+ghost use Rattle.trace_canon.specs.InMemory.{IsCanonicalLogWith, IsListWith, IsPlacingWith, IsExplanationWith};
+ghost use Rattle.trace_canon.specs.InMemory.{IsFindingWith, MeansInMemory, ComparesWithCounts, fault_in_memory};
 ghost use Rattle.trace_canon.specs.InMemory.{NeedsMemoryForCanonicalLog, NeedsMemoryForList, NeedsMemoryForPlacing};
 ghost use Rattle.trace_canon.specs.InMemory.{NeedsMemoryForExplanation, NeedsMemoryForFinding, IsRefused, IsUnread};
-ghost use Rattle.trace_canon.specs.InMemory.{ComparesWithCounts, MeansInMemory, fault_in_memory};
 ghost use Rattle.trace_canon.specs.InMemory as Spec;
 
 use crate::collector::meaning_of;

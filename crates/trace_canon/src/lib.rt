@@ -37,14 +37,14 @@
 //! | [`write_comparison`] | `comparison_text`, `comparison_objects`, `compared_items` | `ComparisonText` |
 //! | [`list`], [`write_items`] | `lister`, `item_text` | `ItemText` |
 //! | [`find`] | `finding`, `hearing`, `credit_lines` | `Finding` |
-//! | over memory [`normalise`], [`list`], [`messages`], [`explain`], [`find`], [`meaning_of`], [`compare`] | [`in_memory`] | `InMemory` |
+//! | all but [`watch`], over memory | [`in_memory`] | `InMemory` |
 //!
-//! What a run comes to that writes a text at the end is in `WrittenAtEnd`, and of one that writes nothing in `ReadOnly`;
-//! for which frames a command needs memory, in `MemoryNeeded`.
+//! What a run comes to that writes a text at the end is in `WrittenAtEnd`, and of one that writes nothing in
+//! `ReadOnly`; for which frames a command needs memory, in `MemoryNeeded`.
 //!
-//! What tells of a log while it comes is a machine of [`trace_run`](trace_run::Machine): those of the first four rows. So
-//! is what collects the meaning of a log: on it stand [`meaning_of`], [`compare`] and [`write_items`]. [`find`] is none:
-//! it hears every frame, whatever its identifier, and has no receiver.
+//! What tells of a log while it comes is a machine of [`trace_run`](trace_run::Machine): those of the first four rows.
+//! So is what collects the meaning of a log: on it stand [`meaning_of`], [`compare`] and [`write_items`]. [`find`] is
+//! none: it hears every frame, whatever its identifier, and has no receiver.
 #![tactic(auto)]
 
 mod canonical_sink;

@@ -1,13 +1,12 @@
 //! `normalise`: a machine that says the canonical log.
-ghost use Rattle.std.specs.Prelude.{◌≡◌, ◌-◌, ◌++◌, ℕ, List, OnOk, IfOk, Err};
+ghost use Rattle.std.specs.Prelude.{◌≡◌, ◌++◌, ℕ, List, OnOk, IfOk, Err};
 ghost use Rattle.direction.specs.Dir.{Message};
 ghost use Rattle.isotp_receive.specs.declared.TheConstants.{MESSAGE_LIMIT};
 ghost use Rattle.uds_exchange.specs.Meaning.{meaning, flattened};
 ghost use Rattle.trace_log.specs.Answers.{Answers, ReadsWhile, WritesEagerly};
 ghost use Rattle.trace_log.specs.CanonicalLog.{canonical_log, canonical_log_of_lines};
-ghost use Rattle.trace_canon.specs.proving.CanonicalScript.{StandsCanonical};
 ghost use Rattle.trace_log.specs.Devices.{AgreesWith, bytes_given, ReadFrom, WroteTo, HasLowCounts};
-ghost use Rattle.trace_canon.specs.InMemory.{HasTextOf};
+ghost use Rattle.trace_log.specs.Needing.{HasTextOf};
 ghost use Rattle.trace_canon.specs.MemoryNeeded.{NeedsMemoryToOrder};
 ghost use Rattle.trace_log.specs.declared.fault.Fault.TheVariants.{Memory, Write};
 ghost use Rattle.trace_log.specs.Laws.{IsCanonicalFor, Records, Certifies};
@@ -47,7 +46,8 @@ pub fn normalise<R: Source, W: Target>(
 
     // What is written is accepted, is its own canonical log, and has the meaning of the log.
     ensures again { (log : List ℕ) → AgreesWith R.Source reader.old reader.new log
-        → OnOk result ((text : List ℕ) → W.taken writer.new ≡ W.taken writer.old ++ text → IsCanonicalFor MESSAGE_LIMIT config.now log text) }
+        → OnOk result ((text : List ℕ) → W.taken writer.new ≡ W.taken writer.old ++ text
+        → IsCanonicalFor MESSAGE_LIMIT config.now log text) }
 
     // For a recording of messages their meaning's canonical log is written; and a summary that counts nothing dropped,
     // ended or unfinished certifies that the log is one.
@@ -57,8 +57,8 @@ pub fn normalise<R: Source, W: Target>(
     ensures certificate { (log : List ℕ) → AgreesWith R.Source reader.old reader.new log
         → IfOk result (λ summary. Certifies MESSAGE_LIMIT config.now log summary) }
 
-    // Reading stops within one piece: of all bytes given but the last 4,096 none refuses the log, and of all where a read
-    // failed.
+    // Reading stops within one piece: of all bytes given but the last 4,096 none refuses the log, and of all where a
+    // read failed.
     ensures near { (log : List ℕ) → AgreesWith R.Source reader.old reader.new log
         → ReadsWhile (IsNotRefusedWithin MESSAGE_LIMIT config.now log)
         (bytes_given R.Source reader.old reader.new) (R.failures reader.old) (R.failures reader.new) }

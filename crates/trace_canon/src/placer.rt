@@ -19,8 +19,8 @@ use trace_text::{Bytes, Notation, Number, Sender};
 use uds_exchange::Judged;
 
 /// Reads a log and writes a line for each message that is delivered, as it comes, in words or as an object of JSON: the
-/// number that [`list`](crate::list) gives its item, what it is to that, its direction, the lines and the time stamps of
-/// its first frame and its last one, and its bytes.
+/// number that [`list`](crate::list) gives its item, what it is to that, its direction, the lines and the time stamps
+/// of its first frame and its last one, and its bytes.
 ///
 /// The target is not flushed.
 pub fn messages<R: Source, W: Target>(

@@ -1,10 +1,14 @@
-//! Where the receptions that stand began: what a frame did moves it. The page of `trace_report` stands on it, too.
-ghost use Rattle.std.specs.Prelude.{◌≡◌, None, if◌then◌else◌};
+//! Where the receptions that stand began, frame by frame. The page of `trace_report` stands on it, too.
+ghost use Rattle.std.specs.Prelude.{◌≡◌, List, [], ◌∷◌, ◌++◌, if◌then◌else◌};
 ghost use Rattle.direction.specs.declared.Dir.{Dir as DirValue};
-ghost use Rattle.isotp_receive.specs.EventSeen.{seen_event, seen_verdict};
-ghost use Rattle.isotp_receive.specs.Trace.{same_direction};
-ghost use Rattle.trace_canon.specs.ReceptionStarts.{message_start, reception_start, start_after_event, start_after_verdict};
-ghost use Rattle.trace_canon.specs.ReceptionStarts as Spec;
+ghost use Rattle.isotp_receive.specs.declared.TheConstants.{MESSAGE_LIMIT};
+ghost use Rattle.isotp_receive.specs.EventSeen.{seen_verdict};
+ghost use Rattle.isotp_receive.specs.Trace.{Entry, same_direction};
+ghost use Rattle.trace_run.specs.Seen.{IsEventOf};
+ghost use Rattle.trace_canon.specs.MemoryNeeded.{CompletesMessage};
+ghost use Rattle.trace_canon.specs.MessageLines.{first_frame, place_of};
+ghost use Rattle.trace_canon.specs.ReceptionStarts.{AreStartsAfter, reception_start};
+ghost use Rattle.trace_canon.specs.proving.ReceptionStarts.{start_after_verdict, still_begun};
 
 use direction::Dir;
 use isotp_receive::{Ended, Event, Verdict};
@@ -26,7 +30,7 @@ pub struct ReceptionStarts {
 impl ReceptionStarts {
     /// Before the first frame.
     pub fn start() -> ReceptionStarts
-        ensures { (d : DirValue) → reception_start result d ≡ None }
+        ensures { AreStartsAfter MESSAGE_LIMIT [] result }
     {
         ReceptionStarts {
             tester: None,
@@ -48,9 +52,11 @@ impl ReceptionStarts {
     /// none, the answer says nothing, and nobody reads it: an `Option` would be made and taken apart at each frame.
     #[inline(always)]
     pub fn take(&mut self, here: FramePlace, dir: Dir, event: Event<'_>) -> FramePlace
-        ensures stands { (d : DirValue)
-            → reception_start self.new d ≡ start_after_event d dir (seen_event event.entry) here (reception_start self.old d) }
-        ensures first { result ≡ message_start dir (seen_event event.entry) here (reception_start self.old dir) }
+        ensures stands { (T : List Entry) (e : Entry) → IsEventOf T e here.line here.micros dir event.entry
+            → AreStartsAfter MESSAGE_LIMIT T self.old → AreStartsAfter MESSAGE_LIMIT (T ++ e ∷ []) self.new }
+        ensures first { (T : List Entry) (e : Entry) → IsEventOf T e here.line here.micros dir event.entry
+            → AreStartsAfter MESSAGE_LIMIT T self.old → CompletesMessage MESSAGE_LIMIT T e
+            → result ≡ place_of (first_frame T e) }
     {
         self.end(event.ended);
         let begun = self.of(dir);
@@ -61,7 +67,7 @@ impl ReceptionStarts {
     /// Takes the end of a reception, if one ended.
     #[inline(always)]
     fn end(&mut self, ended: Option<Ended>)
-        ensures { (d : DirValue) → reception_start self.new d ≡ Spec.still_begun d ended (reception_start self.old d) }
+        ensures { (d : DirValue) → reception_start self.new d ≡ still_begun d ended (reception_start self.old d) }
     {
         if let Some(ended) = ended {
             self.set(ended.dir, None);
@@ -71,8 +77,9 @@ impl ReceptionStarts {
     /// Takes what became of a frame, beside such an end.
     #[inline(always)]
     fn move_by(&mut self, here: FramePlace, dir: Dir, verdict: Verdict<'_>)
-        ensures { (d : DirValue)
-            → reception_start self.new d ≡ start_after_verdict (same_direction d dir) (seen_verdict verdict.entry) here (reception_start self.old d) }
+        ensures { (d : DirValue) → reception_start self.new d
+            ≡ start_after_verdict (same_direction d dir) (seen_verdict verdict.entry) here
+            (reception_start self.old d) }
     {
         match verdict {
             Verdict::Message(_) => self.set(dir, None),
@@ -84,22 +91,12 @@ impl ReceptionStarts {
     /// Takes where the reception of a direction began, if one stands.
     #[inline(always)]
     fn set(&mut self, dir: Dir, begun: Option<FramePlace>)
-        ensures { (d : DirValue) → reception_start self.new d ≡ (if same_direction d dir then begun else reception_start self.old d) }
+        ensures { (d : DirValue) → reception_start self.new d
+            ≡ (if same_direction d dir then begun else reception_start self.old d) }
     {
         match dir {
             Dir::Tester => self.tester = begun,
             Dir::Unit => self.unit = begun,
         }
-    }
-}
-
-/// Where the reception of a direction began, if it still stands after this end. A page asks, whose rows tell of the end
-/// before they tell of the frame.
-pub fn still_begun(dir: Dir, ended: Option<Ended>, begun: Option<FramePlace>) -> Option<FramePlace>
-    ensures { result ≡ Spec.still_begun dir ended begun }
-{
-    match ended {
-        Some(ended) if ended.dir == dir => None,
-        _ => begun,
     }
 }

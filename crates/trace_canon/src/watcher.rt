@@ -37,7 +37,7 @@ pub fn watch<R: Source, W: Target>(
 
     // What is answered and written; that it is written before more is read; and what was done with the devices.
     ensures ran { RanLenient R.Source W.Target
-        (command (watching_script style) tells_no_refusal answers_counts (CompletesKept MESSAGE_LIMIT))
+        (command (watching_script style MESSAGE_LIMIT) tells_no_refusal answers_counts (CompletesKept MESSAGE_LIMIT))
         config.now reader.old writer.old result reader.new writer.new }
 
     // At the end of the log that is the list of its meaning.
@@ -72,7 +72,7 @@ impl Machine for Watcher {
 
     ghost stands = { λ start T now. WatchesItems start.style T now.decider now.style now.number };
 
-    ghost script = { λ start. watching_script start.style };
+    ghost script = { λ start. watching_script start.style MESSAGE_LIMIT };
 
     ghost answers = { λ start. answers_counts };
 
@@ -135,7 +135,8 @@ impl<'a, S: TextSink> ItemSink for LineSink<'a, S> {
     ghost use Rattle.trace_text.specs.ItemLines.{item_line};
 
     ghost takes = { λ s item t. (t.out.ghost_name ≡ s.out.ghost_name) × (t.number.ghost_name ≡ s.number.ghost_name)
-        × (t.style ≡ s.style) × (t.number.now ≡ one_more s.number.now) × S.says s.out.now (item_line s.style s.number.now item) t.out.now };
+        × (t.style ≡ s.style) × (t.number.now ≡ one_more s.number.now)
+        × S.says s.out.now (item_line s.style s.number.now item) t.out.now };
 
     fn put(&mut self, item: Item<'_>) {
         say_item_line(*self.number, self.style, item, self.out);

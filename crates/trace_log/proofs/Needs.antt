@@ -1,6 +1,7 @@
--- That a run which was refused memory has stopped at a frame that needed it.
-use Rattle.std.proofs.Common.{◌≡◌, ℕ, List, [], ◌∷◌, ◌++◌, Option, Some}
+-- The first lines of a log; and that a run which was refused memory has stopped at a frame that needed it.
+use Rattle.std.proofs.Common.{◌≡◌, ℕ, List, [], ◌∷◌, ◌++◌, Option, Some, append-nil, sym}
 use Rattle.direction.specs.declared.Dir.{Dir}
+use Rattle.can_log.specs.Log.{LogMeans, log_lines}
 use Rattle.can_log.specs.declared.frame.Stamped.{Stamped}
 use Rattle.isotp_receive.specs.Trace.{Entry}
 use Rattle.trace_log.specs.ReadAs.{takes_all}
@@ -12,6 +13,10 @@ use Rattle.trace_log.specs.Trace.{trace}
 use Rattle.trace_log.proofs.ReadAs.{all_taken}
 use Rattle.trace_log.proofs.Receivings.{trace_next}
 use Rattle.trace_log.proofs.StoppedRuns.{have_come}
+
+-- the first lines of a log are all
+pub all_begin : (log : List ℕ) (meanings : List (Option Stamped)) → LogMeans log meanings → BeginsWithLines log meanings
+all_begin log meanings means = record { lines = log_lines log; later = []; parts = sym (append-nil (log_lines log)); means = means }
 
 -- the lines up to the one on which the run stopped are the first of the log
 pub begins_with_lines : (settings : Settings) (log : List ℕ) (given : ℕ) (meanings : List (Option Stamped)) (what : Option Stamped)

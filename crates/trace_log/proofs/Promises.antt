@@ -16,5 +16,5 @@ pub use Rattle.trace_log.proofs.LastReads.{reads_legal, reads_unrefused}
 pub use Rattle.trace_log.proofs.StoppedRuns.{HaveCome, bad_at_end, bad_in_front, have_come, oversize_stops, read_to_bad, read_to_limit, writes_front, writes_front_of_all, writes_to_failed_read}
 pub use Rattle.trace_log.proofs.Receivings.{few_frames, more_exactly, one_if, receives_next, receives_same, trace_next, trace_same_blank, trace_same_foreign}
 pub use Rattle.trace_log.proofs.Summaries.{summed_up}
-pub use Rattle.trace_log.proofs.Needs.{begins_with_lines, has_frame}
+pub use Rattle.trace_log.proofs.Needs.{all_begin, begins_with_lines, has_frame}
 pub use Rattle.trace_log.proofs.OwnFrames.{has_own_frame}

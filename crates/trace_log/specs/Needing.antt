@@ -1,5 +1,5 @@
--- For which frames of a log a run needs memory.
-use Rattle.std.specs.Prelude.{◌≡◌, ℕ, List, [], ◌∷◌, ◌++◌, Option}
+-- The first lines of a log, and for which of its frames a run needs memory.
+use Rattle.std.specs.Prelude.{◌≡◌, ℕ, ◌<◌, List, [], ◌∷◌, ◌++◌, length, Option}
 use Rattle.can_log.specs.Log.{log_lines, LinesMean}
 use Rattle.can_log.specs.declared.frame.Stamped.{Stamped}
 use Rattle.isotp_pdu.specs.Reading.{layout_of}
@@ -15,6 +15,12 @@ pub record BeginsWithLines (log : List ℕ) (meanings : List (Option Stamped)) :
   pub later : List (List ℕ)
   pub parts : log_lines log ≡ lines ++ later
   pub means : LinesMean lines meanings
+
+-- The first lines of the log have some text of this kind, of one byte at least.
+pub record HasTextOf (text : List (Option Stamped) → List ℕ) (log : List ℕ) : Type 0 where
+  pub meanings : List (Option Stamped)
+  pub begins : BeginsWithLines log meanings
+  pub some : 0 < length (text meanings)
 
 -- A line of the log has a frame of one of the two sides, of which this holds after the frames of the lines before it.
 pub record HasFrame (Holds : List Entry → Entry → Type 0) (settings : Settings) (log : List ℕ) : Type 0 where

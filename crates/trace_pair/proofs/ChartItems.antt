@@ -3,7 +3,7 @@ use Rattle.std.proofs.Common.{◌≡◌, ℕ, zero, suc, ◌+◌, ◌-◌, ◌�
 use Rattle.std.specs.Prelude.{min, slice_get}
 use Rattle.std.proofs.lemmas.Bool.{cases_Bool, cases_lt}
 use Rattle.std.proofs.lemmas.List.{take-append-drop}
-use Rattle.isotp_receive.proofs.ListPositions.{get-drop}
+use Rattle.isotp_receive.proofs.Promises.{get-drop}
 use Rattle.trace_report.specs.Items.{begins, rows_before}
 use Rattle.trace_report.specs.Rows.{RowValue}
 use Rattle.trace_pair.specs.First.{chart_from, chart_rows, chart_to}

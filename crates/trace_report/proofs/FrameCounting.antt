@@ -24,8 +24,8 @@ use Rattle.trace_canon.specs.MessageLines.{last_start, place_of}
 use Rattle.trace_report.specs.Events.{frames_by}
 use Rattle.trace_canon.specs.declared.reception_starts.FramePlace.{FramePlace}
 use Rattle.trace_report.specs.declared.frames.FrameCounts.{FrameCounts}
-use Rattle.trace_canon.specs.proving.ReceptionStarts.{IsBegunAt}
-use Rattle.trace_canon.specs.ReceptionStarts.{still_begun}
+use Rattle.trace_canon.specs.ReceptionStarts.{IsBegunAt}
+use Rattle.trace_canon.specs.proving.ReceptionStarts.{still_begun}
 use Rattle.trace_report.specs.declared.places.Places.{Places}
 use Rattle.trace_report.specs.proving.Following.{CountFrames, KnowsPlaces, IsTaken, counted_by, frames_with, taken_after}
 use Rattle.trace_canon.proofs.Promises.{role_own, role_other}
@@ -206,7 +206,7 @@ module _ (line micros most : ℕ) (few : most < 2 ^ 63) (place : FramePlace) whe
 
 -- of a message that the frame completes
 pub frames_found : (d : Dir) (T : List Entry) (line micros : ℕ) (frame : FrameValue) (begun : Option FramePlace) (taken : ℕ) (whole : List ℕ) → length T < 2 ^ 63
-    → IsBegunAt d T begun → IsTaken d T taken
+    → IsBegunAt MESSAGE_LIMIT d T begun → IsTaken d T taken
     → (verdict MESSAGE_LIMIT T (record { line = line; micros = micros; dir = d; frame = frame })).verdict ≡ message whole
     → frames_with (still_begun d (verdict MESSAGE_LIMIT T (record { line = line; micros = micros; dir = d; frame = frame })).ended begun) taken
     ≡ frames_by (stands MESSAGE_LIMIT d T) (role d (record { line = line; micros = micros; dir = d; frame = frame }))
@@ -224,10 +224,10 @@ frames_by_side : (d : Dir) (T : List Entry) (line micros : ℕ) (frame : FrameVa
     → frames_with (still_begun d (verdict MESSAGE_LIMIT T (entry_at line micros d frame)).ended begun) taken ≡ frames_by (stands MESSAGE_LIMIT d T) (role d (entry_at line micros d frame))
 frames_by_side Tester T line micros frame places begun taken whole few known of_tester of_unit taken_tester taken_unit completes =
     (λ i. frames_with (still_begun Tester (verdict MESSAGE_LIMIT T (entry_at line micros Tester frame)).ended (of_tester refl i)) (taken_tester refl i))
-    ∙ frames_found Tester T line micros frame places.begun.tester places.frames.tester whole few known.tester known.frames.tester completes
+    ∙ frames_found Tester T line micros frame places.begun.tester places.frames.tester whole few (known.begun Tester) known.frames.tester completes
 frames_by_side Unit T line micros frame places begun taken whole few known of_tester of_unit taken_tester taken_unit completes =
     (λ i. frames_with (still_begun Unit (verdict MESSAGE_LIMIT T (entry_at line micros Unit frame)).ended (of_unit refl i)) (taken_unit refl i))
-    ∙ frames_found Unit T line micros frame places.begun.unit places.frames.unit whole few known.unit known.frames.unit completes
+    ∙ frames_found Unit T line micros frame places.begun.unit places.frames.unit whole few (known.begun Unit) known.frames.unit completes
 
 -- of either side, by what is known of the places
 pub frames_known : (T : List Entry) (e : Entry) (d : Dir) (event : EventValue) (places : Places) (begun : Option FramePlace) (taken : ℕ) (whole : List ℕ)

@@ -27,7 +27,7 @@ use Rattle.trace_report.proofs.Steps.{times_next}
 
 -- nothing is told
 pub quiet_tells_nothing : TellsNothing quiet_script
-quiet_tells_nothing = record { of_frames = λ T e. refl; at_the_end = λ T summary. refl }
+quiet_tells_nothing = record { of_frame = λ T e. refl; at_the_end = λ T summary. refl }
 
 -- the times with one more frame
 pub times_go_on : (T : List Entry) (e : Entry) (times : Times) (micros : ℕ) → Some times ≡ times_of T → e.micros ≡ micros

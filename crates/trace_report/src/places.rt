@@ -1,18 +1,19 @@
 //! Where messages begin, and how many frames carry them.
-ghost use Rattle.std.specs.Prelude.{◌≡◌, ◌^◌, ◌<◌, ℕ, List, [], ◌∷◌, ◌++◌, length};
+ghost use Rattle.std.specs.Prelude.{◌≡◌, List, [], ◌∷◌, ◌++◌};
 ghost use Rattle.isotp_receive.specs.declared.TheConstants.{MESSAGE_LIMIT};
-ghost use Rattle.isotp_receive.specs.EventSeen.{seen_event};
 ghost use Rattle.isotp_receive.specs.StandingReception.{stands};
 ghost use Rattle.isotp_receive.specs.Trace.{Entry, role};
-ghost use Rattle.isotp_receive.specs.Verdict.{message as completes, verdict};
+ghost use Rattle.trace_run.specs.Seen.{IsEventOf};
+ghost use Rattle.trace_canon.specs.MemoryNeeded.{CompletesMessage};
 ghost use Rattle.trace_canon.specs.MessageLines.{first_frame, place_of};
+ghost use Rattle.trace_canon.specs.proving.ReceptionStarts.{still_begun};
 ghost use Rattle.trace_report.specs.Events.{frames_by};
 ghost use Rattle.trace_report.specs.proving.Following.{KnowsPlaces};
 
 use crate::frames::{FrameCounts, frames_carrying};
 use direction::Dir;
-use isotp_receive::Event;
-use trace_canon::reception_starts::{FramePlace, ReceptionStarts, still_begun};
+use isotp_receive::{Ended, Event};
+use trace_canon::reception_starts::{FramePlace, ReceptionStarts};
 
 /// Where the receptions began that stand, and how many frames they took.
 #[derive(Clone, Copy, Debug)]
@@ -43,13 +44,12 @@ impl Places {
     /// the answer says nothing.
     #[inline(always)]
     pub(crate) fn take(&mut self, here: FramePlace, dir: Dir, event: Event<'_>) -> MessageExtent
-        ensures next { (T : List Entry) (e : Entry) → e.line ≡ here.line → e.micros ≡ here.micros → e.dir ≡ dir → length T < 2 ^ 62
-            → seen_event event.entry ≡ verdict MESSAGE_LIMIT T e → KnowsPlaces T self.old → KnowsPlaces (T ++ e ∷ []) self.new }
-        ensures first { (T : List Entry) (e : Entry) (bytes : List ℕ) → e.line ≡ here.line → e.micros ≡ here.micros → e.dir ≡ dir
-            → seen_event event.entry ≡ verdict MESSAGE_LIMIT T e → (seen_event event.entry).verdict ≡ completes bytes → KnowsPlaces T self.old
-            → result.first ≡ place_of (first_frame T e) }
-        ensures frames { (T : List Entry) (e : Entry) (bytes : List ℕ) → e.dir ≡ dir → length T < 2 ^ 62
-            → seen_event event.entry ≡ verdict MESSAGE_LIMIT T e → (seen_event event.entry).verdict ≡ completes bytes → KnowsPlaces T self.old
+        ensures next { (T : List Entry) (e : Entry) → IsEventOf T e here.line here.micros dir event.entry
+            → KnowsPlaces T self.old → KnowsPlaces (T ++ e ∷ []) self.new }
+        ensures first { (T : List Entry) (e : Entry) → IsEventOf T e here.line here.micros dir event.entry
+            → KnowsPlaces T self.old → CompletesMessage MESSAGE_LIMIT T e → result.first ≡ place_of (first_frame T e) }
+        ensures frames { (T : List Entry) (e : Entry) → IsEventOf T e here.line here.micros dir event.entry
+            → KnowsPlaces T self.old → CompletesMessage MESSAGE_LIMIT T e
             → result.frames ≡ frames_by (stands MESSAGE_LIMIT e.dir T) (role e.dir e) }
     {
         let begun = still_begun(dir, event.ended, self.begun.of(dir));
@@ -57,5 +57,15 @@ impl Places {
         let first = self.begun.take(here, dir, event);
         self.frames.take(dir, event.verdict);
         MessageExtent { first, frames }
+    }
+}
+
+/// Where the reception of a direction began, if it still stands after this end.
+fn still_begun(dir: Dir, ended: Option<Ended>, begun: Option<FramePlace>) -> Option<FramePlace>
+    ensures { result ≡ still_begun dir ended begun }
+{
+    match ended {
+        Some(ended) if ended.dir == dir => None,
+        _ => begun,
     }
 }

@@ -1,8 +1,10 @@
--- What was said to a page, once nothing is left on it.
-use Rattle.std.proofs.Common.{◌≡◌, ◌<◌, Bool, true, false, List, [], ◌∷◌, ◌++◌, ℕ, length, arith, refl, ap, sym, subst, ◌∙◌, append-nil, append_assoc, length-append}
+-- What is carried since a start: nothing at first, then a text more, and all of it once nothing is left on the page.
+use Rattle.std.proofs.Common.{◌≡◌, ◌<◌, ◌≤◌, ◌^◌, Bool, true, false, List, [], ◌∷◌, ◌++◌, ℕ, length, arith, refl, ap, sym, subst, ◌∙◌, append-nil, append_assoc, length-append}
+use Rattle.trace_io.proofs.Promises.{took_no_byte}
 use Rattle.trace_io.specs.Written.{HasFront}
 use Rattle.trace_io.specs.declared.device.Target.{Ghosts}
-use Rattle.trace_run.specs.proving.Carrying.{Carries, HasCarried}
+use Rattle.trace_run.specs.declared.page.Page.{Page}
+use Rattle.trace_run.specs.proving.Carrying.{Carries, HasCarried, blank_page}
 use Rattle.trace_run.proofs.WrittenFronts.{written_all, front_longer}
 
 -- a text that was said, and found room behind what is held
@@ -19,30 +21,82 @@ some_more : (said text held : List ℕ) → (0 < length held → 0 < length said
 some_more said text [] is some = omega (arith, length-append said text)
 some_more said text (byte ∷ held) is some = omega (arith, is (omega arith), length-append said text)
 
+-- a page with nothing on it is blank
+pub is_blank : (page : Page) → page.failed ≡ false → page.held ≡ [] → blank_page false ≡ page
+is_blank page well blank = λ i. record { held = sym blank i; failed = sym well i }
+
 module _ {W : Type 0} (target : Ghosts W) where
+  -- nothing was said to a page with nothing on it
+  pub nothing_said : (start : W) (page : Page) → target.failures start ≤ 2 ^ 62 → page.failed ≡ false → page.held ≡ [] → Carries target start [] page start
+  nothing_said start page low well blank =
+      subst (λ p. Carries target start [] p start) (is_blank page well blank) (record {
+        low = low;
+        held_some = λ some. absurd (omega arith);
+        spoke = λ is. absurd (cc is);
+        still = λ none. refl;
+        failures = refl;
+        no_empty_write = refl;
+        flushes = refl;
+        took = took_no_byte (target.taken start) (target.contents start);
+        written = record { front = []; parts = refl; wrote = sym (append-nil (target.taken start)) };
+      })
+
   -- what was said was written
-  pub wrote_all : (start now : W) (said : List ℕ) → Carries target start said false [] now → target.taken now ≡ target.taken start ++ said
+  pub wrote_all : (start now : W) (said : List ℕ) → Carries target start said (blank_page false) now → target.taken now ≡ target.taken start ++ said
   wrote_all start now said carries = written_all (target.taken start) said (target.taken now) [] carries.written refl
 
   -- a front of what was said was written, whether writing failed or not
-  pub wrote_front : (start now : W) (said : List ℕ) (failed : Bool) → Carries target start said failed [] now
+  pub wrote_front : (start now : W) (said : List ℕ) (failed : Bool) → Carries target start said (blank_page failed) now
       → HasFront (target.taken start) said (target.taken now)
   wrote_front start now said true carries = carries.written
   wrote_front start now said false carries =
       record { front = said; rest = []; parts = sym (append-nil said); wrote = wrote_all start now said carries }
 
   -- a text more was said, and is held behind what was
-  pub held_more : (start now : W) (said text held held_now : List ℕ) (failed : Bool) → held_now ≡ held ++ text → Carries target start said failed held now
-      → Carries target start (said ++ text) failed held_now now
-  held_more start now said text held held_now failed is so_far =
-      subst (λ h. Carries target start (said ++ text) failed h now) (sym is) (record {
+  pub held_more : (start now : W) (said text : List ℕ) (page : Page) (held_now : List ℕ) → held_now ≡ page.held ++ text → Carries target start said page now
+      → Carries target start (said ++ text) (record page { held = held_now }) now
+  held_more start now said text page held_now is so_far =
+      subst (λ held. Carries target start (said ++ text) (record page { held = held }) now) (sym is) (record {
         low = so_far.low;
-        held_some = some_more said text held so_far.held_some;
+        held_some = some_more said text page.held so_far.held_some;
         spoke = λ has. omega (arith, so_far.spoke has, length-append said text);
         still = λ none. so_far.still (omega (arith, none, length-append said text));
         failures = so_far.failures;
         no_empty_write = so_far.no_empty_write;
         flushes = so_far.flushes;
         took = so_far.took;
-        written = carried_more failed (target.taken start) said text held (target.taken now) so_far.written;
+        written = carried_more page.failed (target.taken start) said text page.held (target.taken now) so_far.written;
       })
+
+  -- a text more was said, and nothing of it is held, where writing had failed
+  pub said_in_vain : (start now : W) (said text : List ℕ) (page : Page) → page.failed ≡ true → Carries target start said page now
+      → Carries target start (said ++ text) page now
+  said_in_vain start now said text page wrong carries =
+      let so_far : Carries target start said (record page { failed = true }) now = subst (λ b. Carries target start said (record page { failed = b }) now) wrong carries in
+      subst (λ b. Carries target start (said ++ text) (record page { failed = b }) now) (sym wrong) (record {
+        low = so_far.low;
+        held_some = λ some. omega (arith, so_far.held_some some, length-append said text);
+        spoke = λ is. omega (arith, so_far.spoke refl, length-append said text);
+        still = λ none. so_far.still (omega (arith, none, length-append said text));
+        failures = so_far.failures;
+        no_empty_write = so_far.no_empty_write;
+        flushes = so_far.flushes;
+        took = so_far.took;
+        written = front_longer (target.taken start) said text (target.taken now) so_far.written;
+      })
+
+  -- what is held is let go, where writing had failed
+  pub let_go : (start now : W) (said : List ℕ) (page : Page) → page.failed ≡ true → Carries target start said page now → Carries target start said (blank_page true) now
+  let_go start now said page wrong carries =
+      let so_far : Carries target start said (record page { failed = true }) now = subst (λ b. Carries target start said (record page { failed = b }) now) wrong carries in
+      record {
+        low = so_far.low;
+        held_some = λ some. absurd (omega arith);
+        spoke = so_far.spoke;
+        still = so_far.still;
+        failures = so_far.failures;
+        no_empty_write = so_far.no_empty_write;
+        flushes = so_far.flushes;
+        took = so_far.took;
+        written = so_far.written;
+      }

@@ -1,5 +1,5 @@
--- What a run answers at the end of a log, and what it did with its devices.
-use Rattle.std.proofs.Common.{◌≡◌, ◌≢◌, ℕ, ◌≤◌, Bool, true, false, List, [], ◌++◌, length, arith, refl, ap, sym, subst, ◌∙◌, Option, Result, Ok, Err, inl, inr, length-append}
+-- What a run answers at the end of a log.
+use Rattle.std.proofs.Common.{◌≡◌, ◌≢◌, ℕ, ◌≤◌, Bool, true, false, List, ◌++◌, length, arith, refl, subst, Option, Result, Ok, Err, inl, inr}
 use Rattle.std.specs.Prelude.{not}
 use Rattle.std.proofs.Math.Nat.{le-min}
 use Rattle.can_log.specs.Log.{LogMeans}
@@ -9,14 +9,14 @@ use Rattle.isotp_receive.specs.declared.TheConstants.{MESSAGE_LIMIT}
 use Rattle.trace_io.specs.declared.device.Target.{Ghosts}
 use Rattle.trace_log.specs.declared.fault.Fault.{Fault}
 use Rattle.trace_log.specs.declared.fault.Fault.TheVariants as fault
-use Rattle.uds_exchange.specs.declared.judge.Judge.{Judge}
 use Rattle.trace_run.specs.declared.machine.NoAnswer.{NoAnswer}
 use Rattle.trace_run.specs.declared.machine.NoAnswer.TheVariants as no_answer
 use Rattle.trace_log.specs.declared.summary.Summary.{Summary}
-use Rattle.trace_run.specs.proving.Carrying.{Carries, Says, Settles}
-use Rattle.trace_run.specs.proving.Telling.{Tells}
+use Rattle.trace_run.specs.declared.page.Page.{Page}
+use Rattle.trace_run.specs.declared.telling.Telling.{Telling}
+use Rattle.trace_run.specs.proving.Carrying.{Carries, Says, Settles, blank_page}
+use Rattle.trace_run.specs.proving.Telling.{HasTold}
 use Rattle.trace_run.specs.proving.Ending.{EndsSaying, EndsTelling}
-use Rattle.trace_log.specs.Feeding.{CountsRead}
 use Rattle.trace_log.specs.Failing.{FailedIf}
 use Rattle.trace_log.specs.Settings.{Settings}
 use Rattle.trace_log.specs.Summing.{summary_of}
@@ -29,39 +29,6 @@ use Rattle.trace_log.proofs.Promises.{writes_front_of_all}
 use Rattle.trace_log.specs.Refusal.{EachPasses}
 use Rattle.trace_run.proofs.Carryings.{wrote_all, wrote_front}
 use Rattle.trace_run.proofs.StoppedLines.{all_pass, read_to_end}
-use Rattle.trace_run.proofs.ToldFronts.{IsOutcomeOf, IsReadOnly}
-
--- the fault of the target is answered exactly where it failed
-pub fails_so : {A W : Type 0} (target : Ghosts W) (start new : W) (answer : Fault) (said : List ℕ) (failed : Bool) → Carries target start said failed [] new → IsOutcomeOf failed answer
-    → FailedIf {A = A} fault.Write (Err answer) (target.failures start) (target.failures new)
-fails_so target start new answer said false carries apart = record { risen = λ is. (let same : answer ≡ fault.Write = cc in absurd (apart same)); same = λ _. carries.failures }
-fails_so target start new answer said true carries write = record { risen = λ _. carries.failures; same = λ other. absurd (other (ap Err write)) }
-
--- a target that took nothing, where writing did not fail, was left alone
-pub left_alone_so : {A W : Type 0} (target : Ghosts W) (start new : W) (result : Result A Fault) (said : List ℕ) (failed : Bool) → Carries target start said failed [] new
-    → FailedIf fault.Write result (target.failures start) (target.failures new) → result ≢ Err fault.Write → target.taken new ≡ target.taken start → new ≡ start
-left_alone_so target start new result said true carries write other same = absurd (omega (arith, carries.failures, write.same other))
-left_alone_so target start new result said false carries write other same =
-    let wrote = wrote_all target start new said carries in
-    let long = ap length (sym wrote ∙ same) in
-    let parts = length-append (target.taken start) said in
-    carries.still (omega (arith, long, parts))
-
-reads_other : {A : Type 0} (answer : Fault) (before after : ℕ) → after ≡ before → answer ≢ fault.Read → FailedIf {A = A} fault.Read (Err answer) before after
-reads_other answer before after same_count apart = record { risen = λ is. (let same : answer ≡ fault.Read = cc in absurd (apart same)); same = λ _. same_count }
-
--- the fault of the source is answered exactly where it failed
-pub reads_so : {A : Type 0} (why : Fault) (answer : Fault) (before after : ℕ) → CountsRead why before after → IsReadOnly why answer
-    → FailedIf {A = A} fault.Read (Err answer) before after
-reads_so fault.Read answer before after counts is = record { risen = λ _. counts; same = λ other. absurd (other (ap Err is)) }
-reads_so (fault.BadLine line column) answer before after counts apart = reads_other answer before after counts apart
-reads_so (fault.Oversize line announced) answer before after counts apart = reads_other answer before after counts apart
-reads_so fault.LogLimit answer before after counts apart = reads_other answer before after counts apart
-reads_so fault.OutputLimit answer before after counts apart = reads_other answer before after counts apart
-reads_so fault.Write answer before after counts apart = reads_other answer before after counts apart
-reads_so fault.Memory answer before after counts apart = reads_other answer before after counts apart
-
--- ---- the end
 
 module _ {A W : Type 0} (target : Ghosts W) (script : Script) (answers : Answering A) (start new : W) (settings : Settings) where
   -- what it answers at the end of the log
@@ -103,7 +70,7 @@ module _ {A W : Type 0} (target : Ghosts W) (script : Script) (answers : Answeri
 
   -- what is carried to the end: writing failed exactly where that is answered
   pub known_then : (log : List ℕ) (meanings : List (Option Stamped)) (result : Result A Fault) → EndsTelling target script answers start settings log meanings result new
-      → (said : List ℕ) × (failed : Bool) × Carries target start said failed [] new × FailedIf fault.Write result (target.failures start) (target.failures new)
+      → (said : List ℕ) × (failed : Bool) × Carries target start said (blank_page failed) new × FailedIf fault.Write result (target.failures start) (target.failures new)
       × (result ≢ Err fault.Read)
   known_then log meanings (Ok value) ends = (_, false, ends.1, record { risen = λ is. absurd (cc is); same = λ _. ends.1.failures }, λ is. absurd (cc is))
   known_then log meanings (Err fault.OutputLimit) ends = (_, false, ends.1, record { risen = λ is. absurd (cc is); same = λ _. ends.1.failures }, λ is. absurd (cc is))
@@ -130,15 +97,15 @@ never_memory target script answers start new settings log meanings (Err (fault.O
 pub only_output_limit : (why : NoAnswer) → why ≡ no_answer.OutputLimit
 only_output_limit no_answer.OutputLimit = refl
 
--- all that is said at the end was said
-module _ {M W : Type 0} (stands : List Entry → M → Type 0) (target : Ghosts W) (script : Script) (start : W) (settings : Settings) (log : List ℕ) (meanings : List (Option Stamped)) where
-  -- it is carried to the page and settled, or that failed
-  pub carried_at_the_end : (machine : M) (judge : Judge) (failed failed_then : Bool) (held held_then : List ℕ) (old mid new : W) (settled : Bool) (summary : Summary)
-      → Tells stands target script start (trace settings meanings) machine judge failed held old → summary ≡ summary_of MESSAGE_LIMIT settings log meanings
-      → Says target failed held old (script.last (trace settings meanings) summary) failed_then held_then mid → Settles target failed_then held_then mid settled new
-      → Carries target start (whole_of_lines script MESSAGE_LIMIT settings log meanings) (not settled) [] new
-  carried_at_the_end machine judge failed failed_then held held_then old mid new settled summary so_far is speaks settles =
-      let T = trace settings meanings in
-      subst (λ s. Carries target start (told script.word T ++ script.last T s) (not settled) [] new) is
-      (settles start (told script.word T ++ script.last T summary)
-      (speaks start (told script.word T) so_far.carried))
+-- all that is said at the end is carried to the page and settled, or that failed
+pub carried_at_the_end : {M W : Type 0} (stands : M → List Entry → M → Type 0) (scripts : M → Script) (target : Ghosts W) (target_start : W) (machine_start : M) (settings : Settings) (log : List ℕ)
+    (meanings : List (Option Stamped)) (telling : Telling M W) (page_then : Page) (old mid new : W) (settled : Bool) (summary : Summary)
+    → HasTold stands scripts target target_start machine_start (trace settings meanings) telling old → summary ≡ summary_of MESSAGE_LIMIT settings log meanings
+    → Says target telling.page old ((scripts machine_start).at_the_end (trace settings meanings) summary) page_then mid → Settles target page_then mid settled new
+    → Carries target target_start (whole_of_lines (scripts machine_start) MESSAGE_LIMIT settings log meanings) (blank_page (not settled)) new
+carried_at_the_end stands scripts target target_start machine_start settings log meanings telling page_then old mid new settled summary so_far is speaks settles =
+    let T = trace settings meanings in
+    let script = scripts machine_start in
+    subst (λ s. Carries target target_start (told script.of_frame T ++ script.at_the_end T s) (blank_page (not settled)) new) is
+    (settles target_start (told script.of_frame T ++ script.at_the_end T summary)
+    (speaks target_start (told script.of_frame T) so_far.carried))

@@ -18,10 +18,10 @@ use Rattle.trace_log.specs.declared.summary.Summary.{Summary}
 use Rattle.trace_log.specs.Trace.{trace}
 use Rattle.trace_log.proofs.Promises.{lines_certify}
 
-module _ (word : List Entry → Entry → List ℕ) (last : List Entry → Summary → List ℕ) (refusal : RefusalText) where
+module _ (of_frame : List Entry → Entry → List ℕ) (at_the_end : List Entry → Summary → List ℕ) (refusal : RefusalText) where
   -- where a fault tells why the log can't be read, that is so
   pub unread_for : (limit : ℕ) (settings : Settings) (log : List ℕ) (given : ℕ) (fault : Fault) (old new : List ℕ)
-      → AnswersTold (lenient word last) refusal answers_counts limit settings log given (Err fault) old new → IsUnreadFor false limit settings log fault
+      → AnswersTold (lenient of_frame at_the_end) refusal answers_counts limit settings log given (Err fault) old new → IsUnreadFor false limit settings log fault
   unread_for limit settings log given (BadLine line column) old new (is, wrote) = is
   unread_for limit settings log given (Oversize line announced) old new (is, wrote) = is
   unread_for limit settings log given LogLimit old new (is, wrote) = is
@@ -32,7 +32,7 @@ module _ (word : List Entry → Entry → List ℕ) (last : List Entry → Summa
 
   -- its counts certify what those of the lines do
   pub certifies : (settings : Settings) (log : List ℕ) (given : ℕ) (result : Result Summary Fault) (old new : List ℕ)
-      → AnswersTold (lenient word last) refusal answers_counts MESSAGE_LIMIT settings log given result old new → IfOk result (Certifies MESSAGE_LIMIT settings log)
+      → AnswersTold (lenient of_frame at_the_end) refusal answers_counts MESSAGE_LIMIT settings log given result old new → IfOk result (Certifies MESSAGE_LIMIT settings log)
   certifies settings log given (Ok summary) old new (all, meanings, is, counted, wrote) =
       let same : summary_of MESSAGE_LIMIT settings log meanings ≡ summary = cc counted in
       subst (Certifies MESSAGE_LIMIT settings log) same (lines_certify MESSAGE_LIMIT settings log meanings (omega arith) is.1)
@@ -42,6 +42,7 @@ module _ (word : List Entry → Entry → List ℕ) (last : List Entry → Summa
 -- too long
 module _ {A : Type 0} (script : Script) (refusal : RefusalText) (answers : Answering A) (is_lenient : script.strict ≡ false)
     (has_answer : (T : List Entry) (summary : Summary) → answers T summary (Err no_answer.OutputLimit) → ⊥) where
+  -- where a fault tells why the log can't be read, that is so
   unread : (settings : Settings) (log : List ℕ) (given : ℕ) (fault : Fault) (old new : List ℕ)
       → AnswersTold script refusal answers MESSAGE_LIMIT settings log given (Err fault) old new → IsUnreadFor false MESSAGE_LIMIT settings log fault
   unread settings log given (BadLine line column) old new (is, wrote) = subst (λ strict. IsUnreadFor strict MESSAGE_LIMIT settings log (BadLine line column)) is_lenient is
@@ -52,12 +53,14 @@ module _ {A : Type 0} (script : Script) (refusal : RefusalText) (answers : Answe
   unread settings log given Write old new is = tt
   unread settings log given Memory old new is = tt
 
+  -- no announced length is the fault
   pub no_oversize : (settings : Settings) (log : List ℕ) (given : ℕ) (result : Result A Fault) (old new : List ℕ)
       → AnswersTold script refusal answers MESSAGE_LIMIT settings log given result old new → IfErr result (λ why. (line announced : ℕ) → why ≢ Oversize line announced)
   no_oversize settings log given (Ok value) old new told = tt
   no_oversize settings log given (Err why) old new told = λ line announced is.
       subst (IsUnreadFor false MESSAGE_LIMIT settings log) is (unread settings log given why old new told)
 
+  -- nor is it the length of the output
   pub no_output_limit : (settings : Settings) (log : List ℕ) (given : ℕ) (result : Result A Fault) (old new : List ℕ)
       → AnswersTold script refusal answers MESSAGE_LIMIT settings log given result old new → IfErr result (λ why. why ≢ OutputLimit)
   no_output_limit settings log given (Ok value) old new told = tt
@@ -70,7 +73,7 @@ pub near_when_lenient : {strict : Bool} → strict ≡ false → (settings : Set
 near_when_lenient {strict} is settings log {given} {before} {after} near =
     subst (λ (s : Bool). ReadsWhile (StopsNothingWithin s MESSAGE_LIMIT settings log) given before after) is near
 
--- a frame that needed memory is kept, where no line needs some to be told
+-- a frame that needed memory is kept, where the command needs none to tell it
 pub needs_when_none : (needs : List Entry → Entry → Type 0) → ((T : List Entry) (e : Entry) → needs T e → ⊥) → (settings : Settings) (log : List ℕ)
     → HasFrame (λ T e. IsKeptForMessage MESSAGE_LIMIT T e ⊎ needs T e) settings log → NeedsMemoryToReceive MESSAGE_LIMIT settings log
 needs_when_none needs none settings log found =

@@ -4,6 +4,7 @@ pub mod Runs
 pub mod Carryings
 pub mod SeenMessages
 pub mod ToldFrames
+pub mod DeviceFaults
 pub mod StoppedLines
 pub mod ToldFronts
 pub mod ToldRuns

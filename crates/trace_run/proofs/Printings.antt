@@ -6,20 +6,18 @@ use Rattle.trace_run.specs.declared.page.Page.{Page}
 use Rattle.trace_log.specs.declared.fault.Fault.TheVariants.{Write}
 use Rattle.trace_log.specs.Failing.{FailedIf}
 use Rattle.trace_run.specs.Printed.{Prints}
-use Rattle.trace_run.specs.proving.Carrying.{Carries, Says, Settles}
-use Rattle.trace_run.proofs.Carryings.{wrote_all, wrote_front}
-use Rattle.trace_run.proofs.ToldRuns.{blank_page}
-use Rattle.trace_run.proofs.EndedRuns.{left_alone_so}
+use Rattle.trace_run.specs.proving.Carrying.{Carries, Says, Settles, blank_page}
+use Rattle.trace_run.proofs.Carryings.{nothing_said, wrote_all, wrote_front}
+use Rattle.trace_run.proofs.DeviceFaults.{left_alone_so}
 
 module _ {W : Type 0} (target : Ghosts W) (text : List ℕ) (old new : W) where
   -- said to a page that was blank, and settled
-  pub settled_text : (mid : W) (page : Page) (failed : Bool) (held : List ℕ) (settled : Bool) → target.failures old ≤ 2 ^ 62 → page.failed ≡ false → page.held ≡ []
-      → Says target page.failed page.held old text failed held mid → Settles target failed held mid settled new → Carries target old text (not settled) [] new
-  settled_text mid page failed held settled low well blank speaks settles =
-      settles old text (speaks old [] (rw (well, blank) (blank_page target old low)))
+  pub settled_text : (mid : W) (page page_then : Page) (settled : Bool) → target.failures old ≤ 2 ^ 62 → page.failed ≡ false → page.held ≡ []
+      → Says target page old text page_then mid → Settles target page_then mid settled new → Carries target old text (blank_page (not settled)) new
+  settled_text mid page page_then settled low well blank speaks settles = settles old text (speaks old [] (nothing_said target old page low well blank))
 
   -- all of it was written
-  pub printed : Carries target old text false [] new → Prints {A = Unit {0}} target text old (Ok (tt {0})) new
+  pub printed : Carries target old text (blank_page false) new → Prints {A = Unit {0}} target text old (Ok (tt {0})) new
   printed carries =
       let well : FailedIf Write (Ok (tt {0})) (target.failures old) (target.failures new) = record { risen = λ is. absurd (cc is); same = λ _. carries.failures } in
       record {
@@ -36,7 +34,7 @@ module _ {W : Type 0} (target : Ghosts W) (text : List ℕ) (old new : W) where
       }
 
   -- a front of it was written, and that failed
-  pub printed_front : Carries target old text true [] new → Prints {A = Unit {0}} target text old (Err Write) new
+  pub printed_front : Carries target old text (blank_page true) new → Prints {A = Unit {0}} target text old (Err Write) new
   printed_front carries = record {
     written = wrote_front target old new text true carries;
     wrote = record {

@@ -10,11 +10,11 @@ use Rattle.trace_run.specs.Script.{Script, Answering, TellsNothing, tells_no_ref
 use Rattle.trace_run.specs.Told.{AnswersTold}
 use Rattle.trace_log.specs.Trace.{trace}
 
--- of no frame anything is told
-told_nothing : (word : List Entry → Entry → List ℕ) → ((T : List Entry) (e : Entry) → word T e ≡ []) → (past xs : List Entry) → told_after word past xs ≡ []
-told_nothing word none past [] = refl
-told_nothing word none past (e ∷ rest) =
-    ap (λ (text : List ℕ). text ++ told_after word (past ++ e ∷ []) rest) (none past e) ∙ told_nothing word none (past ++ e ∷ []) rest
+-- nothing is told of any frame
+told_nothing : (of_frame : List Entry → Entry → List ℕ) → ((T : List Entry) (e : Entry) → of_frame T e ≡ []) → (past xs : List Entry) → told_after of_frame past xs ≡ []
+told_nothing of_frame none past [] = refl
+told_nothing of_frame none past (e ∷ rest) =
+    ap (λ (text : List ℕ). text ++ told_after of_frame (past ++ e ∷ []) rest) (none past e) ∙ told_nothing of_frame none (past ++ e ∷ []) rest
 
 module _ {A : Type 0} (script : Script) (none : TellsNothing script) (answers : Answering A) (limit : ℕ) (settings : Settings) (log : List ℕ) (given : ℕ) (old new : List ℕ) where
   -- so writing does not fail
@@ -27,14 +27,14 @@ module _ {A : Type 0} (script : Script) (none : TellsNothing script) (answers : 
   never_write (Err Read) answered = λ is. absurd (cc is)
   never_write (Err Memory) answered = λ is. absurd (cc is)
   never_write (Err Write) (inl (front, inl told)) =
-      absurd (omega (arith, told.some, ap length (told_nothing script.word none.of_frames [] (trace settings told.meanings))))
+      absurd (omega (arith, told.some, ap length (told_nothing script.of_frame none.of_frame [] (trace settings told.meanings))))
   never_write (Err Write) (inl (front, inr ends)) =
       let T = trace settings ends.meanings in
       let last = none.at_the_end T (summary_of limit settings log ends.meanings) in
       absurd (omega (
         arith,
         ends.some,
-        ap (λ (t : List ℕ). length (t ++ script.last T (summary_of limit settings log ends.meanings))) (told_nothing script.word none.of_frames [] T),
+        ap (λ (t : List ℕ). length (t ++ script.at_the_end T (summary_of limit settings log ends.meanings))) (told_nothing script.of_frame none.of_frame [] T),
         ap length last,
       ))
   never_write (Err Write) (inr refuses) =

@@ -15,6 +15,7 @@ use Rattle.trace_log.specs.Trace.{trace, trace_from}
 use Rattle.trace_log.specs.Feeding.{Took, Stopped}
 use Rattle.trace_log.specs.proving.Receiving.{entry_in, IsStart, IsReceiverStart, Receives}
 
+-- a receiver at its start has received no line
 receives_start : (settings : Settings) (pair : PairValue) (lines : ℕ) (counts : Summary) → IsStart pair lines counts → Receives settings [] pair lines counts
 unfolding trace_from
 receives_start settings pair lines counts start = record {
@@ -24,6 +25,7 @@ receives_start settings pair lines counts start = record {
   counted = start.counted;
 }
 
+-- no line has a trace
 no_trace : (settings : Settings) → trace settings [] ≡ []
 unfolding trace_from
 no_trace settings = refl
@@ -48,10 +50,11 @@ StopsOn settings Known meanings what why =
     (stamped : Stamped) × (d : Dir) × (what ≡ Some stamped) × (Some d ≡ direction_of settings stamped.frame.id)
     × Known (trace settings meanings) (entry_in meanings stamped d) why
 
--- what is said of a telling of events and its device, of the trace that they took and of the frame on which they stopped
+-- what is known of a telling and its target before and after, by the trace that was taken
 abbrev pub TookEvents : Type 0 → Type 0 → Type 1
 TookEvents M W = Telling M W × W → List Entry → Telling M W × W → Type 0
 
+-- and the frame on which they stopped, and why
 abbrev pub StoppedOnEvent : Type 0 → Type 0 → Type 1
 StoppedOnEvent M W = Telling M W × W → List Entry → Entry → Fault → Telling M W × W → Type 0
 
@@ -92,6 +95,7 @@ module _ {M W : Type 0} (stopped : StoppedOnEvent M W) where
       IsStart s.0.pair s.0.lines s.0.counts
       → StopsOn s.0.config (λ T e why. stopped (s.0.telling, s.1) T e why (t.0.telling, t.1)) meanings what why
 
+  -- on which the telling of the receiver stopped
   pub has_stopped : {IsFresh : Telling M W → Type 0} (settings : Settings) (start now : Receiver M W × W) → IsRunStart IsFresh settings start
       → (meanings : List (Option Stamped)) (what : Option Stamped) (why : Fault) → StoppedOnLine start meanings what why now
       → StopsOn settings (λ T e why. stopped (start.0.telling, start.1) T e why (now.0.telling, now.1)) meanings what why

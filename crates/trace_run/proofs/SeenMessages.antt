@@ -6,10 +6,10 @@ use Rattle.isotp_receive.specs.declared.TheConstants.{MESSAGE_LIMIT}
 use Rattle.isotp_receive.specs.EventSeen.{seen_event}
 use Rattle.isotp_receive.specs.Trace.{Entry}
 use Rattle.isotp_receive.specs.Verdict.{EventValue, VerdictValue, message, began, stored, flowed, dropped, messages, told_message, verdict}
-use Rattle.uds_exchange.specs.Judging.{IsJudgmentOf, sent}
+use Rattle.uds_exchange.specs.Judging.{sent}
 use Rattle.uds_exchange.specs.declared.judge.Judged.{Judged}
 use Rattle.trace_log.proofs.Promises.{messages_more}
-use Rattle.trace_run.specs.Seen.{CompletesJudged, IsEventOf, IsSeen}
+use Rattle.trace_run.specs.Seen.{CompletesJudged, IsEventOf, IsJudgmentOf, IsSeen}
 use Rattle.trace_run.specs.declared.machine.Seen.{Seen}
 
 -- a frame told no other message than it completed
@@ -20,6 +20,7 @@ completed d stored m is = cc is
 completed d flowed m is = cc is
 completed d (dropped reason) m is = cc is
 
+-- the messages behind a frame are those before it, and what it told
 next : (T : List Entry) (e : Entry) (seen : Seen) (told : List Message) → IsEventOf T e seen.line seen.micros seen.dir seen.event
     → told_message seen.dir (seen_event seen.event).verdict ≡ told → messages MESSAGE_LIMIT (T ++ e ∷ []) ≡ messages MESSAGE_LIMIT T ++ told
 next T e seen told event is =
@@ -49,6 +50,7 @@ completes_none T e seen is none =
     let M = messages MESSAGE_LIMIT T in
     next T e seen [] is.event (subst (IsJudgmentOf M (told_message seen.dir (seen_event seen.event).verdict)) none is.message) ∙ append-nil M
 
+-- of such a frame no message is told
 pub tells_no_message : (T : List Entry) (e : Entry) (seen : Seen) → IsSeen T e seen → seen.message ≡ None → told_message e.dir (verdict MESSAGE_LIMIT T e).verdict ≡ []
 tells_no_message T e seen is none =
     ap (λ d. told_message d (verdict MESSAGE_LIMIT T e).verdict) is.event.dir

@@ -22,13 +22,13 @@ use Rattle.trace_log.specs.proving.Announcing.{AnnouncesWithin}
 use Rattle.trace_log.proofs.Promises.{each_within, reads_legal, reads_unrefused, all_taken, IsBadBehind, bad_line, not_refused_at_limit, bad_counts, no_place_counts}
 use Rattle.trace_log.specs.Refusal.{EachPasses}
 
--- a frame for which a run stops announces so much, and is not strict's own otherwise
+-- a frame for which a run stops announces so much, and the run is strict
 pub stopped_for : (strict : Bool) (T : List Entry) (e : Entry) (event : EventValue) (n : ℕ) → event ≡ verdict MESSAGE_LIMIT T e → oversize_for strict event.verdict ≡ Some n
     → (strict ≡ true) × (oversize_in MESSAGE_LIMIT (layout_of e.frame) ≡ Some n)
 stopped_for true T e event n seen is = (refl, sym (too_long_is_announced MESSAGE_LIMIT T e) ∙ sym (ap (λ (x : EventValue). too_long_in x.verdict) seen) ∙ is)
 stopped_for false T e event n seen is = absurd (cc)
 
--- one for which it does not announces no more than the limit, where the run is strict
+-- a frame for which a strict run does not stop announces no more than the limit
 pub not_stopped_for : (strict : Bool) (T : List Entry) (e : Entry) (event : EventValue) → event ≡ verdict MESSAGE_LIMIT T e → oversize_for strict event.verdict ≡ None
     → strict ≡ true → AnnouncesWithin e
 not_stopped_for true T e event seen is strict = sym (too_long_is_announced MESSAGE_LIMIT T e) ∙ sym (ap (λ (x : EventValue). too_long_in x.verdict) seen) ∙ is
@@ -47,7 +47,7 @@ module _ (settings : Settings) (log : List ℕ) where
   unread_for_place true line column meanings bytes bad few each = bad_line MESSAGE_LIMIT settings log line column meanings bytes bad few each
   unread_for_place false line column meanings bytes bad few each = bad_counts settings log line column meanings bytes bad few
 
-  -- its length does
+  -- the length of the log refuses it
   pub unread_for_limit : (strict : Bool) (front rest : List ℕ) (meanings : List (Option Stamped)) (standing : Standing) → StandsAfter front meanings standing → log ≡ front ++ rest
       → length front ≡ settings.max_bytes → settings.max_bytes < length log → EachPasses (passing strict MESSAGE_LIMIT settings) meanings
       → IsUnreadFor strict MESSAGE_LIMIT settings log fault.LogLimit
@@ -55,7 +55,7 @@ module _ (settings : Settings) (log : List ℕ) where
       (not_refused_at_limit MESSAGE_LIMIT settings log front rest meanings standing stands parts full long each, long)
   unread_for_limit false front rest meanings standing stands parts full long each = (no_place_counts settings log front rest meanings standing stands parts full long, long)
 
-  -- it is read to its end
+  -- the log is read to its end
   pub read_to_end : (strict : Bool) (meanings : List (Option Stamped)) → length log ≤ settings.max_bytes → LogMeans log meanings → EachPasses (passing strict MESSAGE_LIMIT settings) meanings
       → IsReadToEnd strict MESSAGE_LIMIT settings log meanings
   read_to_end true meanings short means each = record { short = short; means = means; within = each }

@@ -1,5 +1,5 @@
 -- A front of what is told of the lines that were read, or more than was told before.
-use Rattle.std.proofs.Common.{◌-◌, ◌≡◌, ◌≢◌, ℕ, ◌+◌, ◌<◌, ◌≤◌, Bool, true, false, List, [], ◌∷◌, ◌++◌, length, arith, refl, ap, sym, subst, ◌∙◌, Option, inl, inr, append-nil, append_assoc, length-append}
+use Rattle.std.proofs.Common.{◌-◌, ◌≡◌, ℕ, ◌+◌, ◌<◌, ◌≤◌, Bool, true, false, List, [], ◌∷◌, ◌++◌, length, arith, refl, ap, sym, subst, ◌∙◌, Option, inl, inr, append-nil, append_assoc, length-append}
 use Rattle.std.specs.Prelude.{min}
 use Rattle.std.proofs.Math.Nat.{min-le_left}
 use Rattle.can_log.specs.declared.frame.Stamped.{Stamped}
@@ -8,6 +8,7 @@ use Rattle.trace_io.specs.Written.{HasFront}
 use Rattle.trace_io.specs.declared.device.Target.{Ghosts}
 use Rattle.trace_log.specs.declared.fault.Fault.{Fault}
 use Rattle.trace_log.specs.declared.fault.Fault.TheVariants as fault
+use Rattle.trace_run.specs.declared.page.Page.{Page}
 use Rattle.trace_run.specs.proving.Carrying.{Carries}
 use Rattle.trace_run.specs.proving.Ending.{EndsAs}
 use Rattle.trace_log.specs.LinesRead.{counts_last, AreGiven, AreLinesRead, AreReadBefore, WritesTextOfRead}
@@ -31,13 +32,13 @@ unfolding trace_from
 told_grows script settings meanings more =
     let T = trace settings meanings in
     let rest = trace_from settings (1 + length meanings) more in
-    (told_after script.word T rest, ap (told script.word) (trace_from-append settings 1 meanings more) ∙ told-append script.word [] T rest)
+    (told_after script.of_frame T rest, ap (told script.of_frame) (trace_from-append settings 1 meanings more) ∙ told-append script.of_frame [] T rest)
 
 -- a front of what is told of frames is one of all that is told
 pub front_of_whole : (script : Script) (limit : ℕ) (settings : Settings) (log : List ℕ) (given : ℕ) (why : Fault) (old new : List ℕ)
     → WritesFrontOfTold script limit settings log given why old new → WritesFrontOfWhole script limit settings log given why old new
 front_of_whole script limit settings log given why old new wrote =
-    let end = script.last (trace settings wrote.meanings) (summary_of limit settings log wrote.meanings) in
+    let end = script.at_the_end (trace settings wrote.meanings) (summary_of limit settings log wrote.meanings) in
     record {
       meanings = wrote.meanings;
       read = wrote.read;
@@ -120,25 +121,10 @@ front_of_refused script refusal limit settings log given why meanings old new te
       front = front;
     })
 
--- where writing failed, that is the fault, and else another
-abbrev pub IsOutcomeOf : Bool → Fault → Type 0
-IsOutcomeOf false answer = answer ≢ fault.Write
-IsOutcomeOf true answer = answer ≡ fault.Write
-
--- only where the source failed, that is the fault
-abbrev pub IsReadOnly : Fault → Fault → Type 0
-IsReadOnly fault.Read answer = answer ≡ fault.Read
-IsReadOnly fault.LogLimit answer = answer ≢ fault.Read
-IsReadOnly fault.OutputLimit answer = answer ≢ fault.Read
-IsReadOnly (fault.BadLine line column) answer = answer ≢ fault.Read
-IsReadOnly (fault.Oversize line announced) answer = answer ≢ fault.Read
-IsReadOnly fault.Memory answer = answer ≢ fault.Read
-IsReadOnly fault.Write answer = answer ≢ fault.Read
-
 -- ---- only more is written
 
 -- what was written before stays
-pub only_more : {W : Type 0} {target : Ghosts W} {start now : W} {said held : List ℕ} {failed : Bool} → Carries target start said failed held now
+pub only_more : {W : Type 0} {target : Ghosts W} {start now : W} {said : List ℕ} {page : Page} → Carries target start said page now
     → Begins (target.taken start) (target.taken now)
 only_more carries = (carries.took.bytes, carries.took.grown)
 

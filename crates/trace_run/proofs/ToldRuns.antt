@@ -5,14 +5,13 @@ use Rattle.std.proofs.lemmas.List.{take-append-drop, length-take-le}
 use Rattle.can_log.specs.declared.frame.Stamped.{Stamped}
 use Rattle.isotp_receive.specs.Trace.{Entry}
 use Rattle.isotp_receive.specs.declared.TheConstants.{MESSAGE_LIMIT}
-use Rattle.trace_io.proofs.Promises.{took_no_byte}
 use Rattle.trace_io.specs.Written.{HasFront}
 use Rattle.trace_io.specs.declared.device.Target.{Ghosts}
 use Rattle.trace_run.specs.declared.telling.Telling.{Telling}
 use Rattle.trace_log.specs.declared.fault.Fault.{Fault}
 use Rattle.trace_log.specs.declared.fault.Fault.TheVariants as fault
 use Rattle.trace_run.specs.declared.receiver.Receiver.{Receiver}
-use Rattle.trace_run.specs.proving.Carrying.{Carries}
+use Rattle.trace_run.specs.proving.Carrying.{Carries, blank_page}
 use Rattle.trace_run.specs.proving.Telling.{HasTold, HasToldNothing, HasStopped, HasToldAndWritten, HasWrittenAtLeast}
 use Rattle.trace_run.specs.proving.Ending.{EndsAs, SettlesAs, SettlesWith, RefusesTelling, GivesUp}
 use Rattle.trace_log.specs.Feeding.{FeedsLog, FeedsSome, WroteBefore, StopsWithin}
@@ -28,26 +27,13 @@ use Rattle.trace_log.specs.Needing.{HasFrame, IsKeptForMessage}
 use Rattle.trace_log.proofs.Promises.{has_frame, each_within, line_announces, each_more, trace_next, IsBadBehind, read_before_oversize, oversize_stops, bad_in_front, bad_at_end, HaveCome, have_come, read_to_bad, read_to_limit, writes_to_failed_read, Begins}
 use Rattle.trace_log.specs.proving.Receiving.{entry_in, IsStart}
 use Rattle.trace_log.specs.Refusal.{EachPasses}
-use Rattle.trace_run.proofs.Carryings.{wrote_all, wrote_front}
+use Rattle.trace_run.proofs.Carryings.{nothing_said, wrote_all, wrote_front}
 use Rattle.trace_run.proofs.Runs.{TookEvents, StoppedOnEvent, StopsOn, IsRunStart, TookLines, StoppedOnLine, took_nothing, has_received, has_taken, has_stopped}
 use Rattle.trace_run.proofs.WrittenFronts.{front_longer}
 use Rattle.trace_run.proofs.ToldFrames.{one_more_told}
+use Rattle.trace_run.proofs.DeviceFaults.{IsOutcomeOf, IsReadOnly}
 use Rattle.trace_run.proofs.StoppedLines.{all_pass, unread_for_place, unread_for_limit}
-use Rattle.trace_run.proofs.ToldFronts.{front_of_whole, writes_front_of_told, told_some, front_of_read, front_of_refused, IsOutcomeOf, IsReadOnly, only_more, more_at_fault, tells_eagerly}
-
--- nothing was said to a page with nothing on it
-pub blank_page : {W : Type 0} (target : Ghosts W) (start : W) → target.failures start ≤ 2 ^ 62 → Carries target start [] false [] start
-blank_page target start low = record {
-  low = low;
-  held_some = λ some. absurd (omega arith);
-  spoke = λ is. absurd (cc is);
-  still = λ none. refl;
-  failures = refl;
-  no_empty_write = refl;
-  flushes = refl;
-  took = took_no_byte (target.taken start) (target.contents start);
-  written = record { front = []; parts = refl; wrote = sym (append-nil (target.taken start)) };
-}
+use Rattle.trace_run.proofs.ToldFronts.{front_of_whole, writes_front_of_told, told_some, front_of_read, front_of_refused, only_more, more_at_fault, tells_eagerly}
 
 module _ {M W : Type 0} (stands : M → List Entry → M → Type 0) (scripts : M → Script) (needs : M → List Entry → Entry → Type 0) (target : Ghosts W) where
   -- events were told
@@ -62,21 +48,20 @@ module _ {M W : Type 0} (stands : M → List Entry → M → Type 0) (scripts : 
   abbrev pub StoppedTelling : StoppedOnEvent M W
   StoppedTelling s T e why t = HasToldNothing stands s.0 → target.failures s.1 ≤ 2 ^ 62 → HasStopped scripts needs target s.1 s.0.machine T e why t.0 t.1
 
+  -- of no frame nothing is told
   told_nothing : (start : Telling M W × W) → ToldEvents start [] start
   told_nothing start fresh low = record {
     judged = fresh.judged;
-    machine_stands = fresh.stands;
+    machine_stands = fresh.stands_at_start;
     within = λ strict. tt;
-    carried =
-        subst (λ b. Carries target start.1 [] b start.0.page.held start.1) (sym fresh.well)
-        (subst (λ h. Carries target start.1 [] false h start.1) (sym fresh.blank) (blank_page target start.1 low));
+    carried = nothing_said target start.1 start.0.page low fresh.well fresh.blank;
   }
 
   -- nothing was told of a machine that stands at its start
   pub told_none : (machine : M) (telling : Telling M W) → telling.machine ≡ machine → stands machine [] machine → IsJudgeOf [] telling.judge → telling.page.failed ≡ false
       → telling.page.held ≡ [] → HasToldNothing stands telling
   told_none machine telling same at_start removed well blank =
-      record { stands = subst (λ m. stands m [] m) (sym same) at_start; judged = removed; well = well; blank = blank }
+      record { stands_at_start = subst (λ m. stands m [] m) (sym same) at_start; judged = removed; well = well; blank = blank }
 
   -- no line was taken
   pub takes_nothing : (start : Receiver M W × W) → TookLines ToldEvents start [] start
@@ -98,9 +83,7 @@ module _ {M W : Type 0} (stands : M → List Entry → M → Type 0) (scripts : 
     mid = start.1;
     said = [];
     wrote = sym (append-nil (target.taken start.1));
-    carried =
-        subst (λ b. Carries target start.1 [] b start.0.telling.page.held start.1) (sym fresh.well)
-        (subst (λ h. Carries target start.1 [] false h start.1) (sym fresh.blank) (blank_page target start.1 low));
+    carried = nothing_said target start.1 start.0.telling.page low fresh.well fresh.blank;
   }
 
   -- what feeding left
@@ -108,31 +91,35 @@ module _ {M W : Type 0} (stands : M → List Entry → M → Type 0) (scripts : 
   Fed start m log given result now =
       FeedsLog (TookLines ToldEvents) (TookLines (SettledEvents false)) (TookLines (SettledEvents true)) (StoppedOnLine StoppedTelling) start m log given result now
 
+  -- what feeding left, whatever the log
   abbrev pub FedSome : Receiver M W × W → {A : Type 0} → Result A (Fault) → Receiver M W × W → Type 0
   FedSome start {A = A} result now =
       FeedsSome (TookLines ToldEvents) (TookLines (SettledEvents false)) (TookLines (SettledEvents true)) (StoppedOnLine StoppedTelling) start {A = A} result now
 
   -- from such a start on
   module _ (settings : Settings) (start now : Receiver M W × W) (begun : IsRunStart (HasToldNothing stands) settings start) (low : target.failures start.1 ≤ 2 ^ 62) where
+    -- the frames of the lines were told
     pub gives : (meanings : List (Option Stamped)) → TookLines ToldEvents start meanings now
         → HasTold stands scripts target start.1 start.0.telling.machine (trace settings meanings) now.0.telling now.1
     gives meanings lines = has_taken ToldEvents settings start now begun meanings lines begun.fresh low
 
     -- what was written before the last piece, and what came after it
     pub eagerly : (log : List ℕ) (given : ℕ) (before : WroteBefore WroteLines start log given now) (new : W)
-        → ((mid : W) (said : List ℕ) → Carries target mid said now.0.telling.page.failed now.0.telling.page.held now.1 → Begins (target.taken mid) (target.taken new))
+        → ((mid : W) (said : List ℕ) → Carries target mid said now.0.telling.page now.1 → Begins (target.taken mid) (target.taken new))
         → TellsEagerly (scripts start.0.telling.machine) MESSAGE_LIMIT settings log given (target.taken start.1) (target.taken new)
     eagerly log given before new more =
         let wrote = before.written begun.nothing begun.fresh low in
         let of_settings : trace start.0.config before.meanings ≡ trace settings before.meanings = ap (λ s. trace s before.meanings) begun.config in
         tells_eagerly (scripts start.0.telling.machine) settings log given before.front before.rest before.meanings before.standing (target.taken start.1) (target.taken wrote.mid) (target.taken new)
         before.stands before.parts before.near (subst (λ T. (scripts start.0.telling.machine).strict ≡ true → AllByRecursion AnnouncesWithin T) of_settings wrote.within)
-        (wrote.wrote ∙ ap (λ T. target.taken start.1 ++ told ((scripts start.0.telling.machine).word) T) of_settings) (more wrote.mid wrote.said wrote.carried)
+        (wrote.wrote ∙ ap (λ T. target.taken start.1 ++ told ((scripts start.0.telling.machine).of_frame) T) of_settings) (more wrote.mid wrote.said wrote.carried)
 
+    -- and what was told of them is written, or writing failed
     settled : (failed : Bool) (meanings : List (Option Stamped)) → TookLines (SettledEvents failed) start meanings now
         → HasToldAndWritten stands scripts target start.1 start.0.telling.machine (trace settings meanings) now.0.telling failed now.1
     settled failed meanings lines = has_taken (SettledEvents failed) settings start now begun meanings lines begun.fresh low
 
+    -- the run stopped on a line, and at its frame
     halts : (meanings : List (Option Stamped)) (what : Option Stamped) (why : Fault) → StoppedOnLine StoppedTelling start meanings what why now
         → StopsOn settings (λ T e why. HasStopped scripts needs target start.1 start.0.telling.machine T e why now.0.telling now.1) meanings what why
     halts meanings what why line =
@@ -143,11 +130,12 @@ module _ {M W : Type 0} (stands : M → List Entry → M → Type 0) (scripts : 
     module _ (refusals : M → RefusalText) (new : W) where
       -- how the run ends on a refusal that is told, after these lines
       refuses : (why answer : Fault) (meanings : List (Option Stamped)) → TookLines ToldEvents start meanings now → RefusesTelling stands refusals target why now.0 now.1 answer new
-          → SettlesWith (refusal_of_lines (refusals start.0.telling.machine) MESSAGE_LIMIT settings why meanings) why target now.0.telling.page.failed now.0.telling.page.held now.1 answer new
+          → SettlesWith (refusal_of_lines (refusals start.0.telling.machine) MESSAGE_LIMIT settings why meanings) why target now.0.telling.page now.1 answer new
       refuses why answer meanings taken up =
           let told_so = gives meanings taken in
           up start.0.telling.machine settings meanings (has_received ToldEvents settings start now begun meanings taken) told_so.judged told_so.machine_stands
 
+      -- and so what is told of all lines and of the refusal was said, and is written, or writing failed
       refuses_all : (why answer : Fault) (meanings : List (Option Stamped)) → TookLines ToldEvents start meanings now → RefusesTelling stands refusals target why now.0 now.1 answer new
           → EndsAs why target start.1 (told_and_refusal_of_lines (scripts start.0.telling.machine) (refusals start.0.telling.machine) MESSAGE_LIMIT settings why meanings) answer new
       refuses_all why answer meanings taken up =
@@ -155,7 +143,7 @@ module _ {M W : Type 0} (stands : M → List Entry → M → Type 0) (scripts : 
 
       -- only more is written
       pub more_given_up : (B : Type 0) (why answer : Fault) → FedSome start {A = B} (Err why) now → GivesUp stands refusals target why now.0 now.1 answer new
-          → (mid : W) (said : List ℕ) → Carries target mid said now.0.telling.page.failed now.0.telling.page.held now.1 → Begins (target.taken mid) (target.taken new)
+          → (mid : W) (said : List ℕ) → Carries target mid said now.0.telling.page now.1 → Begins (target.taken mid) (target.taken new)
       more_given_up B (fault.BadLine line column) answer (meanings, taken) up mid said carries =
           more_at_fault (fault.BadLine line column) answer mid _ new (refuses (fault.BadLine line column) answer meanings taken up mid said carries)
       more_given_up B fault.LogLimit answer (meanings, taken) up mid said carries =
@@ -193,10 +181,10 @@ module _ {M W : Type 0} (stands : M → List Entry → M → Type 0) (scripts : 
           each : (meanings : List (Option Stamped)) → (script.strict ≡ true → AllByRecursion AnnouncesWithin (trace settings meanings)) → EachPasses passes meanings
           each meanings within = all_pass script.strict settings meanings within
 
-          wrote : (said : List ℕ) → Carries target start.1 said false [] new → target.taken new ≡ old ++ said
+          wrote : (said : List ℕ) → Carries target start.1 said (blank_page false) new → target.taken new ≡ old ++ said
           wrote said carries = wrote_all target start.1 new said carries
 
-          front : (failed : Bool) (said : List ℕ) → Carries target start.1 said failed [] new → HasFront old said (target.taken new)
+          front : (failed : Bool) (said : List ℕ) → Carries target start.1 said (blank_page failed) new → HasFront old said (target.taken new)
           front failed said carries = wrote_front target start.1 new said failed carries
 
           -- a line or the limit refuses the log
@@ -212,6 +200,7 @@ module _ {M W : Type 0} (stands : M → List Entry → M → Type 0) (scripts : 
                     (front_of_refused script refusal MESSAGE_LIMIT settings log given why meanings old (target.taken new) tells unread read (front true all wrong.1) (wrong.1.spoke refl))
               ]
 
+          -- a line is bad
           bad : (line column bytes : ℕ) (meanings : List (Option Stamped)) → IsBadBehind log line column meanings bytes → bytes ≤ settings.max_bytes → bytes ≤ given
               → TookLines ToldEvents start meanings now → RefusesTelling stands refusals target (fault.BadLine line column) now.0 now.1 answer new → Answers answer
           bad line column bytes meanings place few come taken up =
@@ -222,7 +211,7 @@ module _ {M W : Type 0} (stands : M → List Entry → M → Type 0) (scripts : 
           -- a line announces too much
           over : (line announced : ℕ) (meanings : List (Option Stamped)) (what : Option Stamped) → (halted : StoppedOnLine StoppedTelling start meanings what (fault.Oversize line announced) now)
               → StopsWithin settings.max_bytes log given meanings what
-              → SettlesAs (fault.Oversize line announced) target now.0.telling.page.failed now.0.telling.page.held now.1 answer new → Answers answer
+              → SettlesAs (fault.Oversize line announced) target now.0.telling.page now.1 answer new → Answers answer
           over line announced meanings what line_stopped place settles =
               let halted = halts meanings what (fault.Oversize line announced) line_stopped in
               let strict = halted.4.reason.0 in
@@ -242,16 +231,17 @@ module _ {M W : Type 0} (stands : M → List Entry → M → Type 0) (scripts : 
                     (record { meanings = meanings; read = read; wrote = refl }) (front true (text meanings) wrong.1) (wrong.1.spoke refl))
               ]
 
-          -- what is told of the lines up to the one on which memory was refused
+          -- what is told of the lines up to the one on which memory was refused goes on with that line
           longer : (meanings : List (Option Stamped)) (what : Option Stamped) (line : StoppedOnLine StoppedTelling start meanings what fault.Memory now)
               → (more : List ℕ) × (text (meanings ++ what ∷ []) ≡ text meanings ++ more)
           longer meanings what line =
               let halted = halts meanings what fault.Memory line in
               let e = entry_in meanings halted.0 halted.1 in (
-                script.word (trace settings meanings) e,
-                ap (told script.word) (trace_next settings meanings what halted.0 halted.1 halted.2 halted.3) ∙ one_more_told script.word (trace settings meanings) e,
+                script.of_frame (trace settings meanings) e,
+                ap (told script.of_frame) (trace_next settings meanings what halted.0 halted.1 halted.2 halted.3) ∙ one_more_told script.of_frame (trace settings meanings) e,
               )
 
+          -- and these lines had come
           came : (meanings : List (Option Stamped)) (what : Option Stamped) (line : StoppedOnLine StoppedTelling start meanings what fault.Memory now)
               → StopsWithin settings.max_bytes log given meanings what → HaveCome passes true (min given settings.max_bytes) log (meanings ++ what ∷ [])
           came meanings what line place =
@@ -261,14 +251,16 @@ module _ {M W : Type 0} (stands : M → List Entry → M → Type 0) (scripts : 
               (each (meanings ++ what ∷ []) (λ strict. subst (AllByRecursion AnnouncesWithin) (sym next)
               (each_more (trace settings meanings) (entry_in meanings halted.0 halted.1) (halted.4.within strict) (halted.4.reason.0 strict))))
 
+          -- so a front of what is told of them was written
           stopped : (meanings : List (Option Stamped)) (what : Option Stamped) (line : StoppedOnLine StoppedTelling start meanings what fault.Memory now)
-              → StopsWithin settings.max_bytes log given meanings what → (failed : Bool) (why : Fault) → counts_last why ≡ true → Carries target start.1 (text meanings) failed [] new
+              → StopsWithin settings.max_bytes log given meanings what → (failed : Bool) (why : Fault) → counts_last why ≡ true → Carries target start.1 (text meanings) (blank_page failed) new
               → WritesFrontOfTold script MESSAGE_LIMIT settings log given why old (target.taken new)
           stopped meanings what line place failed why last carries =
               let more = longer meanings what line in
               writes_front_of_told script MESSAGE_LIMIT settings log given why (meanings ++ what ∷ []) old (target.taken new) last (came meanings what line place)
               (subst (λ said. HasFront old said (target.taken new)) (sym more.1) (front_longer old (text meanings) more.0 (target.taken new) (front failed (text meanings) carries)))
 
+          -- and that is something, where what is told of the lines before it is
           some_told : (meanings : List (Option Stamped)) (what : Option Stamped) (line : StoppedOnLine StoppedTelling start meanings what fault.Memory now)
               → StopsWithin settings.max_bytes log given meanings what → 0 < length (text meanings) → HasToldSome script MESSAGE_LIMIT settings log given
           some_told meanings what line place some =
@@ -293,13 +285,13 @@ module _ {M W : Type 0} (stands : M → List Entry → M → Type 0) (scripts : 
               (λ wrote. (unread, wrote))
           by fault.Read (meanings, taken, few, inside, (standing, stood)) up =
               let told_so = settled false meanings taken in
-              let carries = subst (λ w. Carries target start.1 (text meanings) false [] w) (sym up.1) told_so.carried in
+              let carries = subst (λ w. Carries target start.1 (text meanings) (blank_page false) w) (sym up.1) told_so.carried in
               subst Answers (sym up.0)
               (writes_to_failed_read passes text settings log given meanings old (target.taken new) (take given log) (drop given log) standing stood
               (sym (take-append-drop given log)) (each meanings told_so.within) (wrote (text meanings) carries) (length-take-le given log inside) few)
           by fault.Write (meanings, taken, few, inside, (standing, stood)) up =
               let told_so = settled true meanings taken in
-              let carries = subst (λ w. Carries target start.1 (text meanings) true [] w) (sym up.1) told_so.carried in
+              let carries = subst (λ w. Carries target start.1 (text meanings) (blank_page true) w) (sym up.1) told_so.carried in
               subst Answers (sym up.0)
               (front_of_read script refusal MESSAGE_LIMIT settings log given fault.Read meanings old (target.taken new)
               (writes_to_failed_read passes text settings log given meanings [] (text meanings) (take given log) (drop given log) standing stood
@@ -347,19 +339,19 @@ module _ {M W : Type 0} (stands : M → List Entry → M → Type 0) (scripts : 
       -- what is known of the devices then
       pub known : (B : Type 0) (why : Fault) (answer : Fault) → FedSome start {A = B} (Err why) now
           → GivesUp stands refusals target why now.0 now.1 answer new
-          → (said : List ℕ) × (failed : Bool) × Carries target start.1 said failed [] new × IsOutcomeOf failed answer × IsReadOnly why answer
+          → (said : List ℕ) × (failed : Bool) × Carries target start.1 said (blank_page failed) new × IsOutcomeOf failed answer × IsReadOnly why answer
       known B why answer takes up = by why takes up
         where
           on : (name : Fault) (said : List ℕ) → name ≢ fault.Write → name ≢ fault.Read
               → EndsAs name target start.1 said answer new
-              → (text : List ℕ) × (failed : Bool) × Carries target start.1 text failed [] new × IsOutcomeOf failed answer × (answer ≢ fault.Read)
+              → (text : List ℕ) × (failed : Bool) × Carries target start.1 text (blank_page failed) new × IsOutcomeOf failed answer × (answer ≢ fault.Read)
           on name said apart other (inl well) =
               (said, false, well.1, subst (λ f. f ≢ fault.Write) (sym well.0) apart, subst (λ f. f ≢ fault.Read) (sym well.0) other)
           on name said apart other (inr wrong) = (said, true, wrong.1, wrong.0, subst (λ f. f ≢ fault.Read) (sym wrong.0) (λ is. absurd (cc is)))
 
           by : (why : Fault) → FedSome start {A = B} (Err why) now
               → GivesUp stands refusals target why now.0 now.1 answer new
-              → (said : List ℕ) × (failed : Bool) × Carries target start.1 said failed [] new × IsOutcomeOf failed answer × IsReadOnly why answer
+              → (said : List ℕ) × (failed : Bool) × Carries target start.1 said (blank_page failed) new × IsOutcomeOf failed answer × IsReadOnly why answer
           by (fault.BadLine line column) (meanings, taken) up =
               on (fault.BadLine line column) _ (λ is. absurd (cc is)) (λ is. absurd (cc is)) (refuses_all (fault.BadLine line column) answer meanings taken up)
           by fault.LogLimit (meanings, taken) up =
@@ -369,7 +361,7 @@ module _ {M W : Type 0} (stands : M → List Entry → M → Type 0) (scripts : 
               let text = told_of_lines (scripts start.0.telling.machine) settings meanings in (
                 text,
                 false,
-                subst (λ w. Carries target start.1 text false [] w) (sym up.1) (settled false meanings taken).carried,
+                subst (λ w. Carries target start.1 text (blank_page false) w) (sym up.1) (settled false meanings taken).carried,
                 subst (λ f. f ≢ fault.Write) (sym up.0) (λ is. absurd (cc is)),
                 up.0,
               )
@@ -377,7 +369,7 @@ module _ {M W : Type 0} (stands : M → List Entry → M → Type 0) (scripts : 
               let text = told_of_lines (scripts start.0.telling.machine) settings meanings in (
                 text,
                 true,
-                subst (λ w. Carries target start.1 text true [] w) (sym up.1) (settled true meanings taken).carried,
+                subst (λ w. Carries target start.1 text (blank_page true) w) (sym up.1) (settled true meanings taken).carried,
                 up.0,
                 subst (λ f. f ≢ fault.Read) (sym up.0) (λ is. absurd (cc is)),
               )

@@ -1,4 +1,4 @@
--- A text of which the front is written.
+-- A text of which a front was written: the rest of it written too, and texts that are gathered one after another.
 use Rattle.std.proofs.Common.{◌≡◌, ℕ, List, [], ◌++◌, refl, ap, sym, subst, ◌∙◌, append-nil, append_assoc, Result, Ok, Err}
 use Rattle.trace_io.specs.Written.{HasFront, IsWritten, HasWritten}
 use Rattle.trace_run.specs.proving.Gathering.{HasGathered}
@@ -26,6 +26,7 @@ held_written old text mid held later new is more = record {
   wrote = more ∙ ap (λ x. x ++ held) is.wrote ∙ append_assoc old is.front held;
 }
 
+-- what was held was written, or a front of it, and nothing stands behind it
 pub held_ended : {A E : Type 0} (result : Result A E) (old text mid held new : List ℕ) → IsWritten old text mid (held ++ [])
     → HasWritten result mid held new → HasWritten result old text new
 held_ended (Ok value) old text mid held new is wrote = written_all old text new [] (held_written old text mid held [] new is wrote) refl

@@ -1,5 +1,5 @@
--- A command, as a run knows it: what it tells of each frame of a log as it comes, at the end and of a refusal, what it may
--- answer, and what memory it needs. Of lines that were read
+-- A command, as a run knows it: what it tells of each frame of a log as it comes, at the end and of a refusal, what it
+-- may answer, and what memory it needs. Of lines that were read
 --   `told_of_lines` is what is told of their frames,
 --   `whole_of_lines` that, and what is told at the end,
 --   `refusal_of_lines` what is told where behind them something refuses the log,
@@ -19,20 +19,20 @@ use Rattle.trace_run.specs.declared.machine.NoAnswer.{NoAnswer}
 -- refuses a log for a first frame that announces a message above the limit.
 pub record Script : Type 0 where
   pub strict : Bool
-  pub word : List Entry → Entry → List ℕ
-  pub last : List Entry → Summary → List ℕ
+  pub of_frame : List Entry → Entry → List ℕ
+  pub at_the_end : List Entry → Summary → List ℕ
 
 -- the script that tells this of each frame and this at the end, and is not strict
 abbrev pub lenient : (List Entry → Entry → List ℕ) → (List Entry → Summary → List ℕ) → Script
-lenient word last = record { strict = false; word = word; last = last }
+lenient of_frame at_the_end = record { strict = false; of_frame = of_frame; at_the_end = at_the_end }
 
 -- A script that tells nothing.
 pub record TellsNothing (script : Script) : Type 0 where
-  pub of_frames : (T : List Entry) (e : Entry) → script.word T e ≡ []
-  pub at_the_end : (T : List Entry) (summary : Summary) → script.last T summary ≡ []
+  pub of_frame : (T : List Entry) (e : Entry) → script.of_frame T e ≡ []
+  pub at_the_end : (T : List Entry) (summary : Summary) → script.at_the_end T summary ≡ []
 
--- what a command tells where a line or the limit refuses the log: by the frames and the counts of the lines before, and by
--- the reason
+-- what a command tells where a line or the limit refuses the log: by the frames and the counts of the lines before, and
+-- by the reason
 abbrev pub RefusalText : Type 0
 RefusalText = List Entry → Summary → Fault → List ℕ
 
@@ -79,21 +79,21 @@ command script refusal answers needs = record { script = script; refusal = refus
 
 -- what is told of these frames, where the frames `past` came before them
 abbrev pub told_after : (List Entry → Entry → List ℕ) → List Entry → List Entry → List ℕ
-told_after word past [] = []
-told_after word past (e ∷ rest) = word past e ++ told_after word (past ++ e ∷ []) rest
+told_after of_frame past [] = []
+told_after of_frame past (e ∷ rest) = of_frame past e ++ told_after of_frame (past ++ e ∷ []) rest
 
 -- what is told of the frames of a trace
 abbrev pub told : (List Entry → Entry → List ℕ) → List Entry → List ℕ
-told word T = told_after word [] T
+told of_frame T = told_after of_frame [] T
 
 -- what is told before the end of a log whose lines mean this
 abbrev pub told_of_lines : Script → Settings → List (Option Stamped) → List ℕ
-told_of_lines script settings meanings = told script.word (trace settings meanings)
+told_of_lines script settings meanings = told script.of_frame (trace settings meanings)
 
 -- all that is told of a log whose lines mean this, that at the end too
 abbrev pub whole_of_lines : Script → ℕ → Settings → List ℕ → List (Option Stamped) → List ℕ
 whole_of_lines script limit settings log meanings =
-    told script.word (trace settings meanings) ++ script.last (trace settings meanings) (summary_of limit settings log meanings)
+    told script.of_frame (trace settings meanings) ++ script.at_the_end (trace settings meanings) (summary_of limit settings log meanings)
 
 -- what is told of a refusal for this reason, after lines that mean this; the counts are those of a log without a last
 -- line feed

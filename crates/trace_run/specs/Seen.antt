@@ -1,18 +1,20 @@
 -- What a machine is handed of a frame: what it did after the frames before it, and what becomes of its message.
-use Rattle.std.specs.Prelude.{◌≡◌, ℕ, ◌^◌, ◌<◌, List, [], ◌∷◌, ◌++◌, length}
+use Rattle.std.specs.Prelude.{◌≡◌, ℕ, ◌^◌, ◌<◌, List, [], ◌∷◌, ◌++◌, length, Option, Some, None}
+use Rattle.direction.specs.Dir.{Message}
 use Rattle.direction.specs.declared.Dir.{Dir}
 use Rattle.isotp_receive.specs.declared.TheConstants.{MESSAGE_LIMIT}
 use Rattle.isotp_receive.specs.declared.event.Event.{Event}
 use Rattle.isotp_receive.specs.EventSeen.{seen_event}
 use Rattle.isotp_receive.specs.Trace.{Entry}
 use Rattle.isotp_receive.specs.Verdict.{message, messages, told_message, verdict}
-use Rattle.uds_exchange.specs.Judging.{IsJudgmentOf, number_after, sent, step_after}
+use Rattle.uds_exchange.specs.Judging.{IsJudgedAfter, number_after, sent, step_after}
 use Rattle.uds_exchange.specs.declared.judge.Judged.{Judged}
 use Rattle.trace_run.specs.Script.{GlimpseValue}
 use Rattle.trace_run.specs.declared.machine.Glimpse.{Glimpse}
 use Rattle.trace_run.specs.declared.machine.Seen.{Seen}
 
--- This is what the frame e, of this line, time and direction, did after the frames T, of which there are fewer than 2 ^ 62.
+-- This is what the frame e, of this line, time and direction, did after the frames T, of which there are fewer than
+-- 2 ^ 62.
 pub record IsEventOf (T : List Entry) (e : Entry) (at_line at_micros : ℕ) (sender : Dir) (event : Event) : Type 0 where
   pub few : length T < 2 ^ 62
   pub line : e.line ≡ at_line
@@ -20,7 +22,13 @@ pub record IsEventOf (T : List Entry) (e : Entry) (at_line at_micros : ℕ) (sen
   pub dir : e.dir ≡ sender
   pub did : seen_event event ≡ verdict MESSAGE_LIMIT T e
 
--- This is seen of the frame e after the frames T: what it did, and the message that it completed, if it completed one, as it is judged behind those before.
+-- This was judged of what came behind the messages M: of the one message that did, or none where no message came.
+abbrev pub IsJudgmentOf : List Message → List Message → Option Judged → Type 0
+IsJudgmentOf M came None = came ≡ []
+IsJudgmentOf M came (Some judged) = (came ≡ sent judged ∷ []) × IsJudgedAfter M judged × (judged.item_number ≡ number_after M (sent judged))
+
+-- This is seen of the frame e after the frames T: what it did, and the message that it completed, if it completed one,
+-- as it is judged behind those before.
 pub record IsSeen (T : List Entry) (e : Entry) (seen : Seen) : Type 0 where
   pub event : IsEventOf T e seen.line seen.micros seen.dir seen.event
   pub message : IsJudgmentOf (messages MESSAGE_LIMIT T) (told_message seen.dir (seen_event seen.event).verdict) seen.message

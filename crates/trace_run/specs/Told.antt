@@ -1,7 +1,7 @@
 -- What a run over any command (`Script.antt`) answers and writes. The last two records are what its callers know of it:
--- `Ran`, and `RanLenient` of a command that is not strict. Above them stand the parts that they are made of. What they are
--- of comes in one order: limit, settings, log, how many bytes of it were given, fault or answer, and what was written
--- before and after.
+-- `Ran`, and `RanLenient` of a command that is not strict. Above them stand the parts that they are made of. What they
+-- are of comes in one order: limit, settings, log, how many bytes of it were given, fault or answer, and what was
+-- written before and after.
 use Rattle.std.specs.Prelude.{◌≡◌, ◌≢◌, ℕ, ◌-◌, ◌≤◌, List, ◌++◌, Option, Result, Ok, Err, IfErr, length, true, ◌⊎◌, ◌<◌, Bool, false, ⊤}
 use Rattle.can_log.specs.declared.frame.Stamped.{Stamped}
 use Rattle.isotp_receive.specs.Trace.{Entry}

@@ -3,8 +3,8 @@ ghost use Rattle.std.specs.Prelude.{◌≡◌, ℕ, List, [], Err, Option, false
 ghost use Rattle.can_log.specs.declared.frame.Stamped.{Stamped as StampedValue};
 ghost use Rattle.isotp_receive.specs.Trace.{Entry};
 ghost use Rattle.trace_io.specs.Counted.{IsLowCount};
-ghost use Rattle.trace_run.specs.proving.Carrying.{CarriesPage};
-ghost use Rattle.trace_run.specs.proving.Ending.{Begins, SettlesPageAs, EndsTelling, GivesUp, RefusesTelling};
+ghost use Rattle.trace_run.specs.proving.Carrying.{Carries};
+ghost use Rattle.trace_run.specs.proving.Ending.{Begins, SettlesAs, EndsTelling, GivesUp, RefusesTelling};
 ghost use Rattle.trace_run.specs.proving.Telling.{HasTold};
 ghost use Rattle.trace_log.specs.proving.Receiving.{Receives};
 ghost use Rattle.trace_log.specs.Settings.{Settings};
@@ -52,7 +52,7 @@ pub fn run<M: Machine + Drop, R: Source, W: Target>(
     }
 }
 
-/// [`run`], of a machine that no announced length stops, and that has an answer at the end of each log: so much more is known.
+/// [`run`], of a machine that no announced length stops, and that has an answer at the end of each log: so more is known.
 pub fn run_lenient<M: Machine + Drop, R: Source, W: Target>(
     alloc: Global,
     config: &Config,
@@ -73,8 +73,9 @@ pub fn run_lenient<M: Machine + Drop, R: Source, W: Target>(
     run(alloc, config, machine, source, target)
 }
 
-/// Ends a run on a fault, and answers the fault to report, this one or that of writing: the machine is told of a line or a limit that refuses the log,
-/// and what was said is written. A fault of a device stands as it is, and nothing is written.
+/// Ends a run on a fault, and answers the fault to report, this one or that of writing: the machine is told of a line or
+/// a limit that refuses the log, and what was said is written. A fault of a device stands as it is, and nothing is
+/// written.
 fn give_up<M: Machine + Drop, W: Target>(
     fault: Fault,
     glimpse: Glimpse<'_>,
@@ -100,14 +101,15 @@ fn end_untold<M: Machine + Drop, W: Target>(
     receiver: Receiver<M, W>,
     target: &mut W,
 ) -> Fault
-    ensures { SettlesPageAs fault W.Target receiver.telling.page target.old result target.new }
+    ensures { SettlesAs fault W.Target receiver.telling.page target.old result target.new }
 {
     let Receiver { telling, .. } = receiver;
     let Telling { mut page, .. } = telling;
     settle_before(fault, target, &mut page)
 }
 
-/// Writes what is said of a refusal, after the lines that were received, and answers why it is refused, or the fault of writing.
+/// Writes what is said of a refusal, behind what was said of the lines before, and answers why the log is refused, or the
+/// fault of writing.
 fn refuse<M: Machine, W: Target>(
     why: Fault,
     glimpse: Glimpse<'_>,
@@ -131,7 +133,7 @@ fn refuse<M: Machine, W: Target>(
 
 /// Writes what was said before a fault, and answers that fault, or that of writing where this failed.
 fn settle_before<W: Target>(fault: Fault, target: &mut W, page: &mut Page) -> Fault
-    ensures { SettlesPageAs fault W.Target page.old target.old result target.new }
+    ensures { SettlesAs fault W.Target page.old target.old result target.new }
 {
     if page.settle(target) {
         fault
@@ -158,7 +160,7 @@ fn finish<M: Machine, W: Target>(
         (settings : Settings) (meanings : List (Option StampedValue))
         → Receives settings meanings receiver.pair receiver.lines receiver.counts
         → M.stands machine_start (trace settings meanings) receiver.telling.machine
-        → CarriesPage W.Target mid said receiver.telling.page target.old → Begins (W.taken mid) (W.taken target.new) }
+        → Carries W.Target mid said receiver.telling.page target.old → Begins (W.taken mid) (W.taken target.new) }
 {
     let summary = receiver.summary(ends_in_line_feed);
     let Receiver { pair, telling, .. } = receiver;

@@ -119,8 +119,8 @@ impl HeldText {
     }
 }
 
-/// Fills a page, which has no room for the text, with the front of it, writes that, and begins the next one with what is
-/// left. A text that no page has room for is written at once, behind what the page holds.
+/// Fills a page, which has no room for the text, with the front of it, writes that, and begins the next one with what
+/// is left. A text that no page has room for is written at once, behind what the page holds.
 pub(crate) fn gather<W: Target>(
     target: &mut W,
     held: &mut HeldText,
@@ -169,9 +169,9 @@ fn copy(from: &[u8], to: &mut [u8])
     }
 }
 
-/// Lays a text over the bytes from `at` on. This is for a text whose length is mostly known when it is compiled, so that no
-/// test of it is left; for one whose length varies there is `copy`. Sixteen bytes are laid by one store, whatever memory
-/// they are in.
+/// Lays a text over the bytes from `at` on. This is for a text whose length is mostly known when it is compiled, so that
+/// no test of it is left; for one whose length varies there is `copy`. Sixteen bytes are laid by one store, whatever
+/// memory they are in.
 #[inline(always)]
 fn lay(bytes: &mut [u8], at: usize, text: &[u8])
     requires { at + length text.now ≤ length bytes.old }

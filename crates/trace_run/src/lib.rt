@@ -11,7 +11,8 @@
 //! - `Receiver::receive`: what it did to the receptions;
 //! - `hand_on`: the same, by ways of their own for what most frames do;
 //! - `count_and_tell`: it is counted;
-//! - `Telling::take`: the message that it completed is judged; a run may stop for a length that a dropped frame announced;
+//! - `Telling::take`: the message that it completed is judged; a strict run stops for a length that a dropped frame
+//!   announced;
 //! - `tell`: the [`Machine`] is handed all of it as one [`Seen`], beside the page as its sink;
 //! - `Machine::event`: the command says text;
 //! - `Page::put`: the text goes onto a page, which is written where it is full and before more is read.

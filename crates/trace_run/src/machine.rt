@@ -17,21 +17,62 @@ use trace_io::{Source, TextSink};
 use trace_log::{Fault, Summary};
 use uds_exchange::Judged;
 
-/// Why a machine has no answer at the end of a log.
-#[derive(Clone, Copy, Debug)]
-pub enum NoAnswer {
-    /// What it would tell is longer than the limit.
-    OutputLimit,
-}
+/// A command's machine. It is handed what each frame did ([`Seen`]), in order, and the end or why the log is refused,
+/// and says its text. It sees no source and no target.
+pub trait Machine {
+    /// What it answers at the end.
+    type Answer: Drop;
 
-impl From<NoAnswer> for Fault {
-    ghost from_gives = { λ _ fault. fault ≡ OutputLimit };
+    /// What it is after a trace, by what it was at the start.
+    ghost stands: { Self → List Entry → Self → Type 0 };
 
-    fn from(reason: NoAnswer) -> Fault {
-        match reason {
-            NoAnswer::OutputLimit => Fault::OutputLimit,
-        }
-    }
+    /// What it says, by what it was at the start.
+    ghost script: { Self → Script };
+
+    /// What it says where the log is refused, by what it was at the start, and by what is then seen of the source.
+    ghost refusal: { Self → GlimpseValue → RefusalText } = { λ _ _. tells_no_refusal };
+
+    /// What it may answer at the end of a trace with these counts, by what it was at the start.
+    ghost answers: { Self → List Entry → SummaryValue → Result Self.Answer NoAnswerValue → Type 0 };
+
+    /// For which frame it may be refused memory, after a trace.
+    ghost needs: { Self → List Entry → Entry → Type 0 };
+
+    /// Whether a first frame that announces a message above the limit refuses the log, and is not handed to it.
+    fn is_strict(&self) -> bool
+        ensures { (machine_start : Self) (T : List Entry) → stands machine_start T self.now
+            → result ≡ (script machine_start).strict };
+
+    /// Takes what the next frame of the trace did. Where memory is refused, nothing is said.
+    fn event<S: TextSink>(&mut self, seen: Seen<'_>, out: &mut S) -> Result<(), AllocError>
+        ensures ok { OnOk result ((machine_start : Self) (T : List Entry) (e : Entry) → IsSeen T e seen.entry
+            → stands machine_start T self.old
+            → stands machine_start (T ++ e ∷ []) self.new × S.says out.old ((script machine_start).of_frame T e) out.new) }
+        ensures err { OnErr result ((machine_start : Self) (T : List Entry) → stands machine_start T self.old
+            → S.says out.old [] out.new) }
+        ensures needs { OnErr result ((machine_start : Self) (T : List Entry) (e : Entry) → IsSeen T e seen.entry
+            → stands machine_start T self.old → needs machine_start T e) };
+
+    /// Takes the end of the log: the receptions that stand, in no more memory than they may keep, and the counts.
+    fn end<S: TextSink>(
+        self,
+        pair: &Pair,
+        summary: &Summary,
+        out: &mut S,
+    ) -> Result<Self::Answer, NoAnswer>
+        ensures says { (machine_start : Self) (T : List Entry) → stands machine_start T self
+            → pair.now.receptions ≡ receptions_after MESSAGE_LIMIT T → KeepsWithin MESSAGE_LIMIT T pair.now
+            → S.says out.old ((script machine_start).at_the_end T summary.now) out.new }
+        ensures answered { (machine_start : Self) (T : List Entry) → stands machine_start T self
+            → pair.now.receptions ≡ receptions_after MESSAGE_LIMIT T
+            → answers machine_start T summary.now result };
+
+    /// Takes why the log is refused, where a line or the limit of the log refuses it, the counts of the lines before,
+    /// and what is seen of the source. No event and no end follows. The counts are those of a log that ends in no line
+    /// feed.
+    fn refused<S: TextSink>(self, summary: &Summary, why: Fault, glimpse: Glimpse<'_>, out: &mut S)
+        ensures says { (machine_start : Self) (T : List Entry) → stands machine_start T self
+            → S.says out.old (refusal machine_start (glimpse_value glimpse.entry) T summary.now why) out.new };
 }
 
 /// What is seen of a frame: what it did, and the message that it completed.
@@ -74,59 +115,19 @@ impl<'a> Glimpse<'a> {
     }
 }
 
-/// A command's machine. It is handed what each frame did ([`Seen`]), in order, and the end or why the log is refused, and
-/// says its text. It sees no source and no target.
-pub trait Machine {
-    /// What it answers at the end.
-    type Answer: Drop;
+/// Why a machine has no answer at the end of a log.
+#[derive(Clone, Copy, Debug)]
+pub enum NoAnswer {
+    /// What it would tell is longer than the limit.
+    OutputLimit,
+}
 
-    /// What it is after a trace, by what it was at the start.
-    ghost stands: { Self → List Entry → Self → Type 0 };
+impl From<NoAnswer> for Fault {
+    ghost from_gives = { λ _ fault. fault ≡ OutputLimit };
 
-    /// What it says, by what it was at the start.
-    ghost script: { Self → Script };
-
-    /// What it says where the log is refused, by what it was at the start, and by what is then seen of the source.
-    ghost refusal: { Self → GlimpseValue → RefusalText } = { λ _ _. tells_no_refusal };
-
-    /// What it may answer at the end of a trace with these counts, by what it was at the start.
-    ghost answers: { Self → List Entry → SummaryValue → Result Self.Answer NoAnswerValue → Type 0 };
-
-    /// For which frame it may be refused memory, after a trace.
-    ghost needs: { Self → List Entry → Entry → Type 0 };
-
-    /// Whether a first frame that announces a message above the limit refuses the log, and is not handed to it.
-    fn is_strict(&self) -> bool
-        ensures { (machine_start : Self) (T : List Entry) → stands machine_start T self.now
-            → result ≡ (script machine_start).strict };
-
-    /// Takes what the next frame of the trace did. Where memory is refused, nothing is said.
-    fn event<S: TextSink>(&mut self, seen: Seen<'_>, out: &mut S) -> Result<(), AllocError>
-        ensures ok { OnOk result ((machine_start : Self) (T : List Entry) (e : Entry) → IsSeen T e seen.entry
-            → stands machine_start T self.old
-            → stands machine_start (T ++ e ∷ []) self.new × S.says out.old ((script machine_start).word T e) out.new) }
-        ensures err { OnErr result ((machine_start : Self) (T : List Entry) → stands machine_start T self.old
-            → S.says out.old [] out.new) }
-        ensures needs { OnErr result ((machine_start : Self) (T : List Entry) (e : Entry) → IsSeen T e seen.entry
-            → stands machine_start T self.old → needs machine_start T e) };
-
-    /// Takes the end of the log: the receptions that stand, in no more memory than they may keep, and the counts.
-    fn end<S: TextSink>(
-        self,
-        pair: &Pair,
-        summary: &Summary,
-        out: &mut S,
-    ) -> Result<Self::Answer, NoAnswer>
-        ensures says { (machine_start : Self) (T : List Entry) → stands machine_start T self
-            → pair.now.receptions ≡ receptions_after MESSAGE_LIMIT T → KeepsWithin MESSAGE_LIMIT T pair.now
-            → S.says out.old ((script machine_start).last T summary.now) out.new }
-        ensures answered { (machine_start : Self) (T : List Entry) → stands machine_start T self
-            → pair.now.receptions ≡ receptions_after MESSAGE_LIMIT T
-            → answers machine_start T summary.now result };
-
-    /// Takes why the log is refused, where a line or the limit of the log refuses it, the counts of the lines before, and
-    /// what is seen of the source. No event and no end follows. The counts are those of a log that ends in no line feed.
-    fn refused<S: TextSink>(self, summary: &Summary, why: Fault, glimpse: Glimpse<'_>, out: &mut S)
-        ensures says { (machine_start : Self) (T : List Entry) → stands machine_start T self
-            → S.says out.old (refusal machine_start (glimpse_value glimpse.entry) T summary.now why) out.new };
+    fn from(reason: NoAnswer) -> Fault {
+        match reason {
+            NoAnswer::OutputLimit => Fault::OutputLimit,
+        }
+    }
 }

@@ -11,8 +11,8 @@ pub(crate) struct Page {
 }
 
 impl Page {
-    ghost use Rattle.std.specs.Prelude.{◌≡◌, ◌<◌, [], ◌++◌, length, true, false};
-    ghost use Rattle.trace_run.specs.proving.Carrying.{SaysToPage, SettlesPage, SaysNoMoreToPage};
+    ghost use Rattle.std.specs.Prelude.{◌≡◌, ◌<◌, ◌≤◌, ◌^◌, ℕ, List, [], ◌++◌, length, true, false};
+    ghost use Rattle.trace_run.specs.proving.Carrying.{Carries, Says, Settles, SaysNoMore};
 
     /// A page with nothing on it.
     pub(crate) fn new() -> Page
@@ -25,11 +25,11 @@ impl Page {
         }
     }
 
-    /// Puts a text on the page. Most texts find room there: so much is inlined where a text is said, and what else there is
-    /// to do stands apart.
+    /// Puts a text on the page. Most texts find room there: so much is inlined where a text is said, and what else there
+    /// is to do stands apart.
     #[inline(always)]
     fn put<W: Target>(&mut self, target: &mut W, text: &[u8])
-        ensures { SaysToPage W.Target self.old target.old text.now self.new target.new }
+        ensures { Says W.Target self.old target.old text.now self.new target.new }
     {
         if !self.held.try_append(text) {
             self.put_where_full(target, text);
@@ -41,10 +41,9 @@ impl Page {
     #[inline(never)]
     fn put_where_full<W: Target>(&mut self, target: &mut W, text: &[u8])
         requires { 0 < length text.now }
-        ensures { SaysToPage W.Target self.old target.old text.now self.new target.new }
+        ensures { Says W.Target self.old target.old text.now self.new target.new }
     {
-        // No run comes here with more failures: each begins at no more, and ends with its first.
-        if self.failed || target.failures() > MOST_FAILURES {
+        if !self.may_write(target) {
             return;
         }
         if let Err(_fault) = gather(target, &mut self.held, text) {
@@ -55,7 +54,7 @@ impl Page {
     /// Puts a text on the page that no write is to end within.
     #[inline(always)]
     fn put_whole<W: Target>(&mut self, target: &mut W, text: &[u8])
-        ensures { SaysToPage W.Target self.old target.old text.now self.new target.new }
+        ensures { Says W.Target self.old target.old text.now self.new target.new }
     {
         if !self.held.try_append(text) {
             self.put_whole_where_full(target, text);
@@ -65,26 +64,26 @@ impl Page {
     /// Puts such a text on a page that has no room for it: what is on the page is written first.
     #[inline(never)]
     fn put_whole_where_full<W: Target>(&mut self, target: &mut W, text: &[u8])
-        ensures { SaysToPage W.Target self.old target.old text.now self.new target.new }
+        ensures { Says W.Target self.old target.old text.now self.new target.new }
     {
         // Where this fails, the page knows that, and writes no text.
         let _ = self.settle(target);
         self.put(target, text);
     }
 
-    /// Puts three texts on the page, one after another. Each is laid where it is to lie: put together first, they would be
-    /// stored in pieces and loaded at once, by a covering load.
+    /// Puts three texts on the page, one after another. Each is laid where it is to lie: put together first, they would
+    /// be stored in pieces and then read by one load over several of these stores, which has to wait for them.
     #[inline(always)]
     fn put_three<W: Target>(&mut self, target: &mut W, first: &[u8], second: &[u8], third: &[u8])
-        ensures { SaysToPage W.Target self.old target.old (first.now ++ second.now ++ third.now) self.new target.new }
+        ensures { Says W.Target self.old target.old (first.now ++ second.now ++ third.now) self.new target.new }
     {
         if !self.held.try_append_three(first, second, third) {
             self.put_three_where_full(target, first, second, third);
         }
     }
 
-    /// Puts three texts on a page that has no room for them all: what is on the page is written first, so that the writes
-    /// end where they would if the three were one text. Texts that no page has room for are put one by one.
+    /// Puts three texts on a page that has no room for them all: what is on the page is written first, so that the
+    /// writes end where they would if the three were one text. Texts that no page has room for are put one by one.
     #[inline(never)]
     fn put_three_where_full<W: Target>(
         &mut self,
@@ -93,7 +92,7 @@ impl Page {
         second: &[u8],
         third: &[u8],
     )
-        ensures { SaysToPage W.Target self.old target.old (first.now ++ second.now ++ third.now) self.new target.new }
+        ensures { Says W.Target self.old target.old (first.now ++ second.now ++ third.now) self.new target.new }
     {
         // Where this fails, the page knows that, and writes no text.
         let _ = self.settle(target);
@@ -107,12 +106,12 @@ impl Page {
 
     /// Writes what is on the page. Answers whether all that was said is written.
     pub(crate) fn settle<W: Target>(&mut self, target: &mut W) -> bool
-        ensures settled { SettlesPage W.Target self.old target.old result target.new }
+        ensures settled { Settles W.Target self.old target.old result target.new }
         ensures well { result ≡ true → self.new.failed ≡ false }
         ensures blank { result ≡ true → self.new.held ≡ [] }
-        ensures no_more { SaysNoMoreToPage W.Target self.old target.old self.new target.new }
+        ensures no_more { SaysNoMore W.Target self.old target.old self.new target.new }
     {
-        if self.failed || target.failures() > MOST_FAILURES {
+        if !self.may_write(target) {
             return false;
         }
         if self.held.is_empty() {
@@ -124,6 +123,18 @@ impl Page {
         }
         self.held.clear();
         true
+    }
+
+    /// Whether text may be written: no write has failed. The target has counted few failures then: no run comes here with
+    /// more of them, since each begins at no more and ends with its first.
+    #[inline(always)]
+    fn may_write<W: Target>(&self, target: &W) -> bool
+        ensures well { result ≡ true → self.now.failed ≡ false }
+        ensures low { result ≡ true → W.failures target.now ≤ 2 ^ 62 }
+        ensures wrong { result ≡ false → (start : W) (said : List ℕ)
+            → Carries W.Target start said self.now target.now → self.now.failed ≡ true }
+    {
+        !self.failed && target.failures() <= MOST_FAILURES
     }
 }
 
@@ -137,19 +148,18 @@ pub(crate) struct PageSink<'a, W> {
 impl<'a, W: Target> TextSink for PageSink<'a, W> {
     ghost use Rattle.std.specs.Prelude.{◌≡◌};
     ghost use Rattle.std.proofs.Common.{refl, ◌∙◌};
-    ghost use Rattle.trace_run.specs.proving.Carrying.{SaysToPage};
+    ghost use Rattle.trace_run.specs.proving.Carrying.{Says};
     ghost use Rattle.trace_run.specs.proving.PageSinks.{says_nothing, says_onward};
 
     ghost says = { λ s text t. (t.target.ghost_name ≡ s.target.ghost_name) × (t.page.ghost_name ≡ s.page.ghost_name)
-        × SaysToPage W.Target s.page.now s.target.now text t.page.now t.target.now };
+        × Says W.Target s.page.now s.target.now text t.page.now t.target.now };
 
-    ghost nothing = { λ s. (refl, refl, says_nothing W.Target s.page.now.failed s.page.now.held s.target.now) };
+    ghost nothing = { λ s. (refl, refl, says_nothing W.Target s.page.now s.target.now) };
 
     ghost onward = { λ s m t a b one two. (
       two.0 ∙ one.0,
       two.1 ∙ one.1,
-      says_onward W.Target s.page.now.failed m.page.now.failed t.page.now.failed s.page.now.held m.page.now.held
-          t.page.now.held s.target.now m.target.now t.target.now a b one.2 two.2,
+      says_onward W.Target s.page.now m.page.now t.page.now s.target.now m.target.now t.target.now a b one.2 two.2,
     ) };
 
     #[inline(always)]

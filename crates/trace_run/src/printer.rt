@@ -1,6 +1,6 @@
 //! A text that is known as a whole, written by way of a page of its own.
 ghost use Rattle.trace_run.specs.Printed.{Prints};
-ghost use Rattle.trace_run.specs.proving.Carrying.{SaysToPage};
+ghost use Rattle.trace_run.specs.proving.Carrying.{Says};
 ghost use Rattle.trace_io.specs.Counted.{IsLowCount};
 
 use crate::page::{Page, PageSink};
@@ -14,7 +14,7 @@ pub fn print<P: Part, W: Target>(part: P, target: &mut W) -> Result<(), Fault>
     ensures { Prints W.Target (P.text part) target.old result target.new }
 {
     let mut page = Page::new();
-    put(part, target, &mut page);
+    say_part(part, target, &mut page);
     if page.settle(target) {
         Ok(())
     } else {
@@ -23,8 +23,8 @@ pub fn print<P: Part, W: Target>(part: P, target: &mut W) -> Result<(), Fault>
 }
 
 /// Says the text of a part to a page.
-fn put<P: Part, W: Target>(part: P, target: &mut W, page: &mut Page)
-    ensures { SaysToPage W.Target page.old target.old (P.text part) page.new target.new }
+fn say_part<P: Part, W: Target>(part: P, target: &mut W, page: &mut Page)
+    ensures { Says W.Target page.old target.old (P.text part) page.new target.new }
 {
     let mut out = PageSink { target, page };
     part.say(&mut out);

@@ -46,20 +46,20 @@ impl<M, W> Receiver<M, W> {
 }
 
 impl<M: Machine, W: Target> LineTaker for Receiver<M, W> {
-    ghost use Rattle.std.specs.Prelude.{◌≡◌, Some};
+    ghost use Rattle.std.specs.Prelude.{◌≡◌, ◌≤◌, ◌^◌, Some, true, false};
     ghost use Rattle.direction.specs.declared.Dir.{Dir as DirValue};
     ghost use Rattle.can_log.specs.declared.frame.Stamped.{Stamped as StampedValue};
     ghost use Rattle.trace_log.specs.Settings.{direction_of};
     ghost use Rattle.trace_log.specs.Trace.{trace};
-    ghost use Rattle.std.specs.Prelude.{◌≤◌, ◌^◌, true, false};
     ghost use Rattle.trace_run.specs.proving.Telling.{HasReceived, HasStopped, HasTold, HasToldNothing, HasToldAndWritten, HasWrittenAtLeast};
     ghost use Rattle.trace_log.specs.proving.Receiving.{entry_in, IsStart};
 
     type Device = W;
 
-    // `s` and `t` are the receiver with its target, before lines were taken and after: `.0` is the receiver, `.1` the target.
-    // `meanings` are those of the lines between, `what` that of the line on which it stopped, and `first` those of the first
-    // lines, whose text is written. In `wants`, `s` is the receiver alone, and `first` and `second` are identifiers.
+    // `s` and `t` are the receiver with its target, before lines were taken and after: `.0` is the receiver, `.1` the
+    // target. `meanings` are those of the lines between, `what` that of the line on which it stopped, and `earlier` those
+    // of the first lines, whose text is written. In `wants`, `s` is the receiver alone, and `first` and `second` are
+    // identifiers.
     ghost took = { λ s meanings t. HasReceived M.stands W.Target s.0 s.1 meanings t.0
         (HasTold M.stands M.script W.Target s.1 s.0.telling.machine (trace s.0.config meanings) t.0.telling t.1) };
 
@@ -74,8 +74,8 @@ impl<M: Machine, W: Target> LineTaker for Receiver<M, W> {
         × (HasToldNothing M.stands s.0.telling → W.failures s.1 ≤ 2 ^ 62
         → HasStopped M.script M.needs W.Target s.1 s.0.telling.machine (trace s.0.config meanings) (entry_in meanings stamped d) fault t.0.telling t.1) };
 
-    ghost sure = { λ s first t. IsStart s.0.pair s.0.lines s.0.counts → HasToldNothing M.stands s.0.telling → W.failures s.1 ≤ 2 ^ 62
-        → HasWrittenAtLeast M.script W.Target s.1 s.0.telling.machine (trace s.0.config first) t.0.telling t.1 };
+    ghost sure = { λ s earlier t. IsStart s.0.pair s.0.lines s.0.counts → HasToldNothing M.stands s.0.telling → W.failures s.1 ≤ 2 ^ 62
+        → HasWrittenAtLeast M.script W.Target s.1 s.0.telling.machine (trace s.0.config earlier) t.0.telling t.1 };
 
     ghost wants = { λ s first second. (first ≡ s.config.tester) × (second ≡ s.config.unit) };
 
@@ -118,8 +118,8 @@ impl<M: Machine, W: Target> Receiver<M, W> {
     ghost use Rattle.trace_log.specs.proving.Receiving.{entry_at};
     ghost use Rattle.trace_run.specs.proving.Telling.{TellsFrame};
 
-    /// Takes one more frame of a direction. A pair asks for memory only where the frame's bytes are kept for a message of
-    /// several frames.
+    /// Takes one more frame of a direction. A pair asks for memory only where the frame's bytes are kept for a message
+    /// of several frames.
     fn receive(
         &mut self,
         target: &mut W,
@@ -137,6 +137,7 @@ impl<M: Machine, W: Target> Receiver<M, W> {
         ensures told { (T : List Entry) → self.old.pair.receptions ≡ receptions_after MESSAGE_LIMIT T → length T < 2 ^ 62
             → TellsFrame M.stands M.script M.needs W.Target T (entry_at line stamped.now dir) self.old.telling target.old result self.new.telling target.new }
     {
+        // A `match`, here and in `Telling::take`: with `?` the two once cost 25 instructions a line.
         match self.pair.accept(line, stamped.micros, dir, &stamped.frame) {
             Ok(event) => {
                 let frame = FrameEvent {
@@ -152,8 +153,9 @@ impl<M: Machine, W: Target> Receiver<M, W> {
     }
 }
 
-/// Has what a frame did counted and told. Most frames complete a message or are stored for one. They go ways of their own:
-/// there the verdict is known when it is compiled, so that no reason is stored in pieces, for a covering load.
+/// Has what a frame did counted and told. Most frames complete a message or are stored for one. They go ways of their
+/// own: there the verdict is known when it is compiled, so that no reason for dropping a frame is stored in pieces and
+/// then read by one load over several of these stores, which has to wait for them.
 #[inline(always)]
 fn hand_on<M: Machine, W: Target>(
     counts: &mut Summary,

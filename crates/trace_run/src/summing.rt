@@ -21,7 +21,7 @@ impl<M, W> Receiver<M, W> {
     ghost use Rattle.trace_log.specs.proving.Receiving.{Receives};
     ghost use Rattle.uds_exchange.specs.Judging.{IsJudgeOf};
 
-    /// The summary of a log that was received to its end, and ended in a line feed or not.
+    /// The summary of a log of which these are all lines, and which ended in a line feed or not.
     pub(crate) fn summary(&self, ends_in_line_feed: bool) -> Summary
         ensures { (settings : Settings) (log : List ℕ) (meanings : List (Option Stamped))
             → Receives settings meanings self.now.pair self.now.lines self.now.counts

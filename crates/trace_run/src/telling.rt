@@ -1,4 +1,4 @@
-//! A machine beside the judge of the messages and the page that its text is written from: it is told what each frame did.
+//! A machine beside the judge of the messages and the page for its text: it is told what each frame did.
 ghost use Rattle.std.specs.Prelude.{◌≡◌, ◌^◌, ◌<◌, List, [], ◌∷◌, ◌++◌, length, OnOk, OnErr};
 ghost use Rattle.direction.specs.Dir.{Message};
 ghost use Rattle.isotp_receive.specs.declared.TheConstants.{MESSAGE_LIMIT};
@@ -8,9 +8,9 @@ ghost use Rattle.isotp_receive.specs.Events.{announced_by};
 ghost use Rattle.isotp_receive.specs.StandingReception.{receptions_after};
 ghost use Rattle.isotp_receive.specs.Trace.{Entry};
 ghost use Rattle.isotp_receive.specs.Verdict.{told_message};
-ghost use Rattle.uds_exchange.specs.Judging.{HasCounted, IsJudgeOf, IsJudgmentOf};
-ghost use Rattle.trace_run.specs.Seen.{IsSeen, glimpse_value};
-ghost use Rattle.trace_run.specs.proving.Carrying.{SaysToPage};
+ghost use Rattle.uds_exchange.specs.Judging.{HasCounted, IsJudgeOf};
+ghost use Rattle.trace_run.specs.Seen.{IsJudgmentOf, IsSeen, glimpse_value};
+ghost use Rattle.trace_run.specs.proving.Carrying.{Says};
 ghost use Rattle.trace_run.specs.proving.Telling.{oversize_for};
 
 use crate::machine::{Glimpse, Machine, NoAnswer, Seen};
@@ -23,7 +23,8 @@ use trace_io::Target;
 use trace_log::{Fault, Summary};
 use uds_exchange::{Judge, Judged};
 
-/// What a frame did, with its line, its time in microseconds and its direction: a [`Seen`] before its message is judged.
+/// What a frame did, with its line, its time in microseconds and its direction: a [`Seen`] whose message is not judged
+/// yet.
 #[derive(Clone, Copy)]
 pub(crate) struct FrameEvent<'a> {
     pub line: u64,
@@ -38,7 +39,8 @@ pub(crate) struct Telling<M, W> {
     pub machine: M,
     pub judge: Judge,
     pub page: Page,
-    /// It names the type of the target, which is `LineTaker::Device` of a receiver: each call is handed the target itself.
+    /// It names the type of the target, which is `LineTaker::Device` of a receiver: each call is handed the target
+    /// itself.
     pub target: PhantomData<W>,
 }
 
@@ -148,8 +150,8 @@ fn oversize_for(strict: bool, verdict: Verdict<'_>) -> Option<u32>
     }
 }
 
-/// The length that a dropped frame announced, where it was dropped for that. It asks the reason alone; its definition stands
-/// beside `Reason`, in `isotp_receive`.
+/// The length that a dropped frame announced, where it was dropped for that. It asks the reason alone; its definition
+/// stands beside `Reason`, in `isotp_receive`.
 fn announced_by(reason: Reason) -> Option<u32>
     ensures { result ≡ announced_by reason }
 {
@@ -175,9 +177,9 @@ fn tell<M: Machine, W: Target>(
     ensures ok { OnOk result ((machine_start : M) (T : List Entry) (e : Entry) → IsSeen T e seen.entry
         → M.stands machine_start T machine.old
         → M.stands machine_start (T ++ e ∷ []) machine.new
-        × SaysToPage W.Target page.old target.old ((M.script machine_start).word T e) page.new target.new) }
+        × Says W.Target page.old target.old ((M.script machine_start).of_frame T e) page.new target.new) }
     ensures err { OnErr result ((machine_start : M) (T : List Entry) → M.stands machine_start T machine.old
-        → SaysToPage W.Target page.old target.old [] page.new target.new) }
+        → Says W.Target page.old target.old [] page.new target.new) }
     ensures needs { OnErr result ((machine_start : M) (T : List Entry) (e : Entry) → IsSeen T e seen.entry
         → M.stands machine_start T machine.old → M.needs machine_start T e) }
 {
@@ -195,7 +197,7 @@ pub(crate) fn tell_end<M: Machine, W: Target>(
 ) -> Result<M::Answer, NoAnswer>
     ensures says { (machine_start : M) (T : List Entry) → M.stands machine_start T machine
         → pair.now.receptions ≡ receptions_after MESSAGE_LIMIT T → KeepsWithin MESSAGE_LIMIT T pair.now
-        → SaysToPage W.Target page.old target.old ((M.script machine_start).last T summary.now) page.new target.new }
+        → Says W.Target page.old target.old ((M.script machine_start).at_the_end T summary.now) page.new target.new }
     ensures answered { (machine_start : M) (T : List Entry) → M.stands machine_start T machine
         → pair.now.receptions ≡ receptions_after MESSAGE_LIMIT T
         → M.answers machine_start T summary.now result }
@@ -214,7 +216,7 @@ pub(crate) fn tell_refusal<M: Machine, W: Target>(
     glimpse: Glimpse<'_>,
 )
     ensures says { (machine_start : M) (T : List Entry) → M.stands machine_start T machine
-        → SaysToPage W.Target page.old target.old
+        → Says W.Target page.old target.old
         (M.refusal machine_start (glimpse_value glimpse.entry) T summary.now why) page.new target.new }
 {
     let mut out = PageSink { target, page };

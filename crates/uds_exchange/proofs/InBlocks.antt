@@ -3,7 +3,7 @@ use Rattle.std.proofs.Common.{◌≡◌, ℕ, ◌+◌, ◌<◌, suc, zero, List,
 use Rattle.std.specs.Prelude.{slice_set, Vec}
 use Rattle.std.specs.declared.alloc.Global.{Global}
 use Rattle.std.proofs.lemmas.Bool.{cases_eq}
-use Rattle.std.proofs.lemmas.List.{take-append-le, drop-append-le, take_all, map-set, get_or-map, set-get_or, length-map}
+use Rattle.std.proofs.lemmas.List.{take-append-le, drop-append-le, drop_at, take_all, map-set, get_or-map, set-get_or, length-map}
 use Rattle.uds_exchange.specs.declared.messages.Span.{Span}
 use Rattle.uds_exchange.specs.Blocks.{block_at, bytes_at, IsInside, Holds, GoesOn, Lays}
 use Rattle.uds_exchange.specs.proving.Blocks.{block_bytes, IsSpan}
@@ -30,16 +30,12 @@ at-length : (old : List (List ℕ)) (one : List ℕ) → block_at (old ++ one �
 at-length [] one = refl
 at-length (first ∷ later) one = at-length later one
 
-drop-length : (front back : List ℕ) → drop (length front) (front ++ back) ≡ back
-drop-length [] back = refl
-drop-length (b ∷ front) back = drop-length front back
-
 -- what lies at the end of a block
 holds-behind : (blocks : List (List ℕ)) (span : Span) (front message : List ℕ) → span.block < length blocks → block_at blocks span.block ≡ front ++ message
     → span.start ≡ length front → span.len ≡ length message → Holds blocks span message
 holds-behind blocks span front message below is start len = record {
   inside = record { block = below; end = omega (arith, ap length is, length-append front message, start, len) };
-  bytes = rw (is, start, len) (rw (drop-length front message) (take_all (length message) message (omega arith)));
+  bytes = rw (is, start, len) (rw (drop_at front message (length front) refl) (take_all (length message) message (omega arith)));
 }
 
 -- a message behind what is in the first block

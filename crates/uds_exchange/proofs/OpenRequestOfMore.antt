@@ -9,10 +9,10 @@ use Rattle.uds_exchange.specs.Meaning.{ItemValue, exchange, is_tester_request, i
 use Rattle.uds_exchange.specs.proving.OpenExchange.{open_exchange_in}
 use Rattle.uds_exchange.specs.proving.Pairing.{items_with_other, items_with}
 use Rattle.uds_exchange.specs.Roles.{as_request, those_removed}
-use Rattle.uds_exchange.proofs.MustWait.{open-request-waits}
-use Rattle.uds_exchange.proofs.OneMore.{meaning-append}
-use Rattle.uds_exchange.proofs.RemovedOnes.{removed_messages-append}
-use Rattle.uds_exchange.proofs.RolesFound.{role_by}
+use Rattle.uds_exchange.proofs.OpenRequests.{open-request-waits}
+use Rattle.uds_exchange.proofs.MeaningOfMore.{meaning-append}
+use Rattle.uds_exchange.proofs.RemovedByRole.{removed_messages-append}
+use Rattle.uds_exchange.proofs.OneRole.{role_by}
 use Rattle.uds_exchange.proofs.OpenExchange.{request_of, open_exchange-stray, open_exchange-request, open_exchange-answered}
 
 -- ---- the open request

@@ -1,18 +1,19 @@
 -- The request that is open after a list of messages is that of the exchange which waits in its meaning.
-use Rattle.std.proofs.Common.{◌≡◌, ℕ, true, false, List, [], ◌∷◌, ◌++◌, length, Option, Some, None, refl, sym, ◌∙◌, ap, subst, inl, inr, append_assoc}
+use Rattle.std.proofs.Common.{◌≡◌, ℕ, true, false, List, [], ◌∷◌, ◌++◌, length, Option, Some, None, refl, sym, ◌∙◌, ap, subst, inl, inr, append_assoc, ◌↔◌}
 use Rattle.std.specs.List.{list_any}
 use Rattle.std.proofs.lemmas.List.{append-nil}
 use Rattle.std.proofs.lemmas.Bool.{or_parts, cases_Bool}
 use Rattle.std.proofs.lemmas.Option.{same_Some, none-some}
 use Rattle.direction.specs.Dir.{Message}
 use Rattle.direction.specs.declared.Dir.TheVariants.{Tester}
-use Rattle.uds_exchange.specs.Meaning.{ItemValue, is_tester_request, is_answer_to, is_pending_reply_to, meaning}
+use Rattle.uds_exchange.specs.Meaning.{ItemValue, is_tester_request, is_answer_to, is_pending_reply_to, meaning, exchange, stray}
 use Rattle.uds_exchange.specs.Roles.{IsOpenBehind}
 use Rattle.uds_exchange.specs.proving.OpenExchange.{open_exchange_in}
 use Rattle.uds_exchange.specs.proving.Pairing.{items_with_other, items_with}
-use Rattle.uds_exchange.proofs.Bools.{any-append}
-use Rattle.uds_exchange.proofs.OpenExchange.{open_exchange-stray, open_exchange-request, open_exchange-answered}
-use Rattle.uds_exchange.proofs.OneMore.{meaning-append}
+use Rattle.uds_exchange.specs.Order.{has_exchange, open_request_in, open_request}
+use Rattle.uds_exchange.proofs.ListTests.{any-append}
+use Rattle.uds_exchange.proofs.OpenExchange.{open_exchange-stray, open_exchange-request, open_exchange-answered, request_of, same-request}
+use Rattle.uds_exchange.proofs.MeaningOfMore.{meaning-append}
 use Rattle.uds_exchange.proofs.Replies.{from-tester, request-bytes}
 
 -- the exchange that waits still does after a message that is neither request nor answer
@@ -103,3 +104,23 @@ opens-over past (x ∷ xs) s = rw (← append_assoc past (x ∷ []) xs) (opens-o
 -- the request of an exchange that waits is open
 pub opens : (past : List Message) (w : ℕ × List ℕ) → open_exchange_in (meaning past) ≡ Some w → IsOpenBehind past w.1
 opens past = opens-over [] past (λ w h. absurd (none-some _ h))
+
+-- the open request is that of the exchange which waits
+pub open-request-waits : (its : List ItemValue) → open_request_in its ≡ request_of (open_exchange_in its)
+open-request-waits [] = refl
+open-request-waits (stray d m ∷ its) = open-request-waits its ∙ same-request (open_exchange_in its)
+open-request-waits (exchange q (Some b) ∷ its) = open-request-waits its ∙ same-request (open_exchange_in its)
+open-request-waits (exchange q None ∷ its) =
+    elim (cases_Bool (has_exchange its)) [ inl e ↦ rw e (open-request-waits its ∙ same-request (open_exchange_in its)) | inr e ↦ rw e refl ]
+
+waits-by : (o : Option (ℕ × List ℕ)) (r : List ℕ) → request_of o ≡ Some r → (w : ℕ × List ℕ) × (o ≡ Some w) × (w.1 ≡ r)
+waits-by None r h = cc
+waits-by (Some w) r h = (w, refl, same_Some _ _ h)
+
+pub open-request-behind : (M : List Message) (r : List ℕ) → (open_request M ≡ Some r) ↔ IsOpenBehind M r
+open-request-behind M r = (
+  λ h.
+      let w = waits-by (open_exchange_in (meaning M)) r (sym (open-request-waits (meaning M)) ∙ h) in
+      subst (IsOpenBehind M) w.2 (opens M w.0 w.1),
+  λ o. open-request-waits (meaning M) ∙ ap request_of (waits-open M r o).1,
+)

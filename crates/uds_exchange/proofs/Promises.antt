@@ -1,26 +1,42 @@
--- The proofs of the public laws, each under the name of its statement in specs/, for the crates above to cite. Nothing
+-- What a proof of a crate above cites: the proofs of the public laws, each under the name of its statement in specs/,
+-- and at the end how items go on with one more message, in the words of specs/proving, and how many there are. Nothing
 -- else of proofs/ is for them.
 use Rattle.std.proofs.Common.{[], refl}
 use Rattle.uds_exchange.specs.Meaning.{meaning}
 use Rattle.uds_exchange.specs.Laws.{NoneIsMadeUp, EachHasOneRole, MessagesByRoles, HeldByOpenRequest}
-pub use Rattle.uds_exchange.proofs.Again.{meaning-flattened as meaning_is_kept}
-pub use Rattle.uds_exchange.proofs.Counts.{none-lost as none_is_lost}
-use Rattle.uds_exchange.proofs.MadeUp.{all-over}
-use Rattle.uds_exchange.proofs.RolesFound.{role_behind, has-role, only-role}
-pub use Rattle.uds_exchange.proofs.ByRoles.{each-has-roles as each_list_has_roles}
-use Rattle.uds_exchange.proofs.ByRoles.{by-roles}
-pub use Rattle.uds_exchange.proofs.Early.{early-then-held as early_then_held, early-front as early_stays, early-grows as early_grows}
-pub use Rattle.uds_exchange.proofs.MustWait.{open-request-behind as open_request_is_last, answer-first as held_must_wait, none-lost-in-order as none_is_lost_in_order}
-use Rattle.uds_exchange.proofs.MustWait.{nothing-held}
+use Rattle.uds_exchange.proofs.NoneMadeUp.{all-over}
+use Rattle.uds_exchange.proofs.OneRole.{role_behind, has-role, only-role}
+use Rattle.uds_exchange.proofs.MessagesByRoles.{by-roles}
+use Rattle.uds_exchange.proofs.HeldMustWait.{nothing-held}
+pub use Rattle.uds_exchange.proofs.MeantAgain.{meaning-flattened as meaning_is_kept}
+pub use Rattle.uds_exchange.proofs.NoneLost.{none-lost as none_is_lost}
+pub use Rattle.uds_exchange.proofs.MessagesByRoles.{each-has-roles as each_list_has_roles}
+pub use Rattle.uds_exchange.proofs.RolesOfSteps.{step_tells_the_role}
+pub use Rattle.uds_exchange.proofs.OpenRequests.{open-request-behind as open_request_is_last}
 pub use Rattle.uds_exchange.proofs.OpenRequestOfMore.{open_request_goes_on, removed_go_on}
-pub use Rattle.uds_exchange.proofs.Deciding.{decided_then_undecided, decided_grows, undecided_must_wait}
-pub use Rattle.uds_exchange.proofs.PuttingItems.{decided-puts-go-on as decided_puts_go_on, decided-puts-end as decided_puts_end}
 pub use Rattle.uds_exchange.proofs.PutIn.{one_more_is_put_in}
-pub use Rattle.uds_exchange.proofs.Putting.{puts-append as puts_join}
-pub use Rattle.uds_exchange.proofs.ItemNumbers.{items-few as items_are_few, few-items as items_within_messages, items-next as items_grow, held_are_fewer, step-is as step_by_items, waits-next as open_number_goes_on}
-pub use Rattle.uds_exchange.proofs.OneMore.{meaning-append as meaning_goes_on}
-pub use Rattle.uds_exchange.proofs.NextStep.{puts-go-on as puts_go_on, puts-end as puts_end}
+pub use Rattle.uds_exchange.proofs.EarlyOfMore.{early-then-held as early_then_held, early-front as early_stays, early-grows as early_grows}
+pub use Rattle.uds_exchange.proofs.HeldMustWait.{answer-first as held_must_wait}
+pub use Rattle.uds_exchange.proofs.NoneLost.{none-lost-in-order as none_is_lost_in_order}
+pub use Rattle.uds_exchange.proofs.DecidedOfMore.{decided_then_undecided, decided_grows, undecided_must_wait}
 pub use Rattle.uds_exchange.proofs.InBlocks.{holds-on as message_stays}
+pub use Rattle.uds_exchange.proofs.PuttingMessages.{puts-append as puts_join}
+pub use Rattle.uds_exchange.proofs.OrdererSteps.{puts-go-on as puts_go_on, puts-end as puts_end}
+pub use Rattle.uds_exchange.proofs.PuttingItems.{decided-puts-go-on as decided_puts_go_on, decided-puts-end as decided_puts_end}
+-- the items of a list and one more message are those of the list, with that message (`items_with`)
+pub use Rattle.uds_exchange.proofs.MeaningOfMore.{meaning-append as meaning_goes_on}
+-- how many items there are then, by what becomes of the message
+pub use Rattle.uds_exchange.proofs.ItemCounts.{items-next as items_grow}
+-- which number the open exchange has then, if one is open, by what becomes of the message
+pub use Rattle.uds_exchange.proofs.OpenNumbers.{waits-next as open_number_goes_on}
+-- what becomes of the message is told by the items: by the first byte of their open request
+pub use Rattle.uds_exchange.proofs.HeldOfMore.{step-is as step_by_items}
+-- there are no more items than messages in them
+pub use Rattle.uds_exchange.proofs.ItemCounts.{items-few as items_are_few}
+-- nor more than messages in the list
+pub use Rattle.uds_exchange.proofs.ItemCounts.{few-items as items_within_messages}
+-- where a request is open, fewer messages are held than there are items: its exchange is an item, too
+pub use Rattle.uds_exchange.proofs.ItemCounts.{held_are_fewer}
 
 pub none_is_made_up : NoneIsMadeUp
 none_is_made_up passes M each = all-over passes [] M refl each

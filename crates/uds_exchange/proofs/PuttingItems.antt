@@ -8,7 +8,7 @@ use Rattle.uds_exchange.specs.ItemSink.{AfterItem, PutsItems}
 use Rattle.uds_exchange.specs.Meaning.{ItemValue, stray, stray_of, meaning}
 use Rattle.uds_exchange.specs.MessageSink.{Puts, Fails}
 use Rattle.uds_exchange.specs.declared.decider.StraySink.{StraySink}
-use Rattle.uds_exchange.proofs.Deciding.{decided_then_undecided}
+use Rattle.uds_exchange.proofs.DecidedOfMore.{decided_then_undecided}
 
 module _ {S : Type 0} (takes : AfterItem S) where
   -- one message was put as a stray

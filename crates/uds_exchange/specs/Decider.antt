@@ -22,7 +22,8 @@ AreDecidedBy M message items = decided (M ++ message ∷ []) ≡ decided M ++ it
 
 -- what one more message decides was put
 abbrev pub PutsDecided : {Sink : Type 0} → AfterItem Sink → List Message → Message → Sink → Sink → Type 0
-PutsDecided takes M message before after = (items : List ItemValue) × AreDecidedBy M message items × PutsItems takes before items after
+PutsDecided takes M message before after =
+    (items : List ItemValue) × AreDecidedBy M message items × PutsItems takes before items after
 
 -- one more message is kept: it is a request, or it is held
 abbrev pub IsKept : List Message → Message → Type 0

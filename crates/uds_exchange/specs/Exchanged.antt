@@ -1,6 +1,6 @@
 -- Whether tester and unit look exchanged, by the messages alone: bit 6 of a service identifier tells those of responses
--- from those of requests (ISO 14229-1, service identifier values). Exchanged is swapped here, one side taken for the other, as
--- in the answers of the library; with an exchange, a request and its answer, it has nothing to do.
+-- from those of requests (ISO 14229-1, service identifier values). Exchanged is swapped here, one side taken for the
+-- other, as in the answers of the library; with an exchange, a request and its answer, it has nothing to do.
 use Rattle.std.specs.Prelude.{Bool, not, ◌&&◌, List}
 use Rattle.std.specs.List.{list_any}
 use Rattle.direction.specs.Dir.{Message}

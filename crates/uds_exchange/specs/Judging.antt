@@ -1,5 +1,6 @@
--- What is judged of one more message by those before it alone: what becomes of it, and the number of its item; and what a judge keeps.
-use Rattle.std.specs.Prelude.{◌≡◌, ℕ, ◌+◌, ◌-◌, ◌^◌, List, [], ◌∷◌, length, Option, Some, None, option_map, min}
+-- What is judged of one more message by those before it alone: what becomes of it, and the number of its item; and what
+-- a judge keeps.
+use Rattle.std.specs.Prelude.{◌≡◌, ℕ, ◌+◌, ◌-◌, ◌^◌, List, length, Option, option_map, min}
 use Rattle.direction.specs.Dir.{Message}
 use Rattle.uds_message.specs.Message.{sid}
 use Rattle.uds_exchange.specs.Meaning.{meaning, removed_messages}
@@ -27,8 +28,8 @@ open_number M = length (meaning M) - length (held M)
 abbrev pub open_number_if_any : List Message → Option ℕ
 open_number_if_any M = option_map (λ service. open_number M) (option_map sid (open_request M))
 
--- the number of the item of a message of which this becomes: a request or a stray is the next item, and an answer or a pending
--- reply belongs to the open exchange
+-- the number of the item of a message of which this becomes: a request or a stray is the next item, and an answer or a
+-- pending reply belongs to the open exchange
 abbrev pub number_by : Step → List Message → ℕ
 number_by (step.Request service) M = next_number M
 number_by step.Answer M = open_number M
@@ -44,15 +45,15 @@ number_after M message = number_by (step_after M message) M
 abbrev pub IsOpenSid : List Message → Option ℕ → Type 0
 IsOpenSid M open_sid = open_sid ≡ option_map sid (open_request M)
 
--- A judge has counted these messages: it keeps which request is open, how many items there are, how many strays are held, and
--- how many messages are left out.
+-- A judge has counted these messages: it keeps which request is open, how many items there are, how many strays are
+-- held, and how many messages are left out.
 pub record HasCounted (M : List Message) (judge : Judge) : Type 0 where
   pub is_open : IsOpenSid M judge.open_sid
   pub items : judge.items ≡ length (meaning M)
   pub held_count : judge.held_count ≡ length (held M)
   pub removed : judge.removed ≡ length (removed_messages M)
 
--- A judge is that of these messages: it has counted them, and has gathered what tells whether tester and unit look exchanged.
+-- A judge is that of these messages: it has counted them, and has what tells whether tester and unit look exchanged.
 pub record IsJudgeOf (M : List Message) (judge : Judge) : Type 0 where
   pub counted : HasCounted M judge
   pub sides : judge.sides ≡ sides_of M
@@ -64,11 +65,6 @@ sent judged = (judged.dir, judged.bytes.now)
 -- A message was judged after the messages M: its step is what becomes of it there.
 abbrev pub IsJudgedAfter : List Message → Judged → Type 0
 IsJudgedAfter M judged = judged.step ≡ step_after M (sent judged)
-
--- This was judged of what came behind the messages M: of the one message that did, or none where no message came.
-abbrev pub IsJudgmentOf : List Message → List Message → Option Judged → Type 0
-IsJudgmentOf M came None = came ≡ []
-IsJudgmentOf M came (Some judged) = (came ≡ sent judged ∷ []) × IsJudgedAfter M judged × (judged.item_number ≡ number_after M (sent judged))
 
 -- one more of a count, which stays at the largest number of 64 bits
 abbrev pub one_more : ℕ → ℕ

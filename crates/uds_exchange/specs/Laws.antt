@@ -4,7 +4,7 @@ use Rattle.std.specs.List.{list_all}
 use Rattle.direction.specs.Dir.{Message}
 use Rattle.uds_exchange.specs.Meaning.{is_tester_request, is_answer_to, is_pending_reply_to, ItemValue, exchange, stray_of, meaning, flattened, removed_messages}
 use Rattle.uds_exchange.specs.Decided.{decided, undecided}
-use Rattle.uds_exchange.specs.Roles.{MessageRole, IsOpenBehind, HasRole, AreRoles, arranged, those_removed}
+use Rattle.uds_exchange.specs.Roles.{MessageRole, as_request, as_answer, as_removed, as_stray, IsOpenBehind, HasRole, AreRoles, arranged, those_removed}
 use Rattle.uds_exchange.specs.Judging.{step_after}
 use Rattle.uds_exchange.specs.Order.{open_request, held, early, rejection_of}
 use Rattle.uds_exchange.specs.declared.step.Step.{Step}
@@ -18,7 +18,7 @@ MeaningIsKept = (M : List Message) → meaning (flattened (meaning M)) ≡ meani
 abbrev pub NoneIsLost : Type 0
 NoneIsLost = (M : List Message) → length (flattened (meaning M)) + length (removed_messages M) ≡ length M
 
--- a meaning has no message that the list has not: what holds of each message of a list holds of each message of its meaning
+-- a meaning has no message that the list has not: what holds of all messages of a list holds of all of its meaning
 abbrev pub NoneIsMadeUp : Type 0
 NoneIsMadeUp = (passes : Message → Bool) (M : List Message)
     → list_all passes M ≡ true → list_all passes (flattened (meaning M)) ≡ true
@@ -31,13 +31,26 @@ EachHasOneRole = (past : List Message) (message : Message)
 -- the messages of a list have their roles in one way
 abbrev pub EachListHasRoles : Type 0
 EachListHasRoles = (M : List Message)
-    → (roles : List MessageRole) × AreRoles [] M roles × ((others : List MessageRole) → AreRoles [] M others → others ≡ roles)
+    → (roles : List MessageRole) × AreRoles [] M roles
+    × ((others : List MessageRole) → AreRoles [] M others → others ≡ roles)
 
 -- the messages of a meaning are the list's in order, except that the removed ones are left out and an answer moves up
 -- to its request
 abbrev pub MessagesByRoles : Type 0
 MessagesByRoles = (M : List Message) (roles : List MessageRole) → AreRoles [] M roles
     → (flattened (meaning M) ≡ arranged [] M roles) × (removed_messages M ≡ those_removed M roles)
+
+-- the role that a message has by what becomes of it
+abbrev pub role_of_step : Step → MessageRole
+role_of_step (step.Request service) = as_request
+role_of_step step.Answer = as_answer
+role_of_step step.Removed = as_removed
+role_of_step step.Hold = as_stray
+role_of_step step.Pass = as_stray
+
+-- what becomes of a message, which the open request alone decides, tells the role that `HasRole` finds by looking back
+abbrev pub StepTellsTheRole : Type 0
+StepTellsTheRole = (M : List Message) (message : Message) → HasRole M message (role_of_step (step_after M message))
 
 -- the open request is the last one, and none after it is its answer
 abbrev pub OpenRequestIsLast : Type 0
@@ -52,7 +65,8 @@ open_with (Some request) message =
 
 -- the open request of a list and one more message is known from that of the list
 abbrev pub OpenRequestGoesOn : Type 0
-OpenRequestGoesOn = (M : List Message) (message : Message) → open_request (M ++ message ∷ []) ≡ open_with (open_request M) message
+OpenRequestGoesOn = (M : List Message) (message : Message)
+    → open_request (M ++ message ∷ []) ≡ open_with (open_request M) message
 
 -- what is removed of one more message, where this request is open: a pending reply for it that is not its answer
 abbrev pub removed_with : Option (List ℕ) → Message → List Message
@@ -127,4 +141,5 @@ DecidedGrows = (M more : List Message) → (rest : List ItemValue) × (decided (
 -- more is decided
 abbrev pub UndecidedMustWait : Type 0
 UndecidedMustWait = (M : List Message) (request : List ℕ) → open_request M ≡ Some request
-    → meaning (M ++ rejection_of request ∷ []) ≡ decided M ++ exchange request (Some (rejection_of request).1) ∷ map stray_of (held M)
+    → meaning (M ++ rejection_of request ∷ [])
+    ≡ decided M ++ exchange request (Some (rejection_of request).1) ∷ map stray_of (held M)

@@ -41,14 +41,15 @@ part request behind = record { request = request; behind = behind }
 -- the parts of a list's requests, in order
 abbrev pub parts : List Message → List Part
 parts [] = []
-parts (message ∷ later) = if is_tester_request message then part message.1 (before_requests later) ∷ parts later else parts later
+parts (message ∷ later) =
+    if is_tester_request message then part message.1 (before_requests later) ∷ parts later else parts later
 
 -- the answer to a request among the messages after it: the first that is final for it
 abbrev pub answer : List ℕ → List Message → Option (List ℕ)
 answer request [] = None
 answer request (message ∷ later) = if is_answer_to request message then Some message.1 else answer request later
 
--- what is removed of the messages after a request: the replies pending for it before its answer, or all where there is no answer
+-- what is removed of the messages after a request: the replies pending for it before its answer, or all if none comes
 abbrev pub removed : List ℕ → List Message → List Message
 removed request [] = []
 removed request (message ∷ later) =

@@ -3,11 +3,11 @@ use Rattle.std.specs.Prelude.{◌≡◌, ℕ, List, [], ◌∷◌, ◌++◌}
 use Rattle.direction.specs.Dir.{Message}
 use Rattle.direction.specs.declared.Dir.{Dir}
 
--- which values of a sink may follow an Ok of a `put` of a message: the value before, the message, the value after
+-- which values of a sink may follow an Ok of a `put`: the value before, the message, the value after
 abbrev pub AfterOk : Type 0 → Type 1
 AfterOk Sink = Sink → Dir → List ℕ → Sink → Type 0
 
--- which values of a sink may follow an Err of a `put` of a message: the value before, the message, the fault, the value after
+-- which values of a sink may follow an Err of a `put`: the value before, the message, the fault, the value after
 abbrev pub AfterErr : Type 0 → Type 0 → Type 1
 AfterErr Sink Fault = Sink → Dir → List ℕ → Fault → Sink → Type 0
 

@@ -7,8 +7,8 @@ use Rattle.uds_exchange.specs.declared.order_fault.OrderFault.TheVariants as fau
 use Rattle.uds_exchange.specs.Order.{open_request, held, early}
 use Rattle.uds_exchange.specs.MessageSink.{AfterOk, AfterErr, Puts, Fails}
 
--- what an orderer is seen as: whether an earlier call ended with a fault of the sink, the first byte of the open request,
--- and the messages that are held behind it
+-- what an orderer is seen as: whether an earlier call ended with a fault of the sink, the first byte of the open
+-- request, and the messages that are held behind it
 pub record OrdererValue : Type 0 where
   pub has_failed : Bool
   pub open_sid : Option ℕ
@@ -41,14 +41,16 @@ IsHeld M message = held (M ++ message ∷ []) ≡ held M ++ message ∷ []
 
 -- what a fault leaves of the sink: of what is due nothing was put where memory was refused, and a proper prefix where
 -- the sink failed; no earlier call had failed
-abbrev pub StopsDue : {Sink Fault : Type 0} → AfterOk Sink → AfterErr Sink Fault → List Message → Message → Sink → Sink → OrderFault Fault → Type 0
+abbrev pub StopsDue : {Sink Fault : Type 0} → AfterOk Sink → AfterErr Sink Fault → List Message → Message → Sink → Sink
+    → OrderFault Fault → Type 0
 StopsDue after_ok after_err M message before after fault.Memory = after ≡ before
 StopsDue after_ok after_err M message before after (fault.Sink why) =
     (due : List Message) × IsDue M message due × Fails after_ok after_err before due why after
 StopsDue after_ok after_err M message before after fault.Failed = ⊥
 
--- what a fault leaves of the sink at the end, where these are held: it is the sink's, and a proper prefix of them was put
-abbrev pub StopsHeld : {Sink Fault : Type 0} → AfterOk Sink → AfterErr Sink Fault → List Message → Sink → Sink → OrderFault Fault → Type 0
+-- what a fault leaves of the sink at the end, where these are held: it is the sink's, and a proper prefix was put
+abbrev pub StopsHeld : {Sink Fault : Type 0} → AfterOk Sink → AfterErr Sink Fault → List Message → Sink → Sink
+    → OrderFault Fault → Type 0
 StopsHeld after_ok after_err holds before after fault.Memory = ⊥
 StopsHeld after_ok after_err holds before after (fault.Sink why) = Fails after_ok after_err before holds why after
 StopsHeld after_ok after_err holds before after fault.Failed = ⊥

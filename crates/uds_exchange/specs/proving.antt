@@ -1,9 +1,10 @@
 -- Devices of proof, apart from the definitions that the promises are made of.
 pub mod OpenExchange
+pub mod Steps
 pub mod Judging
 pub mod ItemNumbers
 pub mod Pairing
-pub mod Steps
+pub mod Ordering
 pub mod Deciding
 pub mod Blocks
 pub mod KeptItems

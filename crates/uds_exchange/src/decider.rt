@@ -7,7 +7,7 @@ ghost use Rattle.uds_exchange.specs.Decided.{exchange_items, undecided};
 ghost use Rattle.uds_exchange.specs.Decider.{decider_after, PutsDecided, IsKept};
 ghost use Rattle.uds_exchange.specs.ItemSink.{PutsItems};
 ghost use Rattle.uds_exchange.specs.Judging.{IsJudgedAfter, sent};
-ghost use Rattle.uds_exchange.specs.proving.Deciding.{decided_for, decider_after_step, Refuses};
+ghost use Rattle.uds_exchange.specs.proving.Deciding.{decided_for, decider_after_step, Keeps};
 
 use crate::held::HeldMessages;
 use crate::item::Item;
@@ -20,8 +20,8 @@ use direction::Dir;
 use std::alloc::{AllocError, Global};
 use std::marker::Model;
 
-/// Puts the items of a meaning in order into a sink, each as soon as nothing that follows can change it: an exchange when
-/// its answer comes or the next request does, and the strays after it then too. It keeps the open request, and the
+/// Puts the items of a meaning in order into a sink, each as soon as nothing that follows can change it: an exchange
+/// when its answer comes or the next request does, and the strays after it then too. It keeps the open request, and the
 /// messages that are held behind it. A reply that is left out is neither kept nor put.
 #[derive(Debug, Drop)]
 pub struct Decider {
@@ -53,8 +53,8 @@ impl Decider {
         }
     }
 
-    /// Takes one more message, and puts all items that are now decided. Memory is taken for a request, and for a message
-    /// that is held. After an `Err` nothing was put, the decider is unchanged, and the call may be made again.
+    /// Takes one more message, and puts all items that are now decided. Memory is taken for a request, and for a
+    /// message that is held. After an `Err` nothing was put, the decider is unchanged, and the call may be made again.
     pub fn take<S: ItemSink>(&mut self, message: Judged<'_>, sink: &mut S) -> Result<(), AllocError>
         ensures stands { OnOk result ((M : List Message) → self.old ≡ decider_after M → IsJudgedAfter M message.entry
             → self.new ≡ decider_after (M ++ sent message.entry ∷ [])) }
@@ -86,7 +86,7 @@ impl Decider {
         ensures puts { OnOk result (PutsItems S.takes sink.old (decided_for message.entry.step self.old (sent message.entry)) sink.new) }
         ensures err { OnErr result (self.new ≡ self.old) }
         ensures unput { OnErr result (sink.new ≡ sink.old) }
-        ensures needs { OnErr result (Refuses message.entry.step self.old (sent message.entry)) }
+        ensures needs { OnErr result (Keeps message.entry.step) }
     {
         let Judged { dir, bytes, .. } = message;
         match message.step {

@@ -13,7 +13,9 @@ use std::marker::Model;
 /// Messages that wait behind the open request, in order.
 #[derive(Drop)]
 pub(crate) struct HeldMessages {
+    /// Of each message who sent it, and where its bytes lie.
     pub(crate) places: Vec<HeldMessage>,
+    /// The bytes of all.
     pub(crate) messages: Messages,
     /// The sum of the messages' lengths.
     total: usize,

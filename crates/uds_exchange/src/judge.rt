@@ -15,6 +15,7 @@ use direction::Dir;
 pub struct Judged<'a> {
     /// Who sent it.
     pub dir: Dir,
+    /// Its bytes, lent.
     pub bytes: &'a [u8],
     /// What becomes of it.
     pub step: Step,

@@ -6,8 +6,8 @@ ghost use Rattle.uds_exchange.specs.Judging.{IsJudgedAfter, sent};
 ghost use Rattle.uds_exchange.specs.Order.{held as held_after};
 ghost use Rattle.uds_exchange.specs.MessageSink.{Puts, Fails};
 ghost use Rattle.uds_exchange.specs.Orderer.{judged_orderer_after, PutsDue, IsHeld, StopsDue, StopsHeld};
-ghost use Rattle.uds_exchange.specs.proving.Steps as Spec;
-ghost use Rattle.uds_exchange.specs.proving.Steps.{due_for, Stops};
+ghost use Rattle.uds_exchange.specs.proving.Ordering as Spec;
+ghost use Rattle.uds_exchange.specs.proving.Ordering.{due_for, Stops};
 ghost use Rattle.uds_exchange.specs.declared.order_fault.OrderFault.TheVariants.{Memory, Sink, Failed};
 
 use crate::held::HeldMessages;
@@ -19,8 +19,8 @@ use direction::Dir;
 use std::alloc::Global;
 use std::marker::Model;
 
-/// Orders messages that are judged already: an [`Orderer`](crate::Orderer) that is told what becomes of each. Contracts see
-/// whether it has failed, and what it holds.
+/// Orders messages that are judged already: an [`Orderer`](crate::Orderer) that is told what becomes of each. Contracts
+/// see whether it has failed, and what it holds.
 #[derive(Debug, Drop)]
 pub struct JudgedOrderer {
     pub(crate) has_failed: bool,
@@ -47,9 +47,9 @@ impl JudgedOrderer {
         }
     }
 
-    /// The sum of the lengths of the messages that are held; 0 where no request is open, if each message was judged rightly.
-    /// After a fault of the sink it says nothing.
-    pub fn held(&self) -> u64
+    /// The sum of the lengths of the messages that are held; 0 where no request is open, if each message was judged
+    /// rightly. After a fault of the sink it says nothing.
+    pub(crate) fn held_len(&self) -> u64
         ensures { result ≡ sum_by (λ x. length x.1) self.now.holds }
     {
         self.held.total_len() as u64

@@ -13,8 +13,8 @@ use crate::step::Step;
 use std::alloc::{AllocError, Global};
 use std::marker::Model;
 
-/// Pairs messages that are judged already: a [`Pairing`](crate::Pairing) that is told what becomes of each. Contracts see it as
-/// a list of items: the meaning of the messages, where each was judged behind those before it.
+/// Pairs messages that are judged already: a [`Pairing`](crate::Pairing) that is told what becomes of each. Contracts
+/// see it as a list of items: the meaning of the messages, where each was judged behind those before it.
 #[derive(Debug, Drop)]
 pub struct JudgedPairing {
     pub(crate) meaning: Meaning,
@@ -45,8 +45,9 @@ impl JudgedPairing {
         }
     }
 
-    /// Takes one more message. A reply that is left out is not copied. After an `Err` nothing has changed, and the call may be
-    /// made again. Whatever is said to become of the message, the call is safe: an answer where none is awaited is not taken.
+    /// Takes one more message. A reply that is left out is not copied. After an `Err` nothing has changed, and the call
+    /// may be made again. Whatever is said to become of the message, the call is safe: an answer where none is awaited
+    /// is not taken.
     pub fn take(&mut self, message: Judged<'_>) -> Result<(), AllocError>
         ensures ok { OnOk result ((M : List Message) → self.old ≡ meaning M → IsJudgedAfter M message.entry
             → self.new ≡ meaning (M ++ sent message.entry ∷ [])) }
@@ -65,8 +66,8 @@ impl JudgedPairing {
         meaning
     }
 
-    /// Takes one more message, by what becomes of it and the items alone: `take` promises the same by the messages. Where
-    /// none is open, no answer is taken.
+    /// Takes one more message, by what becomes of it and the items alone: `take` promises the same by the messages.
+    /// Where none is open, no answer is taken.
     #[inline(always)]
     fn advance(&mut self, message: Judged<'_>) -> Result<(), AllocError>
         ensures ok { OnOk result (self.new ≡ Spec.items_after_step message.entry.step (open_exchange_in self.old) self.old (sent message.entry)) }

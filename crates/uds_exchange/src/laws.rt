@@ -11,7 +11,7 @@ ghost use Rattle.uds_exchange.specs.ItemSink.{PutsItems};
 ghost use Rattle.uds_exchange.specs.Decider.{PutsDecided};
 ghost use Rattle.uds_exchange.specs.Blocks.{MessageStays};
 ghost use Rattle.uds_exchange.specs.Laws.{MeaningIsKept, NoneIsLost, NoneIsMadeUp};
-ghost use Rattle.uds_exchange.specs.Laws.{EachHasOneRole, EachListHasRoles, MessagesByRoles};
+ghost use Rattle.uds_exchange.specs.Laws.{EachHasOneRole, EachListHasRoles, MessagesByRoles, StepTellsTheRole};
 ghost use Rattle.uds_exchange.specs.Laws.{OpenRequestIsLast, OpenRequestGoesOn, RemovedGoOn, OneMoreIsPutIn};
 ghost use Rattle.uds_exchange.specs.Laws.{EarlyThenHeld, HeldByOpenRequest, HeldMustWait, EarlyStays, EarlyGrows, NoneIsLostInOrder};
 ghost use Rattle.uds_exchange.specs.Laws.{DecidedThenUndecided, DecidedGrows, UndecidedMustWait};
@@ -48,6 +48,11 @@ pub fn each_list_has_roles()
 /// answer comes directly after its request.
 pub fn messages_by_roles()
     ensures { MessagesByRoles }
+{}
+
+/// What becomes of a message, by the first byte of the open request alone, tells its role by the messages before it.
+pub fn step_tells_the_role()
+    ensures { StepTellsTheRole }
 {}
 
 /// The open request of a list is the last request in it, and no message after that is its answer.

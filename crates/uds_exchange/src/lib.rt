@@ -11,9 +11,9 @@
 //! unit   62 F1 90 41
 //! ```
 //!
-//! A [`Judge`] says of each message what becomes of it. A run judges a message once, and hands it to a [`JudgedPairing`],
-//! a [`JudgedOrderer`] or a [`Decider`]. [`Pairing`] and [`Orderer`] have a judge of their own, for a caller that has
-//! messages alone.
+//! A [`Judge`] says of each message what becomes of it. A run judges a message once, and hands it to a
+//! [`JudgedPairing`], a [`JudgedOrderer`] or a [`Decider`]. [`Pairing`] and [`Orderer`] have a judge of their own, for
+//! a caller that has messages alone.
 //!
 //! | Part | Files | Definitions |
 //! |---|---|---|
@@ -26,8 +26,8 @@
 //! | [`laws`]: what holds of meanings, whatever computes them | `laws` | `Roles`, `Laws` |
 //! | what `{:?}` shows | `shown` | none |
 //!
-//! [`Messages`] knows of no exchange. It stands here because a [`Meaning`] and the messages that are held are kept in one; it
-//! is public for a caller that keeps messages with what else it knows of them, as the rows of a page are.
+//! [`Messages`] knows of no exchange. It stands here because a [`Meaning`] and the messages that are held are kept in
+//! one; it is public for a caller that keeps messages with what else it knows of them, as the rows of a page are.
 #![tactic(auto)]
 
 mod decider;

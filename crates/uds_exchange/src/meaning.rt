@@ -18,7 +18,9 @@ use std::marker::Model;
 /// The meaning of a list of messages, seen as a list of items. It keeps their bytes, and lends them.
 #[derive(Drop)]
 pub struct Meaning {
+    /// The items, by where their messages lie.
     pub(crate) items: Vec<KeptItem>,
+    /// The bytes of all messages.
     messages: Messages,
 }
 

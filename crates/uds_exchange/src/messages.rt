@@ -1,6 +1,6 @@
-//! Messages that are kept, in blocks of memory that are never moved. A message goes behind those of the block that is being
-//! filled, where that has room; else it begins a new block, which is filled from then on unless the message is a long one. The
-//! first block lies apart from the later ones, so both ways have a case of their own for it.
+//! Messages that are kept, in blocks of memory that are never moved. A message goes behind those of the block that is
+//! being filled, where that has room; else it begins a new block, which is filled from then on unless the message is a
+//! long one. The first block lies apart from the later ones, so both ways have a case of their own for it.
 
 ghost use Rattle.std.specs.Prelude.{◌≡◌, ◌<◌, ◌≤◌, ◌+◌, ◌++◌, ◌∷◌, [], ℕ, IsTrue, IfOk, OnOk, OnErr, length};
 ghost use Rattle.uds_exchange.specs.Blocks.{block_at, bytes_at, IsInside, Lays};
@@ -13,8 +13,8 @@ use std::marker::Model;
 /// The first block has so many bytes, or those of a longer first message.
 const FIRST_BLOCK: usize = 1_024;
 
-/// Up to this number of a block its bytes double with its number: up to 65,536. So few messages take little memory, and many
-/// few blocks.
+/// Up to this number of a block its bytes double with its number: up to 65,536. So few messages take little memory, and
+/// many few blocks.
 const DOUBLINGS: u32 = 6;
 
 /// A longer message has a block of its own length, so that at most a sixteenth of a large block is left empty.
@@ -23,7 +23,8 @@ const LONG: usize = 4_096;
 /// The last place in a block at which a message may begin: a start is a `u16`.
 const LAST_START: usize = 65_535;
 
-/// Messages, each whole in a block, where it stays when more are kept: so what is kept takes its own length, and is copied once.
+/// Messages, each whole in a block, where it stays when more are kept: so what is kept takes its own length, and is
+/// copied once.
 #[derive(Drop)]
 pub struct Messages {
     /// It lies beside the list of the later ones, so that a few messages take memory once.
@@ -227,7 +228,8 @@ fn room_of(number: u32, len: usize) -> usize {
     }
 }
 
-/// A block of so many bytes, with a message in it. Inlined, so that no call is added for a message that has new memory of its own.
+/// A block of so many bytes, with a message in it. Inlined, so that no call is added for a message that has new memory
+/// of its own.
 #[inline(always)]
 pub(crate) fn block_with(alloc: Global, room: usize, message: &[u8]) -> Result<Vec<u8>, AllocError>
     ensures { IfOk result (λ block. block.items ≡ message.now) }

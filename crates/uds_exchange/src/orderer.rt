@@ -47,7 +47,7 @@ impl Orderer {
     pub fn held(&self) -> u64
         ensures { result ≡ sum_by (λ x. length x.1) self.now.holds }
     {
-        self.orderer.held()
+        self.orderer.held_len()
     }
 
     /// Takes one more message, and puts all whose place is now known. No memory is taken for a message that is put

@@ -41,8 +41,8 @@ impl Pairing {
         }
     }
 
-    /// Takes one more message. A reply that is left out is not copied. After an `Err` nothing has changed, and the call may be
-    /// made again.
+    /// Takes one more message. A reply that is left out is not copied. After an `Err` nothing has changed, and the call
+    /// may be made again.
     pub fn take(&mut self, dir: Dir, message: &[u8]) -> Result<(), AllocError>
         ensures ok { OnOk result ((M : List Message) → self.old ≡ meaning M
             → self.new ≡ meaning (M ++ (dir, message.now) ∷ [])) }

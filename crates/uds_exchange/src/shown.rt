@@ -1,5 +1,5 @@
-//! What `{:?}` shows of a pairing, an orderer, held messages and a meaning: the fields that they had before their messages lay in
-//! blocks, since callers may have these texts in their logs.
+//! What `{:?}` shows of a pairing, an orderer, held messages and a meaning: the fields that they had before their
+//! messages lay in blocks, since callers may have these texts in their logs.
 
 use crate::held::HeldMessages;
 use crate::item::Item;

@@ -1,5 +1,5 @@
-//! What tells that tester and unit are exchanged: swapped, one side taken for the other. With an exchange, a request and its
-//! answer, the word has nothing to do.
+//! What tells that tester and unit are exchanged: swapped, one side taken for the other. With an exchange, a request
+//! and its answer, the word has nothing to do.
 
 ghost use Rattle.std.specs.Prelude.{◌≡◌, [], List, ℕ, Option};
 ghost use Rattle.direction.specs.Dir.{Message};

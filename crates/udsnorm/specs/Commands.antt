@@ -216,7 +216,7 @@ RanBy source target (runs_in_style script refusal) settings = RanAny source targ
 abbrev pub engine_of : Job → List ℕ → GlimpseValue → Engine
 engine_of job.Normalise name seen = normalises
 engine_of (job.List style) name seen = writes (list_text style)
-engine_of (job.Watch style) name seen = runs (λ limit. watching_script style) CompletesKept
+engine_of (job.Watch style) name seen = runs (watching_script style) CompletesKept
 engine_of (job.Explain notation) name seen = runs (explain_script notation) (λ limit. needs_none)
 engine_of (job.Messages notation) name seen = runs (placing_script notation) (λ limit. needs_none)
 engine_of job.Report name seen =

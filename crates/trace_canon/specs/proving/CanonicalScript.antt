@@ -24,29 +24,37 @@ progress_behind settings put = progress_after settings (start_of settings.max_by
 -- the lines of the messages that are early of these, and were not of those
 abbrev pub lines_due : Settings → List Message → List Message → List ℕ
 lines_due settings before now =
-    text_from settings (progress_behind settings (early before)) (all_frames MESSAGE_LIMIT (drop (length (early before)) (early now)))
+    text_from settings (progress_behind settings (early before))
+    (all_frames MESSAGE_LIMIT (drop (length (early before)) (early now)))
+
+-- the lines of the messages that are held of these
+abbrev pub lines_held : Settings → List Message → List ℕ
+lines_held settings M = text_from settings (progress_behind settings (early M)) (all_frames MESSAGE_LIMIT (held M))
 
 -- of each frame the lines of what is due with it, and at the end of what is held
 abbrev pub canonical_script : Settings → Script
 canonical_script settings = record {
   strict = true;
-  word = λ T e. lines_due settings (messages MESSAGE_LIMIT T) (messages MESSAGE_LIMIT (T ++ e ∷ []));
-  last = λ T summary. text_from settings (progress_behind settings (early (messages MESSAGE_LIMIT T))) (all_frames MESSAGE_LIMIT (held (messages MESSAGE_LIMIT T)));
+  of_frame = λ T e. lines_due settings (messages MESSAGE_LIMIT T) (messages MESSAGE_LIMIT (T ++ e ∷ []));
+  at_the_end = λ T summary. lines_held settings (messages MESSAGE_LIMIT T);
 }
 
 -- The orderer stands after the messages of the trace, and the text after those that are early.
-pub record StandsCanonical (settings : Settings) (T : List Entry) (orderer : JudgedOrdererValue) (config : Settings) (progress : ProgressValue) : Type 0 where
+pub record StandsCanonical (settings : Settings) (T : List Entry) (orderer : JudgedOrdererValue) (config : Settings)
+    (progress : ProgressValue) : Type 0 where
   pub ordered : orderer ≡ judged_orderer_after (messages MESSAGE_LIMIT T)
   pub same : config ≡ settings
   pub at : progress ≡ progress_behind settings (early (messages MESSAGE_LIMIT T))
 
 -- the lines of the messages of a trace whose place is known, as far as there is room
 abbrev pub text_of_early : Settings → List Entry → List ℕ
-text_of_early settings T = text_from settings (start_of settings.max_bytes) (all_frames MESSAGE_LIMIT (early (messages MESSAGE_LIMIT T)))
+text_of_early settings T =
+    text_from settings (start_of settings.max_bytes) (all_frames MESSAGE_LIMIT (early (messages MESSAGE_LIMIT T)))
 
 -- what this script tells of a trace are the lines of its early messages
 abbrev pub CanonicalTellsEarly : Type 0
-CanonicalTellsEarly = (settings : Settings) (T : List Entry) → told ((canonical_script settings).word) T ≡ text_of_early settings T
+CanonicalTellsEarly = (settings : Settings) (T : List Entry)
+    → told ((canonical_script settings).of_frame) T ≡ text_of_early settings T
 
 -- the canonical log of the trace is longer than the limit
 abbrev pub is_too_long : Settings → List Entry → Bool
@@ -54,10 +62,13 @@ is_too_long settings T = (progress_behind settings (flattened (meaning (messages
 
 -- the counts are answered where the canonical log is within the limit, and else that it is longer
 abbrev pub answers_canonical : Settings → Answering Summary
-answers_canonical settings T summary result = result ≡ (if is_too_long settings T then Err no_answer.OutputLimit else Ok summary)
+answers_canonical settings T summary result =
+    result ≡ (if is_too_long settings T then Err no_answer.OutputLimit else Ok summary)
 
 -- what a run by this script answers and writes is the canonical log
 abbrev pub CanonicalTellsTheSame : Type 0
 CanonicalTellsTheSame = (settings : Settings) (log : List ℕ) (given : ℕ) (result : Result Summary Fault) (old new : List ℕ)
-    → AnswersTold (canonical_script settings) tells_no_refusal (answers_canonical settings) MESSAGE_LIMIT settings log given result old new
-    → TellsEagerly (canonical_script settings) MESSAGE_LIMIT settings log given old new → Answers MESSAGE_LIMIT settings log given result old new
+    → AnswersTold (canonical_script settings) tells_no_refusal (answers_canonical settings) MESSAGE_LIMIT settings log
+    given result old new
+    → TellsEagerly (canonical_script settings) MESSAGE_LIMIT settings log given old new
+    → Answers MESSAGE_LIMIT settings log given result old new

@@ -9,13 +9,17 @@ use Rattle.trace_log.specs.Settings.{Settings}
 use Rattle.trace_canon.specs.proving.Writing.{ProgressValue, text_from, progress_after}
 
 -- the lines of the messages that are due with this one were said
-abbrev pub SaysDue : {S : Type 0} → (S → List ℕ → S → Type 0) → Settings → List Message → Message → ProgressValue → S → ProgressValue → S → Type 0
+abbrev pub SaysDue : {S : Type 0} → (S → List ℕ → S → Type 0) → Settings → List Message → Message
+    → ProgressValue → S → ProgressValue → S → Type 0
 SaysDue says settings M message progress out progress_now out_now =
-    (due : List Message) × IsDue M message due × (progress_now ≡ progress_after settings progress (all_frames MESSAGE_LIMIT due))
+    (due : List Message) × IsDue M message due
+    × (progress_now ≡ progress_after settings progress (all_frames MESSAGE_LIMIT due))
     × says out (text_from settings progress (all_frames MESSAGE_LIMIT due)) out_now
 
 -- the lines of frames were said as far as those that are left
-pub record SaysFront {S : Type 0} (says : S → List ℕ → S → Type 0) (settings : Settings) (progress : ProgressValue) (out : S) (frames : List (Dir × List ℕ))
+pub record SaysFront {S : Type 0} (says : S → List ℕ → S → Type 0) (settings : Settings)
+    (progress : ProgressValue) (out : S) (frames : List (Dir × List ℕ))
     (progress_now : ProgressValue) (out_now : S) (left : List (Dir × List ℕ)) : Type 0 where
-  pub said : (text : List ℕ) × (text_from settings progress frames ≡ text ++ text_from settings progress_now left) × says out text out_now
+  pub said : (text : List ℕ) × (text_from settings progress frames ≡ text ++ text_from settings progress_now left)
+      × says out text out_now
   pub stands : progress_after settings progress frames ≡ progress_after settings progress_now left

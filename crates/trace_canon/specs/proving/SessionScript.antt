@@ -5,8 +5,7 @@ use Rattle.direction.specs.Dir.{Message}
 use Rattle.uds_exchange.specs.Meaning.{ItemValue, meaning, flattened}
 use Rattle.uds_exchange.specs.declared.step.Step.{Step}
 use Rattle.uds_exchange.specs.declared.step.Step.TheVariants as step
-use Rattle.trace_canon.specs.Sessions.{GivesSession}
-use Rattle.trace_canon.specs.WatchScript.{items_of_trace}
+use Rattle.trace_canon.specs.Sessions.{GivesSession, items_of_trace}
 use Rattle.trace_log.specs.CanonicalLog.{canonical_log}
 use Rattle.trace_log.specs.Settings.{Settings}
 use Rattle.trace_run.specs.Script.{Script, Answering, tells_no_refusal}
@@ -30,7 +29,8 @@ has_place step.Pass = true
 
 -- What is kept of these messages: all that they mean and how long its canonical log is, while that is within the limit;
 -- else no item, and that it is longer. So what is held never has a canonical log above the limit.
-pub record Collects (settings : Settings) (M : List Message) (items : List ItemValue) (known : ℕ) (config : Settings) : Type 0 where
+pub record Collects (settings : Settings) (M : List Message) (items : List ItemValue) (known : ℕ) (config : Settings)
+    : Type 0 where
   pub same : config ≡ settings
   pub size : ℕ
   pub measured : HaveLengths settings (flattened (meaning M)) size
@@ -40,12 +40,14 @@ pub record Collects (settings : Settings) (M : List Message) (items : List ItemV
 
 -- the script of a machine that tells nothing of a log
 abbrev pub silent_script : Script
-silent_script = record { strict = true; word = λ T e. []; last = λ T summary. [] }
+silent_script = record { strict = true; of_frame = λ T e. []; at_the_end = λ T summary. [] }
 
 -- the meaning and the counts are answered where the canonical log is within the limit, and else that it is longer
 abbrev pub answers_session : Settings → Answering Session
-answers_session settings T summary (Ok session) = (session.meaning ≡ items_of_trace T) × (session.summary ≡ summary) × (fits_within settings (items_of_trace T) ≡ true)
-answers_session settings T summary (Err OutputLimit) = fits_within settings (items_of_trace T) ≡ false
+answers_session settings T summary (Ok session) =
+    (session.meaning ≡ items_of_trace MESSAGE_LIMIT T) × (session.summary ≡ summary)
+    × (fits_within settings (items_of_trace MESSAGE_LIMIT T) ≡ true)
+answers_session settings T summary (Err OutputLimit) = fits_within settings (items_of_trace MESSAGE_LIMIT T) ≡ false
 
 -- what a run by these two answers gives the session
 abbrev pub SessionIsTheSame : Type 0

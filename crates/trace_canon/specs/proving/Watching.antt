@@ -13,16 +13,19 @@ use Rattle.trace_text.specs.declared.item_style.ItemStyle.{ItemStyle}
 -- the lines of these items were said, numbered from this number on, as far as numbers go
 abbrev pub SaysLines : {S : Type 0} → (S → List ℕ → S → Type 0) → ItemStyle → List ItemValue → ℕ → S → ℕ → S → Type 0
 SaysLines says style items number out number_now out_now =
-    number + length items < 2 ^ 64 → (number_now ≡ number + length items) × says out (list_text_from style number items) out_now
+    number + length items < 2 ^ 64
+    → (number_now ≡ number + length items) × says out (list_text_from style number items) out_now
 
 -- the lines of the items that one more message decides were said
-abbrev pub SaysDecided : {S : Type 0} → (S → List ℕ → S → Type 0) → ItemStyle → List Message → Message → ℕ → S → ℕ → S → Type 0
+abbrev pub SaysDecided : {S : Type 0} → (S → List ℕ → S → Type 0) → ItemStyle → List Message → Message
+    → ℕ → S → ℕ → S → Type 0
 SaysDecided says style M message number out number_now out_now =
     (items : List ItemValue) × AreDecidedBy M message items × SaysLines says style items number out number_now out_now
 
 -- This is what a machine that watches keeps of the frames T.
-pub record WatchesItems (style : ItemStyle) (T : List Entry) (decider : DeciderValue) (kept : ItemStyle) (number : ℕ) : Type 0 where
+pub record WatchesItems (style : ItemStyle) (T : List Entry) (decider : DeciderValue) (kept : ItemStyle) (number : ℕ)
+    : Type 0 where
   pub decides : decider ≡ decider_after (messages MESSAGE_LIMIT T)
   pub same : kept ≡ style
-  pub numbered : number ≡ 1 + length (decided_of T)
+  pub numbered : number ≡ 1 + length (decided_of MESSAGE_LIMIT T)
   pub few : length T ≤ 2 ^ 62

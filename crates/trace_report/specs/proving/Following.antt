@@ -12,7 +12,7 @@ use Rattle.uds_exchange.specs.Judging.{open_number_if_any}
 use Rattle.uds_exchange.specs.Order.{open_request}
 use Rattle.uds_message.specs.Message.{is_suppressing}
 use Rattle.trace_canon.specs.declared.reception_starts.FramePlace.{FramePlace}
-use Rattle.trace_canon.specs.proving.ReceptionStarts.{IsBegunAt}
+use Rattle.trace_canon.specs.ReceptionStarts.{AreStartsAfter}
 use Rattle.trace_report.specs.Blocks.{blocks_of}
 use Rattle.trace_report.specs.Events.{asked_in, is_request_step, ends_nothing, rows_of}
 use Rattle.trace_report.specs.Front.{PageTitleValue}
@@ -60,8 +60,7 @@ frames_with (Some begun) taken = min (taken + 2) 18446744073709551615
 
 -- where the receptions began that stand after the frames T, and how many frames they took
 pub record KnowsPlaces (T : List Entry) (places : Places) : Type 0 where
-  pub tester : IsBegunAt Tester T places.begun.tester
-  pub unit : IsBegunAt Unit T places.begun.unit
+  pub begun : AreStartsAfter MESSAGE_LIMIT T places.begun
   pub frames : CountFrames T places.frames
 
 -- whether the request that waits after these messages, if one does, asked for no positive answer

@@ -12,7 +12,7 @@ use Rattle.trace_report.specs.proving.Following.{Follows, rows_in, times_of}
 
 -- the script that tells nothing
 abbrev pub quiet_script : Script
-quiet_script = record { strict = false; word = λ T e. []; last = λ T summary. [] }
+quiet_script = record { strict = false; of_frame = λ T e. []; at_the_end = λ T summary. [] }
 
 -- the rows of the frames T are kept
 pub record Keeps (T : List Entry) (keeper : Keeper) : Type 0 where

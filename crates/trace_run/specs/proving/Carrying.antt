@@ -15,47 +15,35 @@ abbrev pub failures_with : Bool → ℕ → ℕ
 failures_with false failures = failures
 failures_with true failures = failures + 1
 
--- Since this start, this was said to a page that holds this now.
-pub record Carries {W : Type 0} (target : Ghosts W) (start : W) (said : List ℕ) (failed : Bool) (held : List ℕ) (now : W) : Type 0 where
+-- a page with nothing on it, where writing failed or not
+abbrev pub blank_page : Bool → Page
+blank_page failed = record { held = []; failed = failed }
+
+-- Since this start, this was said to a page, which may hold some of it.
+pub record Carries {W : Type 0} (target : Ghosts W) (start : W) (said : List ℕ) (page : Page) (now : W) : Type 0 where
   pub low : target.failures start ≤ 2 ^ 62
   -- something was said where something is held, and where writing failed
-  pub held_some : 0 < length held → 0 < length said
-  pub spoke : failed ≡ true → 0 < length said
+  pub held_some : 0 < length page.held → 0 < length said
+  pub spoke : page.failed ≡ true → 0 < length said
   -- and where nothing was said, the target is as it was
   pub still : length said ≡ 0 → now ≡ start
-  pub failures : target.failures now ≡ failures_with failed (target.failures start)
+  pub failures : target.failures now ≡ failures_with page.failed (target.failures start)
   pub no_empty_write : target.had_empty_write now ≡ target.had_empty_write start
   pub flushes : target.flushes now ≡ target.flushes start
   pub took : Took (target.taken start) (target.taken now) (target.contents start) (target.contents now)
-  pub written : HasCarried failed (target.taken start) said held (target.taken now)
-
--- whatever was said before, this text was said after it
-abbrev pub Says : {W : Type 0} → Ghosts W → Bool → List ℕ → W → List ℕ → Bool → List ℕ → W → Type 0
-Says {W = W} target failed held old text failed_now held_now new =
-    (start : W) (said : List ℕ) → Carries target start said failed held old → Carries target start (said ++ text) failed_now held_now new
-
--- whatever was said before is written now, or that failed, as is answered
-abbrev pub Settles : {W : Type 0} → Ghosts W → Bool → List ℕ → W → Bool → W → Type 0
-Settles {W = W} target failed held old result new =
-    (start : W) (said : List ℕ) → Carries target start said failed held old → Carries target start said (not result) [] new
-
--- whatever was said before, no more was said
-abbrev pub SaysNoMore : {W : Type 0} → Ghosts W → Bool → List ℕ → W → Bool → List ℕ → W → Type 0
-SaysNoMore {W = W} target failed held old failed_now held_now new =
-    (start : W) (said : List ℕ) → Carries target start said failed held old → Carries target start said failed_now held_now new
+  pub written : HasCarried page.failed (target.taken start) said page.held (target.taken now)
 
 -- whatever was said to a page before, this text was said to it after it
-abbrev pub SaysToPage : {W : Type 0} → Ghosts W → Page → W → List ℕ → Page → W → Type 0
-SaysToPage target page old text page_now new = Says target page.failed page.held old text page_now.failed page_now.held new
+abbrev pub Says : {W : Type 0} → Ghosts W → Page → W → List ℕ → Page → W → Type 0
+Says {W = W} target page old text page_now new =
+    (start : W) (said : List ℕ) → Carries target start said page old → Carries target start (said ++ text) page_now new
 
 -- whatever was said to a page before is written now, or that failed, as is answered
-abbrev pub SettlesPage : {W : Type 0} → Ghosts W → Page → W → Bool → W → Type 0
-SettlesPage target page old result new = Settles target page.failed page.held old result new
+abbrev pub Settles : {W : Type 0} → Ghosts W → Page → W → Bool → W → Type 0
+Settles {W = W} target page old result new =
+    (start : W) (said : List ℕ) → Carries target start said page old → Carries target start said (blank_page (not result)) new
 
 -- whatever was said to a page before, no more was said to it
-abbrev pub SaysNoMoreToPage : {W : Type 0} → Ghosts W → Page → W → Page → W → Type 0
-SaysNoMoreToPage target page old page_now new = SaysNoMore target page.failed page.held old page_now.failed page_now.held new
-
--- since this start, this was said to a page, which may hold some of it
-abbrev pub CarriesPage : {W : Type 0} → Ghosts W → W → List ℕ → Page → W → Type 0
-CarriesPage target start said page now = Carries target start said page.failed page.held now
+abbrev pub SaysNoMore : {W : Type 0} → Ghosts W → Page → W → Page → W → Type 0
+SaysNoMore {W = W} target page old page_now new =
+    (start : W) (said : List ℕ) → Carries target start said page old → Carries target start said page_now new

@@ -11,7 +11,6 @@ use Rattle.trace_io.specs.declared.device.Target.{Ghosts}
 use Rattle.trace_log.specs.declared.fault.Fault.{Fault}
 use Rattle.trace_run.specs.declared.receiver.Receiver.{Receiver}
 use Rattle.uds_exchange.specs.Judging.{IsJudgeOf}
-use Rattle.uds_exchange.specs.declared.judge.Judge.{Judge}
 use Rattle.trace_log.specs.proving.Announcing.{AnnouncesWithin}
 use Rattle.trace_log.specs.proving.Receiving.{Receives, IsStart}
 use Rattle.trace_log.specs.Needing.{IsKeptForMessage}
@@ -20,7 +19,7 @@ use Rattle.trace_run.specs.Seen.{IsEventOf}
 use Rattle.trace_run.specs.declared.telling.FrameEvent.{FrameEvent}
 use Rattle.trace_run.specs.declared.telling.Telling.{Telling}
 use Rattle.trace_log.specs.declared.fault.Fault.TheVariants as fault
-use Rattle.trace_run.specs.proving.Carrying.{Carries}
+use Rattle.trace_run.specs.proving.Carrying.{Carries, blank_page}
 
 -- the announced length for which a run stops at a frame that did this, where it is strict
 abbrev pub oversize_for : Bool → VerdictValue → Option ℕ
@@ -37,60 +36,44 @@ StopsFor strict needs T e fault.OutputLimit = ⊥
 StopsFor strict needs T e fault.Read = ⊥
 StopsFor strict needs T e fault.Write = ⊥
 
--- A machine stands at its start, no message was judged, and nothing is on the page.
-pub record IsTellingStart (Stands : Type 0) (judge : Judge) (failed : Bool) (held : List ℕ) : Type 0 where
-  pub stands : Stands
-  pub judged : IsJudgeOf [] judge
-  pub well : failed ≡ false
-  pub blank : held ≡ []
+-- Nothing was told: the machine stands at its start, no message was judged, and nothing is on the page.
+pub record HasToldNothing {M W : Type 0} (stands : M → List Entry → M → Type 0) (telling : Telling M W) : Type 0 where
+  pub stands_at_start : stands telling.machine [] telling.machine
+  pub judged : IsJudgeOf [] telling.judge
+  pub well : telling.page.failed ≡ false
+  pub blank : telling.page.held ≡ []
 
--- The frames of the trace were told; of a strict script none announces a message above the limit.
-pub record Tells {M W : Type 0} (stands : List Entry → M → Type 0) (target : Ghosts W) (script : Script) (start : W) (T : List Entry)
-    (machine : M) (judge : Judge) (failed : Bool) (held : List ℕ) (now : W) : Type 0 where
-  pub judged : IsJudgeOf (messages MESSAGE_LIMIT T) judge
-  pub machine_stands : stands T machine
-  pub within : script.strict ≡ true → AllByRecursion AnnouncesWithin T
-  pub carried : Carries target start (told script.word T) failed held now
-
--- The run stopped at the frame e: nothing of it was said.
-pub record StopsTelling {W : Type 0} (target : Ghosts W) (script : Script) (needs : List Entry → Entry → Type 0) (start : W) (T : List Entry)
-    (e : Entry) (why : Fault) (failed : Bool) (held : List ℕ) (now : W) : Type 0 where
-  pub within : script.strict ≡ true → AllByRecursion AnnouncesWithin T
-  pub reason : StopsFor script.strict needs T e why
-  pub carried : Carries target start (told script.word T) failed held now
-
--- Since this start, what is told of this trace was written; and after it, what was said to a page that holds this now.
-pub record WroteTold {W : Type 0} (target : Ghosts W) (script : Script) (start : W) (T : List Entry) (failed : Bool) (held : List ℕ) (now : W) : Type 0 where
-  pub within : script.strict ≡ true → AllByRecursion AnnouncesWithin T
-  pub mid : W
-  pub said : List ℕ
-  pub wrote : target.taken mid ≡ target.taken start ++ told script.word T
-  pub carried : Carries target mid said failed held now
-
--- the frames of the trace were told, since the target was this and by what the machine was at its start
-abbrev pub HasTold : {M W : Type 0} → (M → List Entry → M → Type 0) → (M → Script) → Ghosts W → W → M → List Entry → Telling M W → W → Type 0
-HasTold stands scripts target target_start machine_start T telling now =
-    Tells (stands machine_start) target (scripts machine_start) target_start T telling.machine telling.judge telling.page.failed telling.page.held now
+-- The frames of the trace were told, since the target was this and by what the machine was at its start; of a strict
+-- script none announces a message above the limit.
+pub record HasTold {M W : Type 0} (stands : M → List Entry → M → Type 0) (scripts : M → Script) (target : Ghosts W) (target_start : W) (machine_start : M)
+    (T : List Entry) (telling : Telling M W) (now : W) : Type 0 where
+  pub judged : IsJudgeOf (messages MESSAGE_LIMIT T) telling.judge
+  pub machine_stands : stands machine_start T telling.machine
+  pub within : (scripts machine_start).strict ≡ true → AllByRecursion AnnouncesWithin T
+  pub carried : Carries target target_start (told ((scripts machine_start).of_frame) T) telling.page now
 
 -- the frames of the trace were told, and all that was told of them is written, or writing failed
 abbrev pub HasToldAndWritten : {M W : Type 0} → (M → List Entry → M → Type 0) → (M → Script) → Ghosts W → W → M → List Entry → Telling M W → Bool → W → Type 0
 HasToldAndWritten stands scripts target target_start machine_start T telling failed now =
-    Tells (stands machine_start) target (scripts machine_start) target_start T telling.machine telling.judge failed [] now
+    HasTold stands scripts target target_start machine_start T (record telling { page = blank_page failed }) now
 
--- since the target was this at least what is told of this trace was written
-abbrev pub HasWrittenAtLeast : {M W : Type 0} → (M → Script) → Ghosts W → W → M → List Entry → Telling M W → W → Type 0
-HasWrittenAtLeast scripts target target_start machine_start T telling now = WroteTold target (scripts machine_start) target_start T telling.page.failed telling.page.held now
+-- Since the target was this, at least what is told of this trace was written; and after it, what was said to the page.
+pub record HasWrittenAtLeast {M W : Type 0} (scripts : M → Script) (target : Ghosts W) (target_start : W) (machine_start : M) (T : List Entry)
+    (telling : Telling M W) (now : W) : Type 0 where
+  pub within : (scripts machine_start).strict ≡ true → AllByRecursion AnnouncesWithin T
+  pub mid : W
+  pub said : List ℕ
+  pub wrote : target.taken mid ≡ target.taken target_start ++ told ((scripts machine_start).of_frame) T
+  pub carried : Carries target mid said telling.page now
 
--- the run stopped at the frame e, of which nothing was said
-abbrev pub HasStopped : {M W : Type 0} → (M → Script) → (M → List Entry → Entry → Type 0) → Ghosts W → W → M → List Entry → Entry → Fault → Telling M W → W → Type 0
-HasStopped scripts needs target target_start machine_start T e fault telling now =
-    StopsTelling target (scripts machine_start) (needs machine_start) target_start T e fault telling.page.failed telling.page.held now
+-- The frames of the trace were told, and the run stopped at the frame e, of which nothing was said.
+pub record HasStopped {M W : Type 0} (scripts : M → Script) (needs : M → List Entry → Entry → Type 0) (target : Ghosts W) (target_start : W) (machine_start : M)
+    (T : List Entry) (e : Entry) (why : Fault) (telling : Telling M W) (now : W) : Type 0 where
+  pub within : (scripts machine_start).strict ≡ true → AllByRecursion AnnouncesWithin T
+  pub reason : StopsFor (scripts machine_start).strict (needs machine_start) T e why
+  pub carried : Carries target target_start (told ((scripts machine_start).of_frame) T) telling.page now
 
--- nothing was told: the machine stands at its start, no message is judged and the page is blank
-abbrev pub HasToldNothing : {M W : Type 0} → (M → List Entry → M → Type 0) → Telling M W → Type 0
-HasToldNothing stands telling = IsTellingStart (stands telling.machine [] telling.machine) telling.judge telling.page.failed telling.page.held
-
--- this is what the frame e did after the frames T
+-- this is what the frame e did after the frames T: `IsEventOf` of an event with its line, time and direction beside it
 abbrev pub IsFrameEvent : List Entry → Entry → FrameEvent → Type 0
 IsFrameEvent T e frame = IsEventOf T e frame.line frame.micros frame.dir frame.event
 
@@ -104,7 +87,7 @@ pub record TellsFrame {M W A : Type 0} (stands : M → List Entry → M → Type
   pub kept : (target_start : W) (machine_start : M) (earlier : List Entry) → HasTold stands scripts target target_start machine_start T before old
       → HasWrittenAtLeast scripts target target_start machine_start earlier before old → HasWrittenAtLeast scripts target target_start machine_start earlier after new
 
--- A receiver took lines that mean this; where it stood at its start, it received their frames, and this is told of them.
+-- a receiver took lines that mean this; where it stood at its start, it received their frames, and this is told of them
 abbrev pub HasReceived : {M W : Type 0} → (M → List Entry → M → Type 0) → Ghosts W → Receiver M W → W → List (Option Stamped) → Receiver M W → Type 0 → Type 0
 HasReceived stands target before old meanings after IsTold =
     (after.config ≡ before.config) × (IsStart before.pair before.lines before.counts → Receives before.config meanings after.pair after.lines after.counts

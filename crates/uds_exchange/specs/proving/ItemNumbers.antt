@@ -11,8 +11,8 @@ item_count_after_step step.Removed count = count
 item_count_after_step step.Hold count = count + 1
 item_count_after_step step.Pass count = count + 1
 
--- the number of the open exchange after this step with a message whose item has this number, where the open exchange had that
--- number before, if one was open
+-- the number of the open exchange after this step with a message whose item has this number, where the open exchange
+-- had that number before, if one was open
 abbrev pub open_number_after_step : Step → ℕ → Option ℕ → Option ℕ
 open_number_after_step (step.Request service) number before = Some number
 open_number_after_step step.Answer number before = None

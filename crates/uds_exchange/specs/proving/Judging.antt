@@ -11,7 +11,8 @@ use Rattle.uds_exchange.specs.declared.step.Step.TheVariants as step
 
 -- what a judge keeps after this step
 abbrev pub judge_after_step : Step → Judge → Judge
-judge_after_step (step.Request service) judge = record judge { open_sid = Some service; items = one_more judge.items; held_count = 0 }
+judge_after_step (step.Request service) judge =
+    record judge { open_sid = Some service; items = one_more judge.items; held_count = 0 }
 judge_after_step step.Answer judge = record judge { open_sid = None; held_count = 0 }
 judge_after_step step.Removed judge = record judge { removed = one_more judge.removed }
 judge_after_step step.Hold judge = record judge { items = one_more judge.items; held_count = one_more judge.held_count }

@@ -37,4 +37,5 @@ items_with_other (Some place) items message =
 -- the items with one more message
 abbrev pub items_with : List ItemValue → Message → List ItemValue
 items_with items message =
-    if is_tester_request message then items ++ exchange message.1 None ∷ [] else items_with_other (open_exchange_in items) items message
+    if is_tester_request message then items ++ exchange message.1 None ∷ []
+    else items_with_other (open_exchange_in items) items message

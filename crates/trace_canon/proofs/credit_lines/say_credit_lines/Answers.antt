@@ -1,4 +1,4 @@
--- Line by line this is the text of all pairs.
+-- Line by line this is the text of all credit lines.
 use Rattle.trace_canon.proofs.credit_lines.say_credit_lines.Goals as goal
 
 pub lines-init : goal.lines-init

@@ -1,4 +1,4 @@
--- The lines of the pairs so far were said.
+-- The credit lines so far were said.
 use Rattle.std.proofs.Common.{take}
 use Rattle.trace_canon.specs.Finding.{credit_lines_text}
 use Rattle.trace_canon.proofs.credit_lines.say_credit_lines.Given as goal

@@ -8,4 +8,4 @@ use Rattle.trace_canon.proofs.explainer.explain.Goals as goal
 pub returns-clause-certificate : goal.returns-clause-certificate
 returns-clause-certificate g c = λ log agrees.
     let script = explain_script c.args.notation MESSAGE_LIMIT in
-    certifies script.word script.last tells_no_refusal c.args.config.now log _ c.run_lenient.result _ _ (c.run_lenient.ensures.ran.run.answer log agrees)
+    certifies script.of_frame script.at_the_end tells_no_refusal c.args.config.now log _ c.run_lenient.result _ _ (c.run_lenient.ensures.ran.run.answer log agrees)

@@ -2,7 +2,7 @@
 use Rattle.std.proofs.Common.{inl, inr, length, sym, ◌∙◌}
 use Rattle.std.proofs.lemmas.Bool.{leb-false, eqb-true}
 use Rattle.isotp_receive.specs.declared.TheConstants.{MESSAGE_LIMIT}
-use Rattle.trace_canon.proofs.CanonicalWriting.{frames_uncovered}
+use Rattle.trace_canon.proofs.Lengths.{frames_uncovered}
 use Rattle.trace_canon.proofs.length.has_frames.Goals as goal
 
 pub returns-then-not-is_empty-clause-none : goal.returns-then-not-is_empty-clause-none

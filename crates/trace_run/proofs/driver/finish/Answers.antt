@@ -1,8 +1,8 @@
 -- What was said at the end was settled, or writing failed: by what is carried to the page and what the machine answers.
-use Rattle.std.proofs.Common.{not, [], subst, Ok, Err}
+use Rattle.std.proofs.Common.{not, subst, Ok, Err}
 use Rattle.isotp_receive.specs.declared.TheConstants.{MESSAGE_LIMIT}
 use Rattle.trace_run.specs.declared.machine.NoAnswer.TheVariants.{OutputLimit}
-use Rattle.trace_run.specs.proving.Carrying.{Carries}
+use Rattle.trace_run.specs.proving.Carrying.{Carries, blank_page}
 use Rattle.trace_run.specs.Script.{whole_of_lines}
 use Rattle.trace_log.specs.Trace.{trace}
 use Rattle.trace_log.proofs.Promises.{handed_on}
@@ -15,8 +15,8 @@ returns-then-not-settle-clause-ends g c = λ start first settings log meanings r
     let W = g.W.Target in
     let script = g.M.Machine.script first in
     let counted = c.summary-summary.ensures settings log meanings received feed tells.judged in
-    subst (λ b. Carries W start (whole_of_lines script MESSAGE_LIMIT settings log meanings) (not b) [] c.settle.new.target) c.if-not-settle.true
-    (carried_at_the_end (g.M.Machine.stands first) W script start settings log meanings _ _ _ _ _ _ _ _ _ c.settle.result c.summary-summary.result tells counted
+    subst (λ b. Carries W start (whole_of_lines script MESSAGE_LIMIT settings log meanings) (blank_page (not b)) c.settle.new.target) c.if-not-settle.true
+    (carried_at_the_end g.M.Machine.stands g.M.Machine.script W start first settings log meanings _ _ _ _ _ c.settle.result c.summary-summary.result tells counted
     (c.tell_end-answer.ensures.says first (trace settings meanings) tells.machine_stands received.pair_is received.keeps) c.settle.ensures.settled)
 
 pub returns-clause-ends : goal.returns-clause-ends
@@ -27,8 +27,8 @@ returns-clause-ends g c = λ start first settings log meanings received feed tel
     let counted = c.summary-summary.ensures settings log meanings received feed tells.judged in (
       subst (λ s. M.answers first (trace settings meanings) s (Ok c.in_ok-answer.field-0)) counted
           (c.in_ok-answer.ensures.answered first (trace settings meanings) tells.machine_stands received.pair_is),
-      subst (λ b. Carries W start (whole_of_lines script MESSAGE_LIMIT settings log meanings) (not b) [] c.settle.new.target) c.if-not-settle.false
-          (carried_at_the_end (M.stands first) W script start settings log meanings _ _ _ _ _ _ _ _ _ c.settle.result c.summary-summary.result tells counted
+      subst (λ b. Carries W start (whole_of_lines script MESSAGE_LIMIT settings log meanings) (blank_page (not b)) c.settle.new.target) c.if-not-settle.false
+          (carried_at_the_end M.stands M.script W start first settings log meanings _ _ _ _ _ c.settle.result c.summary-summary.result tells counted
           (c.tell_end-answer.ensures.says first (trace settings meanings) tells.machine_stands received.pair_is received.keeps) c.settle.ensures.settled),
     )
 
@@ -42,8 +42,8 @@ returns-in_err-answer-clause-ends g c = λ start first settings log meanings rec
       subst (λ s. M.answers first (trace settings meanings) s (Err OutputLimit)) counted
           (subst (λ reason. M.answers first (trace settings meanings) c.summary-summary.result (Err reason)) (only_output_limit c.in_err-answer.field-0.0)
           (c.in_err-answer.ensures.answered first (trace settings meanings) tells.machine_stands received.pair_is)),
-      subst (λ b. Carries W start (whole_of_lines script MESSAGE_LIMIT settings log meanings) (not b) [] c.settle.new.target) c.if-not-settle.false
-          (carried_at_the_end (M.stands first) W script start settings log meanings _ _ _ _ _ _ _ _ _ c.settle.result c.summary-summary.result tells counted
+      subst (λ b. Carries W start (whole_of_lines script MESSAGE_LIMIT settings log meanings) (blank_page (not b)) c.settle.new.target) c.if-not-settle.false
+          (carried_at_the_end M.stands M.script W start first settings log meanings _ _ _ _ _ c.settle.result c.summary-summary.result tells counted
           (c.tell_end-answer.ensures.says first (trace settings meanings) tells.machine_stands received.pair_is received.keeps) c.settle.ensures.settled),
     )
 

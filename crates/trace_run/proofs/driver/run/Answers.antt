@@ -17,7 +17,8 @@ use Rattle.trace_log.specs.Answers.{ReadsWhile}
 use Rattle.trace_log.specs.Feeding.{TakesFront}
 use Rattle.trace_run.proofs.Runs.{TookLines, IsRunStart, starts_run, has_received}
 use Rattle.trace_run.proofs.ToldRuns.{needed, eagerly, more_given_up, wrote_no_line, ToldEvents, told_none, takes_nothing, gives, told_of_fault, known}
-use Rattle.trace_run.proofs.EndedRuns.{never_memory, fails_so, left_alone_so, reads_so, known_then, told_at_the_end}
+use Rattle.trace_run.proofs.EndedRuns.{never_memory, known_then, told_at_the_end}
+use Rattle.trace_run.proofs.DeviceFaults.{fails_so, left_alone_so, reads_so}
 use Rattle.trace_run.proofs.StoppedLines.{reads_near}
 use Rattle.trace_log.proofs.Promises.{some_log, when_ok}
 use Rattle.trace_run.proofs.driver.run.Given.{Over}
@@ -28,18 +29,22 @@ use Rattle.trace_run.proofs.driver.run.Goals as goal
 abbrev start : (g : Over) → After-start-receiver g → Receiver g.row.M.Denot g.row.W.Denot × g.row.W.Denot
 start g c = (c.start-receiver.result, c.args.target.now)
 
+-- it begins with nothing received and nothing told
 begun : (g : Over) (c : After-start-receiver g) → IsRunStart (HasToldNothing g.M.Machine.stands) c.args.config.now (start g c)
 begun g c =
     starts_run (HasToldNothing g.M.Machine.stands) c.args.config.now c.start.result c.start-receiver.result c.args.target.now c.start-receiver.ensures
     (told_none g.M.Machine.stands g.M.Machine.script g.M.Machine.needs g.W.Target c.args.machine c.start.result c.start.ensures.machine c.requires.machine c.start.ensures.judged c.start.ensures.well
     c.start.ensures.blank)
 
+-- the machine of its receiver is the one that was given
 same_machine : (g : Over) (c : After-start-receiver g) → c.start-receiver.result.telling.machine ≡ c.args.machine
 same_machine g c = ap (λ (t : Telling g.row.M.Denot g.row.W.Denot). t.machine) c.start-receiver.ensures.taker_is ∙ c.start.ensures.machine
 
+-- and so is its script
 same_script : (g : Over) (c : After-start-receiver g) → g.M.Machine.script c.start-receiver.result.telling.machine ≡ g.M.Machine.script c.args.machine
-same_script g c = ap g.M.Machine.script (ap (λ (t : Telling g.row.M.Denot g.row.W.Denot). t.machine) c.start-receiver.ensures.taker_is ∙ c.start.ensures.machine)
+same_script g c = ap g.M.Machine.script (same_machine g c)
 
+-- reading stops near to what stops the run
 near : (g : Over) (c : After-start-receiver g) (log : List ℕ) (given failures failures_now : ℕ)
     → ReadsWhile (TakesFront (TookLines (ToldEvents g.M.Machine.stands g.M.Machine.script g.M.Machine.needs g.W.Target)) (start g c) log) given failures failures_now
     → ReadsWhile (StopsNothingWithin (g.M.Machine.script c.args.machine).strict MESSAGE_LIMIT c.args.config.now log) given failures failures_now
@@ -128,6 +133,7 @@ ends g c log meanings feed lines =
     (has_received (ToldEvents M.stands M.script M.needs W) settings (start g at) now (begun g at) meanings lines) feed
     (gives M.stands M.script M.needs W settings (start g at) now (begun g at) c.requires.target meanings lines))
 
+-- where the run is strict, no frame of the lines announces a message above the limit
 within : (g : Over) (c : After-finish g) (meanings : List (Option Stamped))
     → TookLines (ToldEvents g.M.Machine.stands g.M.Machine.script g.M.Machine.needs g.W.Target) (c.start-receiver.result, c.args.target.now) meanings (c.feed_lines.new.taker, c.feed_lines.new.device)
     → (g.M.Machine.script c.args.machine).strict ≡ true → AllByRecursion AnnouncesWithin (trace c.args.config.now meanings)

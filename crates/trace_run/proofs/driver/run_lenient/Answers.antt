@@ -1,4 +1,4 @@
--- The parts of a run of which no announced length is one.
+-- A run of a script that is not strict is a run, of which a little more is known.
 use Rattle.trace_run.proofs.LenientRuns.{near_when_lenient, no_oversize, no_output_limit, needs_when_none}
 use Rattle.trace_log.proofs.Promises.{given_agrees}
 use Rattle.trace_run.specs.Script.{glimpse_of}

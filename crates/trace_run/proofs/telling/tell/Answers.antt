@@ -1,8 +1,7 @@
--- What the machine said to the sink was said to the page: the borrowed page and target are the ones that came back.
+-- What the machine said to the sink of a frame was said to the page: the borrowed page and target are those that came back.
 use Rattle.std.proofs.Common.{[], sym, subst}
 use Rattle.std.proofs.lemmas.Result.{on_ok_weaker, on_err_weaker}
 use Rattle.trace_run.specs.proving.Carrying.{Says}
-use Rattle.trace_run.specs.declared.page.Page.{Page}
 use Rattle.trace_run.proofs.telling.tell.Goals as goal
 
 pub returns-clause-ok : goal.returns-clause-ok
@@ -10,12 +9,12 @@ returns-clause-ok g c = on_ok_weaker c.event.result (λ says start T e seen stan
     let W = g.W.Target in
     let page = c.args.page.now in
     let said = says start T e seen stands in
-    let text = ((g.M.Machine.script start).word T e) in
+    let text = ((g.M.Machine.script start).of_frame T e) in
     let target_is = c.target-1.given.1 (sym said.1.0) in
     let page_is = c.page-1.given.1 (sym said.1.1) in (
       said.0,
-      subst (λ w. Says W page.failed page.held c.args.target.now text c.page-1.given.0.failed c.page-1.given.0.held w) (sym target_is)
-          (subst (λ (p : Page). Says W page.failed page.held c.args.target.now text p.failed p.held c.event.new.out.target.now) (sym page_is) said.1.2),
+      subst (λ w. Says W page c.args.target.now text c.page-1.given.0 w) (sym target_is)
+          (subst (λ p. Says W page c.args.target.now text p c.event.new.out.target.now) (sym page_is) said.1.2),
     )) c.event.ensures.ok
 
 pub returns-clause-err : goal.returns-clause-err
@@ -25,5 +24,5 @@ returns-clause-err g c = on_err_weaker c.event.result (λ says start T stands.
     let said = says start T stands in
     let target_is = c.target-1.given.1 (sym said.0) in
     let page_is = c.page-1.given.1 (sym said.1) in
-    subst (λ w. Says W page.failed page.held c.args.target.now [] c.page-1.given.0.failed c.page-1.given.0.held w) (sym target_is)
-    (subst (λ (p : Page). Says W page.failed page.held c.args.target.now [] p.failed p.held c.event.new.out.target.now) (sym page_is) said.2)) c.event.ensures.err
+    subst (λ w. Says W page c.args.target.now [] c.page-1.given.0 w) (sym target_is)
+    (subst (λ p. Says W page c.args.target.now [] p c.event.new.out.target.now) (sym page_is) said.2)) c.event.ensures.err

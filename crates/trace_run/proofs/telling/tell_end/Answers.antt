@@ -1,7 +1,6 @@
--- The same of what is said at the end.
+-- What the machine said to the sink at the end was said to the page: as in `tell`, what was borrowed came back.
 use Rattle.std.proofs.Common.{sym, subst}
 use Rattle.trace_run.specs.proving.Carrying.{Says}
-use Rattle.trace_run.specs.declared.page.Page.{Page}
 use Rattle.trace_run.proofs.telling.tell_end.Goals as goal
 
 pub returns-clause-says : goal.returns-clause-says
@@ -9,8 +8,8 @@ returns-clause-says g c = λ start T stands pair keeps.
     let W = g.W.Target in
     let page = c.args.page.now in
     let said = c.end.ensures.says start T stands pair keeps in
-    let text = ((g.M.Machine.script start).last T c.args.summary.now) in
+    let text = ((g.M.Machine.script start).at_the_end T c.args.summary.now) in
     let target_is = c.target-1.given.1 (sym said.0) in
     let page_is = c.page-1.given.1 (sym said.1) in
-    subst (λ w. Says W page.failed page.held c.args.target.now text c.page-1.given.0.failed c.page-1.given.0.held w) (sym target_is)
-    (subst (λ (p : Page). Says W page.failed page.held c.args.target.now text p.failed p.held c.end.new.out.target.now) (sym page_is) said.2)
+    subst (λ w. Says W page c.args.target.now text c.page-1.given.0 w) (sym target_is)
+    (subst (λ p. Says W page c.args.target.now text p c.end.new.out.target.now) (sym page_is) said.2)

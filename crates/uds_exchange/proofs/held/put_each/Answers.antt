@@ -3,9 +3,9 @@ use Rattle.std.proofs.Common.{sym, subst, ◌∙◌, ap, arith}
 use Rattle.direction.specs.declared.Dir.TheVariants.{Tester}
 use Rattle.uds_exchange.specs.declared.held.HeldMessage.{HeldMessage}
 use Rattle.uds_exchange.specs.Blocks.{bytes_at, IsInside}
-use Rattle.uds_exchange.proofs.Putting.{onto-next, onto-fault, onto-along}
+use Rattle.uds_exchange.proofs.PuttingMessages.{onto-next, onto-fault, onto-along}
 use Rattle.uds_exchange.proofs.HeldMessages.{held-at, next-held}
-use Rattle.uds_exchange.proofs.Variants.{handed_on}
+use Rattle.uds_exchange.proofs.Results.{handed_on}
 use Rattle.uds_exchange.proofs.held.put_each.Goals as goal
 
 none : HeldMessage

@@ -1,6 +1,6 @@
 -- What is left to be put, behind what was, makes all messages put.
 use Rattle.std.proofs.Common.{drop}
-use Rattle.uds_exchange.proofs.Putting.{Onto}
+use Rattle.uds_exchange.proofs.PuttingMessages.{Onto}
 use Rattle.uds_exchange.specs.proving.HeldMessages.{messages_at}
 use Rattle.uds_exchange.proofs.held.put_each.Given as goal
 

@@ -1,6 +1,6 @@
 -- The message was put and then those that are held, or a front of them, and then came the fault.
-use Rattle.uds_exchange.proofs.Putting.{fails-first, fails-cons}
-use Rattle.uds_exchange.proofs.Variants.{if_err_along, handed_on}
+use Rattle.uds_exchange.proofs.PuttingMessages.{fails-first, fails-cons}
+use Rattle.uds_exchange.proofs.Results.{if_err_along, handed_on}
 use Rattle.uds_exchange.proofs.judged_orderer.put_before.Goals as goal
 
 pub returns-in_err-put-clause-err : goal.returns-in_err-put-clause-err

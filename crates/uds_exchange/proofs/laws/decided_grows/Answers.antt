@@ -1,4 +1,4 @@
-use Rattle.uds_exchange.proofs.Deciding.{decided_grows}
+use Rattle.uds_exchange.proofs.DecidedOfMore.{decided_grows}
 use Rattle.uds_exchange.proofs.laws.decided_grows.Goals as goal
 
 pub returns : goal.returns

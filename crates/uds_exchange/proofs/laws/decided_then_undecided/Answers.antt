@@ -1,4 +1,4 @@
-use Rattle.uds_exchange.proofs.Deciding.{decided_then_undecided}
+use Rattle.uds_exchange.proofs.DecidedOfMore.{decided_then_undecided}
 use Rattle.uds_exchange.proofs.laws.decided_then_undecided.Goals as goal
 
 pub returns : goal.returns

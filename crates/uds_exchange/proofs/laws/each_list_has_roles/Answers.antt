@@ -1,4 +1,4 @@
-use Rattle.uds_exchange.proofs.ByRoles.{each-has-roles}
+use Rattle.uds_exchange.proofs.MessagesByRoles.{each-has-roles}
 use Rattle.uds_exchange.proofs.laws.each_list_has_roles.Goals as goal
 
 pub returns : goal.returns

@@ -1,4 +1,4 @@
-use Rattle.uds_exchange.proofs.Early.{early-grows}
+use Rattle.uds_exchange.proofs.EarlyOfMore.{early-grows}
 use Rattle.uds_exchange.proofs.laws.early_grows.Goals as goal
 
 pub returns : goal.returns

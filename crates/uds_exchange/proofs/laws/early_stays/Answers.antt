@@ -1,4 +1,4 @@
-use Rattle.uds_exchange.proofs.Early.{early-front}
+use Rattle.uds_exchange.proofs.EarlyOfMore.{early-front}
 use Rattle.uds_exchange.proofs.laws.early_stays.Goals as goal
 
 pub returns : goal.returns

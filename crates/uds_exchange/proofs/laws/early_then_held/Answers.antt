@@ -1,4 +1,4 @@
-use Rattle.uds_exchange.proofs.Early.{early-then-held}
+use Rattle.uds_exchange.proofs.EarlyOfMore.{early-then-held}
 use Rattle.uds_exchange.proofs.laws.early_then_held.Goals as goal
 
 pub returns : goal.returns

@@ -1,4 +1,4 @@
-use Rattle.uds_exchange.proofs.MustWait.{answer-first}
+use Rattle.uds_exchange.proofs.HeldMustWait.{answer-first}
 use Rattle.uds_exchange.proofs.laws.held_must_wait.Goals as goal
 
 pub returns : goal.returns

@@ -1,4 +1,4 @@
-use Rattle.uds_exchange.proofs.Again.{meaning-flattened}
+use Rattle.uds_exchange.proofs.MeantAgain.{meaning-flattened}
 use Rattle.uds_exchange.proofs.laws.meaning_is_kept.Goals as goal
 
 pub returns : goal.returns

@@ -1,4 +1,4 @@
-use Rattle.uds_exchange.proofs.Counts.{none-lost}
+use Rattle.uds_exchange.proofs.NoneLost.{none-lost}
 use Rattle.uds_exchange.proofs.laws.none_is_lost.Goals as goal
 
 pub returns : goal.returns

@@ -1,4 +1,4 @@
-use Rattle.uds_exchange.proofs.MustWait.{none-lost-in-order}
+use Rattle.uds_exchange.proofs.NoneLost.{none-lost-in-order}
 use Rattle.uds_exchange.proofs.laws.none_is_lost_in_order.Goals as goal
 
 pub returns : goal.returns

@@ -1,4 +1,4 @@
-use Rattle.uds_exchange.proofs.MustWait.{open-request-behind}
+use Rattle.uds_exchange.proofs.OpenRequests.{open-request-behind}
 use Rattle.uds_exchange.proofs.laws.open_request_is_last.Goals as goal
 
 pub returns : goal.returns

@@ -1,4 +1,4 @@
-use Rattle.uds_exchange.proofs.NextStep.{puts-end}
+use Rattle.uds_exchange.proofs.OrdererSteps.{puts-end}
 use Rattle.uds_exchange.proofs.laws.puts_end.Goals as goal
 
 pub returns : goal.returns

@@ -1,4 +1,4 @@
-use Rattle.uds_exchange.proofs.NextStep.{puts-go-on}
+use Rattle.uds_exchange.proofs.OrdererSteps.{puts-go-on}
 use Rattle.uds_exchange.proofs.laws.puts_go_on.Goals as goal
 
 pub returns : goal.returns

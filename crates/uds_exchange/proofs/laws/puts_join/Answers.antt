@@ -1,4 +1,4 @@
-use Rattle.uds_exchange.proofs.Putting.{puts-append}
+use Rattle.uds_exchange.proofs.PuttingMessages.{puts-append}
 use Rattle.uds_exchange.proofs.laws.puts_join.Goals as goal
 
 pub returns : goal.returns

@@ -1,4 +1,4 @@
-use Rattle.uds_exchange.proofs.Deciding.{undecided_must_wait}
+use Rattle.uds_exchange.proofs.DecidedOfMore.{undecided_must_wait}
 use Rattle.uds_exchange.proofs.laws.undecided_must_wait.Goals as goal
 
 pub returns : goal.returns

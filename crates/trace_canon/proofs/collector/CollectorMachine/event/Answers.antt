@@ -1,11 +1,10 @@
 -- A frame that completes a message has it collected; another one leaves all as it was.
 use Rattle.std.proofs.Common.{sym, subst}
-use Rattle.std.proofs.lemmas.Result.{on_ok_weaker}
+use Rattle.std.proofs.lemmas.Result.{MatchResult-weaker, on_ok_weaker}
 use Rattle.isotp_receive.specs.declared.TheConstants.{MESSAGE_LIMIT}
 use Rattle.isotp_receive.specs.Verdict.{messages}
 use Rattle.trace_run.proofs.Promises.{completes_judged, completes_none}
 use Rattle.trace_canon.specs.proving.SessionScript.{Collects}
-use Rattle.trace_canon.proofs.HandedOn.{any_err}
 use Rattle.trace_canon.proofs.CanonicalMachines.{completes_message}
 use Rattle.trace_canon.proofs.collector.CollectorMachine.event.Goals as goal
 
@@ -16,10 +15,10 @@ returns-clause-ok g c = on_ok_weaker c.take.result (λ taken start T e seen stoo
     (subst (λ N. Collects start.config N now.pairing now.length now.config) (sym completes.next) (taken start.config (messages MESSAGE_LIMIT T) completes.step stood), g.met.S.TextSink.nothing c.args._out.now)) c.take.ensures
 
 pub returns-clause-err : goal.returns-clause-err
-returns-clause-err g c = any_err c.take.result (λ start T stood. g.met.S.TextSink.nothing c.args._out.now)
+returns-clause-err g c = MatchResult-weaker c.take.result c.take.ensures (λ done taken. tt) (λ error taken start T stood. g.met.S.TextSink.nothing c.args._out.now)
 
 pub returns-clause-needs : goal.returns-clause-needs
-returns-clause-needs g c = any_err c.take.result (λ start T e seen stood.
+returns-clause-needs g c = MatchResult-weaker c.take.result c.take.ensures (λ done taken. tt) (λ error taken start T e seen stood.
     completes_message T e c.in-Some.message (completes_judged T e c.args.seen c.in-Some.message seen c.in-Some.is))
 
 pub returns-in_default-clause-ok : goal.returns-in_default-clause-ok

@@ -1,6 +1,7 @@
 -- A reception that ended has no start any more; where none did, all stay.
 use Rattle.std.proofs.Common.{ap, sym, ◌∙◌}
-use Rattle.trace_canon.specs.ReceptionStarts.{reception_start, still_begun}
+use Rattle.trace_canon.specs.ReceptionStarts.{reception_start}
+use Rattle.trace_canon.specs.proving.ReceptionStarts.{still_begun}
 use Rattle.trace_canon.proofs.reception_starts.ReceptionStarts.end.Goals as goal
 
 pub returns-in-Some : goal.returns-in-Some

@@ -1,5 +1,5 @@
 -- One direction has this start, and the other one its own.
-use Rattle.trace_canon.proofs.Begins.{of_tester, of_unit}
+use Rattle.trace_canon.proofs.MovedStarts.{of_tester, of_unit}
 use Rattle.trace_canon.proofs.reception_starts.ReceptionStarts.set.Goals as goal
 
 pub returns-in-Tester : goal.returns-in-Tester

@@ -6,7 +6,7 @@ use Rattle.isotp_receive.specs.Trace.{Entry}
 use Rattle.isotp_receive.specs.Verdict.{EventValue, messages, verdict}
 use Rattle.trace_canon.specs.MessageLines.{place_of}
 use Rattle.trace_canon.specs.declared.reception_starts.FramePlace.{FramePlace}
-use Rattle.trace_run.specs.Seen.{IsSeen}
+use Rattle.trace_run.specs.Seen.{IsEventOf, IsSeen}
 use Rattle.trace_run.specs.declared.machine.Seen.{Seen}
 use Rattle.trace_run.proofs.Promises.{completes_judged}
 use Rattle.trace_report.specs.proving.Following.{KnowsPlaces, row_if}
@@ -14,12 +14,16 @@ use Rattle.trace_report.specs.proving.Pages.{row_of}
 use Rattle.trace_report.proofs.Meeting.{message_event, met_next, met_none, rows_none, rows_of_message}
 use Rattle.trace_report.proofs.follower.Follower.take.Goals as goal
 
--- where the frame stands
-line_at : (T : List Entry) (e : Entry) (seen : Seen) (here : FramePlace) → IsSeen T e seen → here ≡ record { line = seen.line; micros = seen.micros } → e.line ≡ here.line
-line_at T e seen here is here_is = is.event.line ∙ ap (λ (p : FramePlace). p.line) (sym here_is)
-
-micros_at : (T : List Entry) (e : Entry) (seen : Seen) (here : FramePlace) → IsSeen T e seen → here ≡ record { line = seen.line; micros = seen.micros } → e.micros ≡ here.micros
-micros_at T e seen here is here_is = is.event.micros ∙ ap (λ (p : FramePlace). p.micros) (sym here_is)
+-- what the frame did there
+event_at : (T : List Entry) (e : Entry) (seen : Seen) (here : FramePlace) → IsSeen T e seen → here ≡ record { line = seen.line; micros = seen.micros }
+    → IsEventOf T e here.line here.micros seen.dir seen.event
+event_at T e seen here is here_is = record {
+  few = is.event.few;
+  line = is.event.line ∙ ap (λ (p : FramePlace). p.line) (sym here_is);
+  micros = is.event.micros ∙ ap (λ (p : FramePlace). p.micros) (sym here_is);
+  dir = is.event.dir;
+  did = is.event.did;
+}
 
 place_at : (T : List Entry) (e : Entry) (seen : Seen) (here : FramePlace) → IsSeen T e seen → here ≡ record { line = seen.line; micros = seen.micros } → here ≡ place_of e
 place_at T e seen here is here_is =
@@ -28,25 +32,24 @@ place_at T e seen here is here_is =
 pub returns-in-Some-clause-next : goal.returns-in-Some-clause-next
 returns-in-Some-clause-next c = λ T e seen known.
     let what = c.args.seen in
-    let at = seen.event in
     let here = c.here_of-here.result in
     let message = c.in-Some.message in
     let completes = completes_judged T e what message seen c.in-Some.is in
-    let micros = micros_at T e what here seen c.here_of-here.ensures in
+    let at = event_at T e what here seen c.here_of-here.ensures in
     record {
       met = met_next T e message.dir (verdict MESSAGE_LIMIT T e) completes.dir refl message.bytes.now here.micros c.args.self.now.asked c.take_message.new.self
-          completes.did (sym micros) known.met.asked_then
+          completes.did (sym at.micros) known.met.asked_then
           (c.take_message.ensures.next (messages MESSAGE_LIMIT T) completes.step completes.item known.met.waits known.met.silent);
       places = subst (λ p. KnowsPlaces (T ++ e ∷ []) p) (sym c.take_message.ensures.places)
-          (c.take-extent.ensures.next T e (line_at T e what here seen c.here_of-here.ensures) micros at.dir at.few at.did known.places);
+          (c.take-extent.ensures.next T e at known.places);
     }
 
 pub returns-in-Some-clause-rows : goal.returns-in-Some-clause-rows
 returns-in-Some-clause-rows c = λ T e seen known.
     let M = messages MESSAGE_LIMIT T in
     let what = c.args.seen in
-    let at = seen.event in
     let here = c.here_of-here.result in
+    let at = event_at T e what here seen c.here_of-here.ensures in
     let message = c.in-Some.message in
     let bytes = message.bytes.now in
     let completes = completes_judged T e what message seen c.in-Some.is in
@@ -55,8 +58,8 @@ returns-in-Some-clause-rows c = λ T e seen known.
     let ended = c.ended_row_of-first.ensures e stands in
     let closing = c.take_message.ensures.closing M completes.step known.met.waits known.met.silent in
     let row = c.take_message.ensures.row M completes.step completes.item in
-    let first = c.take-extent.ensures.first T e bytes (line_at T e what here seen c.here_of-here.ensures) (micros_at T e what here seen c.here_of-here.ensures) at.dir at.did told known.places in
-    let frames = c.take-extent.ensures.frames T e bytes at.dir at.few at.did told known.places in
+    let first = c.take-extent.ensures.first T e at known.places (bytes, completes.did) in
+    let frames = c.take-extent.ensures.frames T e at known.places (bytes, completes.did) in
     rows_of_message (row_if c.ended_row_of-first.result) (row_if c.take_message.result.0) (row_of c.take_message.result.1)
     ∙ (λ i. ended i ++ (closing i ++ row i ∷ []))
     ∙ message_event T e message.dir (seen_event what.event) bytes c.args.self.now.asked here c.take-extent.result completes.dir at.did told known.met.asked_then stands first frames
@@ -64,11 +67,10 @@ returns-in-Some-clause-rows c = λ T e seen known.
 pub returns-in-None-clause-next : goal.returns-in-None-clause-next
 returns-in-None-clause-next c = λ T e seen known.
     let what = c.args.seen in
-    let at = seen.event in
     let here = c.here_of-here.result in
     record {
       met = met_none T e what _ seen c.in-None.is (record { waits = known.met.waits; silent = known.met.silent; asked_then = known.met.asked_then });
-      places = c.take-extent.ensures.next T e (line_at T e what here seen c.here_of-here.ensures) (micros_at T e what here seen c.here_of-here.ensures) at.dir at.few at.did known.places;
+      places = c.take-extent.ensures.next T e (event_at T e what here seen c.here_of-here.ensures) known.places;
     }
 
 pub returns-in-None-clause-rows : goal.returns-in-None-clause-rows

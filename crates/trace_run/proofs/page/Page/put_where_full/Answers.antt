@@ -1,9 +1,9 @@
 -- The text was gathered, writing failed, or it had failed before, where only a front is known.
-use Rattle.std.proofs.Common.{◌<◌, arith, length, length-append, refl, ◌+◌, ◌++◌, true, false, ap, sym, subst, ◌∙◌}
+use Rattle.std.proofs.Common.{◌<◌, arith, length, length-append, ◌+◌, ◌++◌, false, ap, sym, subst, ◌∙◌}
 use Rattle.trace_io.proofs.Promises.{took_more}
 use Rattle.trace_run.specs.proving.Carrying.{Carries}
-use Rattle.trace_run.proofs.WrittenFronts.{front_behind, front_longer, written_behind}
-use Rattle.trace_run.proofs.page.Page.put_where_full.Goals.{then-self-via-then-self, then-self-via-else-self+then-failures-gt-MOST_FAILURES}
+use Rattle.trace_run.proofs.Carryings.{said_in_vain}
+use Rattle.trace_run.proofs.WrittenFronts.{front_behind, written_behind}
 use Rattle.trace_run.proofs.page.Page.put_where_full.Goals as goal
 
 pub returns-in-Err : goal.returns-in-Err
@@ -12,8 +12,8 @@ returns-in-Err g c = λ start said carries.
     let page = c.args.self.now in
     let failed = c.in-Err.ensures in
     let some_text : 0 < length c.args.text.now = c.requires in
-    let so_far : Carries W start said false page.held c.args.target.now =
-    subst (λ b. Carries W start said b page.held c.args.target.now) c.if-self.false carries in
+    let so_far : Carries W start said (record page { failed = false }) c.args.target.now =
+    subst (λ b. Carries W start said (record page { failed = b }) c.args.target.now) (c.may_write.ensures.well c.if-not-may_write.false) carries in
     record {
       low = so_far.low;
       held_some = λ some. omega (arith, some_text, length-append said c.args.text.now);
@@ -32,9 +32,9 @@ returns-in_default g c = λ start said carries.
     let page = c.args.self.now in
     let put = c.in_default.ensures in
     let some_text : 0 < length c.args.text.now = c.requires in
-    let so_far : Carries W start said false page.held c.args.target.now =
-    subst (λ b. Carries W start said b page.held c.args.target.now) c.if-self.false carries in
-    subst (λ b. Carries W start (said ++ c.args.text.now) b c.gather.new.held c.gather.new.target) (sym c.if-self.false) (record {
+    let so_far : Carries W start said (record page { failed = false }) c.args.target.now =
+    subst (λ b. Carries W start said (record page { failed = b }) c.args.target.now) (c.may_write.ensures.well c.if-not-may_write.false) carries in
+    subst (λ b. Carries W start (said ++ c.args.text.now) (record { held = c.gather.new.held; failed = b }) c.gather.new.target) (sym (c.may_write.ensures.well c.if-not-may_write.false)) (record {
       low = so_far.low;
       held_some = λ some. omega (arith, some_text, length-append said c.args.text.now);
       spoke = λ is. absurd (cc is);
@@ -46,27 +46,6 @@ returns-in_default g c = λ start said carries.
       written = written_behind (W.taken start) said c.args.text.now (W.taken c.args.target.now) page.held (W.taken c.gather.new.target) c.gather.new.held so_far.written put.taken;
     })
 
-pub returns-then-self : goal.returns-then-self
-returns-then-self g c = λ start said carries.
-    let W = g.W.Target in
-    let page = c.args.self.now in
-    elim c.then-self.branch [
-      | then-self-via-then-self w ↦
-          let so_far : Carries W start said true page.held c.args.target.now =
-          subst (λ b. Carries W start said b page.held c.args.target.now) w.if-self.true carries in
-          subst (λ b. Carries W start (said ++ c.args.text.now) b page.held c.args.target.now) (sym w.if-self.true) (record {
-            low = so_far.low;
-            held_some = λ some. omega (arith, so_far.held_some some, length-append said c.args.text.now);
-            spoke = λ is. omega (arith, so_far.spoke refl, length-append said c.args.text.now);
-            still = λ none. so_far.still (omega (arith, none, length-append said c.args.text.now));
-            failures = so_far.failures;
-            no_empty_write = so_far.no_empty_write;
-            flushes = so_far.flushes;
-            took = so_far.took;
-            written = front_longer (W.taken start) said c.args.text.now (W.taken c.args.target.now) so_far.written;
-          })
-      | then-self-via-else-self+then-failures-gt-MOST_FAILURES w ↦
-          let so_far : Carries W start said false page.held c.args.target.now =
-          subst (λ b. Carries W start said b page.held c.args.target.now) w.if-self.false carries in
-          absurd (omega (arith, so_far.low, so_far.failures, w.failures.ensures, w.if-failures-gt-MOST_FAILURES.true))
-    ]
+pub returns-then-not-may_write : goal.returns-then-not-may_write
+returns-then-not-may_write g c = λ start said carries.
+    said_in_vain g.W.Target start c.args.target.now said c.args.text.now c.args.self.now (c.may_write.ensures.wrong c.if-not-may_write.true start said carries) carries

@@ -2,17 +2,22 @@
 use Rattle.std.proofs.Common.{arith, refl, ◌+◌, ◌++◌, append-nil, false, [], Err, ap, sym, subst, ◌∙◌}
 use Rattle.trace_io.proofs.Promises.{took_more}
 use Rattle.trace_io.specs.Written.{HasFront}
-use Rattle.trace_run.specs.proving.Carrying.{Carries}
+use Rattle.trace_run.specs.proving.Carrying.{Carries, blank_page}
+use Rattle.trace_run.proofs.Carryings.{let_go}
 use Rattle.trace_run.proofs.WrittenFronts.{held_written, gathered_written, rest_along}
 use Rattle.trace_run.proofs.page.Page.settle.Goals as goal
+
+pub returns-then-not-may_write-clause-settled : goal.returns-then-not-may_write-clause-settled
+returns-then-not-may_write-clause-settled g c = λ start said carries.
+    let_go g.W.Target start c.args.target.now said c.args.self.now (c.may_write.ensures.wrong c.if-not-may_write.true start said carries) carries
 
 pub returns-in-Err-clause-settled : goal.returns-in-Err-clause-settled
 returns-in-Err-clause-settled g c = λ start said carries.
     let W = g.W.Target in
     let page = c.args.self.now in
     let failed = c.in-Err.ensures in
-    let so_far : Carries W start said false page.held c.args.target.now =
-    subst (λ b. Carries W start said b page.held c.args.target.now) c.if-self.false carries in
+    let so_far : Carries W start said (record page { failed = false }) c.args.target.now =
+    subst (λ b. Carries W start said (record page { failed = b }) c.args.target.now) (c.may_write.ensures.well c.if-not-may_write.false) carries in
     record {
       low = so_far.low;
       held_some = λ some. absurd (omega arith);
@@ -31,8 +36,8 @@ returns-clause-settled g c = λ start said carries.
     let W = g.W.Target in
     let page = c.args.self.now in
     let wrote = c.in_default.ensures in
-    let so_far : Carries W start said false page.held c.args.target.now =
-    subst (λ b. Carries W start said b page.held c.args.target.now) c.if-self.false carries in
+    let so_far : Carries W start said (record page { failed = false }) c.args.target.now =
+    subst (λ b. Carries W start said (record page { failed = b }) c.args.target.now) (c.may_write.ensures.well c.if-not-may_write.false) carries in
     record {
       low = so_far.low;
       held_some = λ some. absurd (omega arith);
@@ -67,5 +72,5 @@ returns-in-Err-clause-no_more g c = λ start said carries.
 pub returns-clause-no_more : goal.returns-clause-no_more
 returns-clause-no_more g c = λ start said carries.
     let W = g.W.Target in
-    subst (λ h. Carries W start said c.args.self.now.failed h c.write_all.new.target) (sym c.clear.ensures)
-    (subst (λ b. Carries W start said b [] c.write_all.new.target) (sym c.if-self.false) (returns-clause-settled g c start said carries))
+    subst (λ h. Carries W start said (record c.args.self.now { held = h }) c.write_all.new.target) (sym c.clear.ensures)
+    (subst (λ b. Carries W start said (blank_page b) c.write_all.new.target) (sym (c.may_write.ensures.well c.if-not-may_write.false)) (returns-clause-settled g c start said carries))

@@ -1,9 +1,7 @@
 -- The frame was handed on as an event, or memory was refused to its reception, and nothing was told.
 use Rattle.std.proofs.Common.{refl, inl}
 use Rattle.trace_log.specs.proving.Receiving.{entry_at}
-use Rattle.trace_log.specs.declared.fault.Fault.TheVariants.{Memory}
 use Rattle.trace_log.proofs.Promises.{announces_kept}
-use Rattle.trace_run.proofs.ToldFrames.{stops_before}
 use Rattle.trace_run.proofs.receiver.Receiver.receive.Goals as goal
 
 pub returns-in-Ok-clause-told : goal.returns-in-Ok-clause-told
@@ -13,12 +11,10 @@ returns-in-Ok-clause-told g c = λ T stands few.
 
 pub returns-in-Err-clause-told : goal.returns-in-Err-clause-told
 returns-in-Err-clause-told g c = λ T stands few.
-    let M = g.M.Machine in
     let e = entry_at c.args.line c.args.stamped.now c.args.dir in
     let kept = c.in-Err.ensures.refused T stands in
     record {
       ok = tt;
-      err = λ start first tells.
-          stops_before (M.stands first) g.W.Target (M.script first) (M.needs first) start T e _ _ _ _ _ Memory tells (λ strict. announces_kept T e kept, inl kept);
+      err = λ start first tells. record { within = tells.within; reason = (λ strict. announces_kept T e kept, inl kept); carried = tells.carried };
       kept = λ start first earlier tells sure. sure;
     }

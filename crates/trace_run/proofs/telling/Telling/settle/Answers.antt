@@ -1,47 +1,44 @@
 -- What is on the page is settled: so all that was told is written, or writing failed.
-use Rattle.std.proofs.Common.{[], false, arith, sym, subst}
+use Rattle.std.proofs.Common.{[], arith, false, subst}
 use Rattle.std.specs.Prelude.{not}
-use Rattle.trace_run.specs.proving.Carrying.{Carries}
-use Rattle.trace_run.specs.proving.Telling.{Tells}
+use Rattle.trace_run.specs.proving.Carrying.{Carries, blank_page}
+use Rattle.trace_run.specs.proving.Telling.{HasToldAndWritten}
 use Rattle.trace_run.specs.Script.{told}
-use Rattle.trace_run.proofs.Carryings.{wrote_all}
+use Rattle.trace_run.proofs.Carryings.{nothing_said, wrote_all}
 use Rattle.trace_run.proofs.ToldFrames.{settled_as, same_page}
-use Rattle.trace_run.proofs.ToldRuns.{blank_page}
 use Rattle.trace_run.proofs.telling.Telling.settle.Goals as goal
 
 pub returns-clause-well : goal.returns-clause-well
 returns-clause-well g c = λ is start first T tells.
     let M = g.M.Machine in
+    let W = g.W.Target in
     let self = c.args.self.now in
-    let now : Tells (M.stands first) g.W.Target (M.script first) start T self.machine self.judge false [] c.settle.new.target =
-    subst (λ b. Tells (M.stands first) g.W.Target (M.script first) start T self.machine self.judge (not b) [] c.settle.new.target) is
-    (settled_as (M.stands first) g.W.Target (M.script first) start T self.machine self.judge self.page.failed self.page.held _ _ c.settle.result
-    tells c.settle.ensures.settled) in
-    (now, same_page (M.stands first) g.W.Target (M.script first) start T self.machine self.judge _ _ c.settle.new.target now (c.settle.ensures.well is) (c.settle.ensures.blank is))
+    let now : HasToldAndWritten M.stands M.script W start first T self false c.settle.new.target =
+    subst (λ b. HasToldAndWritten M.stands M.script W start first T self (not b) c.settle.new.target) is
+    (settled_as M.stands M.script W start first T self _ _ c.settle.result tells c.settle.ensures.settled) in
+    (now, same_page M.stands M.script W start first T self c.settle.new.self c.settle.new.target now (c.settle.ensures.well is) (c.settle.ensures.blank is))
 
 pub returns-clause-wrong : goal.returns-clause-wrong
 returns-clause-wrong g c = λ is start first T tells.
     let M = g.M.Machine in
+    let W = g.W.Target in
     let self = c.args.self.now in
-    subst (λ b. Tells (M.stands first) g.W.Target (M.script first) start T self.machine self.judge (not b) [] c.settle.new.target) is
-    (settled_as (M.stands first) g.W.Target (M.script first) start T self.machine self.judge self.page.failed self.page.held _ _ c.settle.result
-    tells c.settle.ensures.settled)
+    subst (λ b. HasToldAndWritten M.stands M.script W start first T self (not b) c.settle.new.target) is
+    (settled_as M.stands M.script W start first T self _ _ c.settle.result tells c.settle.ensures.settled)
 
 pub returns-clause-sure : goal.returns-clause-sure
 returns-clause-sure g c = λ is start first T tells.
     let M = g.M.Machine in
     let W = g.W.Target in
-    let text = told ((M.script first).word) T in
-    let written : Carries W start text false [] c.settle.new.target =
-    subst (λ b. Carries W start text (not b) [] c.settle.new.target) is (c.settle.ensures.settled start text tells.carried) in
+    let text = told ((M.script first).of_frame) T in
+    let written : Carries W start text (blank_page false) c.settle.new.target =
+    subst (λ b. Carries W start text (blank_page (not b)) c.settle.new.target) is (c.settle.ensures.settled start text tells.carried) in
     record {
       within = tells.within;
       mid = c.settle.new.target;
       said = [];
       wrote = wrote_all W start c.settle.new.target text written;
-      carried =
-          subst (λ b. Carries W c.settle.new.target [] b c.settle.new.self.held c.settle.new.target) (sym (c.settle.ensures.well is))
-          (subst (λ h. Carries W c.settle.new.target [] false h c.settle.new.target) (sym (c.settle.ensures.blank is)) (blank_page W c.settle.new.target (omega (arith, written.failures))));
+      carried = nothing_said W c.settle.new.target c.settle.new.self (omega (arith, written.failures)) (c.settle.ensures.well is) (c.settle.ensures.blank is);
     }
 
 pub returns-clause-kept : goal.returns-clause-kept

@@ -1,12 +1,11 @@
--- The message is judged; then the run stops for its length, or the machine says its word, or is refused memory.
+-- The message is judged; then the run stops for its length, or the machine says its text, or is refused memory.
 use Rattle.std.proofs.Common.{◌<◌, ◌^◌, length, ◌++◌, [], ◌≡◌, arith, sym, subst, ◌∙◌, None, Some}
 use Rattle.isotp_receive.specs.declared.TheConstants.{MESSAGE_LIMIT}
 use Rattle.isotp_receive.specs.EventSeen.{seen_event}
 use Rattle.isotp_receive.specs.Verdict.{messages}
 use Rattle.isotp_receive.proofs.Promises.{messages_are_few}
-use Rattle.trace_log.specs.declared.fault.Fault.TheVariants.{Oversize}
 use Rattle.trace_run.specs.proving.Telling.{oversize_for}
-use Rattle.trace_run.proofs.ToldFrames.{tells_next, stops_at, stops_before}
+use Rattle.trace_run.proofs.ToldFrames.{tells_next, stops_at}
 use Rattle.trace_run.proofs.StoppedLines.{stopped_for, not_stopped_for}
 use Rattle.trace_run.proofs.telling.Telling.take.Goals as goal
 
@@ -20,9 +19,9 @@ returns-in-Some-clause-told g c = λ T e seen.
           let strict = c.is_strict.ensures first T tells.machine_stands in
           let why = stopped_for script.strict T e (seen_event c.args.frame.event) c.in-Some.announced seen.did
           (subst (λ b. oversize_for b (seen_event c.args.frame.event).verdict ≡ Some c.in-Some.announced) strict (sym c.oversize_for.ensures ∙ c.in-Some.is)) in
-          stops_before (M.stands first) g.W.Target script (M.needs first) start T e c.args.self.now.machine c.args.self.now.judge
-          c.args.self.now.page.failed c.args.self.now.page.held c.args.target.now (Oversize c.args.frame.line c.in-Some.announced) tells (why.0, sym seen.line, why.1);
-      kept = λ start first earlier tells sure. sure;
+          record { within = tells.within; reason = (why.0, sym seen.line, why.1); carried = tells.carried };
+      kept = λ start first earlier tells sure.
+          record { within = sure.within; mid = sure.mid; said = sure.said; wrote = sure.wrote; carried = sure.carried };
     }
 
 pub returns-in-Ok-clause-told : goal.returns-in-Ok-clause-told
@@ -34,14 +33,14 @@ returns-in-Ok-clause-told g c = λ T e seen.
           let script = M.script first in
           let strict = c.is_strict.ensures first T tells.machine_stands in
           let said = c.in-Ok.ensures.ok first T e (record { event = seen; message = c.judged_message-message.ensures.judged (messages MESSAGE_LIMIT T) few tells.judged.counted }) tells.machine_stands in
-          tells_next (M.stands first) g.W.Target script (M.needs first) start T e c.args.frame.line c.args.frame.dir (seen_event c.args.frame.event) seen.dir seen.did
-          _ _ _ _ _ _ _ _ _ _ tells (c.judged_message-message.ensures.next (messages MESSAGE_LIMIT T) few tells.judged) said.0
+          tells_next M.stands M.script g.W.Target start first T e c.args.frame.line c.args.frame.dir (seen_event c.args.frame.event) seen.dir seen.did
+          _ _ _ _ tells (c.judged_message-message.ensures.next (messages MESSAGE_LIMIT T) few tells.judged) said.0
           (not_stopped_for script.strict T e (seen_event c.args.frame.event) seen.did
           (subst (λ b. oversize_for b (seen_event c.args.frame.event).verdict ≡ None) strict (sym c.oversize_for.ensures ∙ c.in-None.is))) said.1;
       err = tt;
       kept = λ start first earlier tells sure.
           let said = c.in-Ok.ensures.ok first T e (record { event = seen; message = c.judged_message-message.ensures.judged (messages MESSAGE_LIMIT T) few tells.judged.counted }) tells.machine_stands in
-          record { within = sure.within; mid = sure.mid; said = sure.said ++ (M.script first).word T e; wrote = sure.wrote; carried = said.1 sure.mid sure.said sure.carried };
+          record { within = sure.within; mid = sure.mid; said = sure.said ++ (M.script first).of_frame T e; wrote = sure.wrote; carried = said.1 sure.mid sure.said sure.carried };
     }
 
 pub returns-in-Err-clause-told : goal.returns-in-Err-clause-told
@@ -54,7 +53,7 @@ returns-in-Err-clause-told g c = λ T e seen.
           let script = M.script first in
           let strict = c.is_strict.ensures first T tells.machine_stands in
           let needs = c.in-Err.ensures.needs first T e (record { event = seen; message = c.judged_message-message.ensures.judged (messages MESSAGE_LIMIT T) few tells.judged.counted }) tells.machine_stands in
-          stops_at (M.stands first) g.W.Target script (M.needs first) start T e _ _ _ _ _ _ _ _ tells
+          stops_at M.stands M.script g.W.Target start first T e M.needs _ _ _ _ tells
           (not_stopped_for script.strict T e (seen_event c.args.frame.event) seen.did
           (subst (λ b. oversize_for b (seen_event c.args.frame.event).verdict ≡ None) strict (sym c.oversize_for.ensures ∙ c.in-None.is)))
           needs (c.in-Err.ensures.err first T tells.machine_stands);

@@ -1,5 +1,5 @@
 -- What a judge keeps with one more message, and what it says of it, are what the messages say.
-use Rattle.uds_exchange.proofs.ItemNumbers.{counts-next, waits-found, step-found, number-found, sides-found}
+use Rattle.uds_exchange.proofs.JudgeCounts.{counts-next, waits-found, step-found, number-found, sides-found}
 use Rattle.uds_exchange.proofs.judge.Judge.take.Goals as goal
 
 pub returns-clause-next : goal.returns-clause-next

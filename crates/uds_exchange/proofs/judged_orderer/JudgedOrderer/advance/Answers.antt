@@ -2,7 +2,7 @@
 use Rattle.std.proofs.Common.{ap}
 use Rattle.uds_exchange.specs.Judging.{sent}
 use Rattle.uds_exchange.specs.Orderer.{JudgedOrdererValue}
-use Rattle.uds_exchange.proofs.Putting.{fails-first}
+use Rattle.uds_exchange.proofs.PuttingMessages.{fails-first}
 use Rattle.uds_exchange.proofs.judged_orderer.JudgedOrderer.advance.Goals as goal
 
 pub returns-in-Err-put-clause-err : goal.returns-in-Err-put-clause-err

@@ -6,8 +6,8 @@ use Rattle.uds_exchange.specs.proving.OpenExchange.{open_exchange_in}
 use Rattle.uds_exchange.specs.declared.step.Step.{Step}
 use Rattle.uds_exchange.specs.declared.step.Step.TheVariants as step
 use Rattle.uds_exchange.specs.proving.Pairing.{IsOpenPlace, items_after_step}
-use Rattle.uds_exchange.proofs.Kept.{kept-request, kept-stray, kept-answer, waits, waits-below, waits-exchange, answered, changes-answer}
-use Rattle.uds_exchange.proofs.Variants.{on_err}
+use Rattle.uds_exchange.proofs.PairingSteps.{kept-request, kept-stray, kept-answer, waits, waits-below, waits-exchange, answered, changes-answer}
+use Rattle.uds_exchange.proofs.Results.{on_err}
 use Rattle.uds_exchange.proofs.judged_pairing.JudgedPairing.advance.Goals as goal
 
 pub answer-requires : goal.answer-requires

@@ -2,7 +2,7 @@
 use Rattle.std.proofs.Common.{◌≡◌, ◌≢◌, ◌<◌, [], min, length, sym, ◌∙◌, arith, refl}
 use Rattle.direction.specs.declared.Dir.TheVariants.{Tester}
 use Rattle.uds_exchange.specs.Meaning.{stray}
-use Rattle.uds_exchange.proofs.Differences.{take-more-same, shorter-differs}
+use Rattle.uds_exchange.proofs.ListDifferences.{take-more-same, shorter-differs}
 use Rattle.uds_exchange.proofs.meaning.Meaning.first_difference.Goals as goal
 
 pub loop-i-preserved : goal.loop-i-preserved

@@ -3,7 +3,7 @@ use Rattle.std.proofs.Common.{◌∷◌, refl, subst}
 use Rattle.uds_exchange.specs.Blocks.{Lays}
 use Rattle.uds_exchange.specs.proving.Blocks.{block_bytes}
 use Rattle.uds_exchange.proofs.InBlocks.{lays-in-first, lays-anew}
-use Rattle.uds_exchange.proofs.Variants.{if_ok_by}
+use Rattle.uds_exchange.proofs.Results.{if_ok_by}
 use Rattle.uds_exchange.proofs.messages.Messages.lay_anew.Goals as goal
 
 pub returns-then-is_empty-clause-laid : goal.returns-then-is_empty-clause-laid

@@ -6,7 +6,8 @@ use Rattle.std.proofs.lemmas.List.{length-map}
 use Rattle.uds_exchange.specs.Blocks.{Lays}
 use Rattle.uds_exchange.specs.proving.Blocks.{block_bytes}
 use Rattle.uds_exchange.proofs.InBlocks.{lays-in-first, lays-in-later, same-bytes}
-use Rattle.uds_exchange.proofs.Variants.{if_ok_by, on_err_along}
+use Rattle.std.proofs.lemmas.Result.{on_err_weaker}
+use Rattle.uds_exchange.proofs.Results.{if_ok_by}
 use Rattle.uds_exchange.proofs.messages.Messages.lay_behind.Goals as goal
 
 pub returns-then-number-eq0-clause-laid : goal.returns-then-number-eq0-clause-laid
@@ -36,6 +37,6 @@ returns-else-number-eq0-clause-err c =
     let later = c.self.inside.later.items in
     let below : k < length later =
     omega (arith, c.requires.block, ap length c.self.view_is, length-map later (λ (b : Vec ℕ Global). b.items), c.if-number-eq0.false) in
-    on_err_along c.extend_block-else-number-eq0.result _ _
+    on_err_weaker c.extend_block-else-number-eq0.result
     (λ same. same-bytes c.self.inside.first later k below c.index_mut-block.result.now c.extend_block-else-number-eq0.new.block c.index_mut-block.ensures.value same ∙ c.self.view_is)
     c.extend_block-else-number-eq0.ensures.err

@@ -4,8 +4,8 @@ use Rattle.direction.specs.Dir.{Message}
 use Rattle.uds_exchange.specs.Judging.{IsOpenSid}
 use Rattle.uds_exchange.specs.Orderer.{IsHeld, OrdererValue}
 use Rattle.uds_exchange.specs.declared.order_fault.OrderFault.TheVariants.{Memory}
-use Rattle.uds_exchange.proofs.Fronts.{judged-after, stands-with, stands-without}
-use Rattle.uds_exchange.proofs.Variants.{handed_fault}
+use Rattle.uds_exchange.proofs.OwnJudges.{judged-after, stands-with, stands-without}
+use Rattle.uds_exchange.proofs.Results.{handed_fault}
 use Rattle.uds_exchange.proofs.orderer.Orderer.take.Goals as goal
 
 pub returns-clause-stands : goal.returns-clause-stands

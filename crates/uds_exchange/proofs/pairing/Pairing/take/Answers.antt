@@ -1,8 +1,8 @@
 -- The judge judges behind the messages so far, so what the inner pairing says of them holds.
 use Rattle.std.proofs.Common.{◌∷◌, [], ◌++◌, ◌∙◌, ap}
 use Rattle.uds_exchange.specs.Meaning.{meaning}
-use Rattle.uds_exchange.proofs.Fronts.{judged-after, open-in}
-use Rattle.uds_exchange.proofs.Variants.{on_err}
+use Rattle.uds_exchange.proofs.OwnJudges.{judged-after, open-in}
+use Rattle.uds_exchange.proofs.Results.{on_err}
 use Rattle.uds_exchange.proofs.pairing.Pairing.take.Goals as goal
 
 pub returns-in_err-take-clause-needs : goal.returns-in_err-take-clause-needs

@@ -1,11 +1,12 @@
 -- The messages of a meaning and the removed ones are as many as the list's.
-use Rattle.std.proofs.Common.{◌≡◌, ℕ, ◌+◌, List, [], ◌∷◌, length, Option, Some, None, arith, inl, inr, length-append}
+use Rattle.std.proofs.Common.{◌≡◌, ℕ, ◌+◌, List, [], ◌∷◌, length, Option, Some, None, arith, inl, inr, length-append, ◌++◌}
 use Rattle.std.specs.List.{flat_map}
 use Rattle.std.proofs.lemmas.Bool.{cases_Bool}
 use Rattle.direction.specs.Dir.{Message}
-use Rattle.uds_exchange.specs.Meaning.{is_tester_request, is_answer_to, is_pending_reply_to, before_requests, Part, parts, answer, strays_in}
-use Rattle.uds_exchange.specs.Meaning.{removed, removed_of, removed_messages, items_of, meaning, flattened}
-use Rattle.uds_exchange.proofs.InOrder.{kept, stays, flattened-part, flattened-meaning}
+use Rattle.uds_exchange.specs.Meaning.{is_tester_request, is_answer_to, is_pending_reply_to, before_requests, Part, parts, answer, strays_in, removed, removed_of, removed_messages, items_of, meaning, flattened}
+use Rattle.uds_exchange.specs.Order.{held, early}
+use Rattle.uds_exchange.proofs.MessagesOfParts.{kept, stays, flattened-part, flattened-meaning}
+use Rattle.uds_exchange.proofs.EarlyOfMore.{early-then-held}
 
 -- one more stray is one more message that stays
 kept-length : (a : Option (List ℕ)) (x : Message) (o : List Message) → length (kept a (x ∷ o)) ≡ length (kept a o) + 1
@@ -57,3 +58,6 @@ pub none-lost : (M : List Message) → length (flattened (meaning M)) + length (
 none-lost M =
     let tail = flattened (flat_map items_of (parts M)) in
     rw flattened-meaning (omega (arith, length-append (before_requests M) tail, items-size (parts M), parts-size M))
+
+pub none-lost-in-order : (M : List Message) → length (early M ++ held M) + length (removed_messages M) ≡ length M
+none-lost-in-order M = rw early-then-held (none-lost M)

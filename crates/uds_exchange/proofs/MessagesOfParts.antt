@@ -1,5 +1,5 @@
--- The messages of a meaning in order, part by part: those before the first request, and then each request with its answer and
--- its strays.
+-- The messages of a meaning in order, part by part: those before the first request, and then each request with its
+-- answer and its strays.
 use Rattle.std.proofs.Common.{◌≡◌, ℕ, List, [], ◌∷◌, ◌++◌, map, Option, Some, None, refl, ◌∙◌, ap}
 use Rattle.std.specs.List.{flat_map}
 use Rattle.std.proofs.lemmas.Grind.{flat_map-append}

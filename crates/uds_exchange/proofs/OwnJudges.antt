@@ -1,4 +1,4 @@
--- A judge before a pairing: what it says of one more message is so.
+-- A pairing or an orderer with a judge of its own: what the judge says of one more message is so.
 use Rattle.std.proofs.Common.{◌≡◌, ℕ, List, [], ◌∷◌, ◌++◌, Option, option_map, false, sym, ◌∙◌, ap}
 use Rattle.direction.specs.Dir.{Message}
 use Rattle.uds_message.specs.Message.{sid}

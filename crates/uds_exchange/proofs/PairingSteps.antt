@@ -1,16 +1,19 @@
--- What the code keeps of a meaning, and what it makes of one more message.
-use Rattle.std.proofs.Common.{◌≡◌, ◌≢◌, ℕ, ◌<◌, not, ◌&&◌, List, [], ◌∷◌, ◌++◌, length, Option, Some, None, refl, sym, ◌∙◌, ap, arith, inl, inr, option_map}
+-- A pairing does with one more message what the longer list means, and keeps the place of the open exchange.
+use Rattle.std.proofs.Common.{◌≡◌, ◌≢◌, ℕ, ◌<◌, List, [], ◌∷◌, ◌++◌, length, Option, Some, None, refl, sym, ◌∙◌, ap, arith, inl, inr, option_map}
 use Rattle.std.specs.Prelude.{slice_get, slice_set}
 use Rattle.std.proofs.lemmas.Option.{slice_get_within, same_Some, none-some}
 use Rattle.std.proofs.lemmas.Bool.{cases_Bool}
 use Rattle.direction.specs.Dir.{Message}
-use Rattle.uds_message.specs.Message.{is_final_for, is_pending_for}
 use Rattle.uds_exchange.specs.declared.step.Step.TheVariants as step
-use Rattle.uds_exchange.specs.Meaning.{ItemValue, exchange, stray_of, is_from_tester, is_tester_request, is_answer_to, is_pending_reply_to}
+use Rattle.uds_exchange.specs.Meaning.{ItemValue, exchange, stray_of, is_tester_request, is_answer_to, is_pending_reply_to, meaning}
 use Rattle.uds_exchange.specs.proving.OpenExchange.{open_exchange_in, open_sid_in}
 use Rattle.uds_exchange.specs.proving.Pairing.{IsOpenPlace, items_after_step, items_with_other, items_with}
 use Rattle.uds_exchange.specs.OneMessage.{step_if_open, step_of}
+use Rattle.uds_exchange.specs.Judging.{step_after}
+use Rattle.uds_exchange.specs.declared.step.Step.{Step}
 use Rattle.uds_exchange.proofs.OpenExchange.{sid_of, open_exchange-stray, open_exchange-request, open_exchange-at, open_exchange-answered}
+use Rattle.uds_exchange.proofs.MeaningOfMore.{meaning-append}
+use Rattle.uds_exchange.proofs.HeldOfMore.{step-is}
 
 join_by-step : (its : List ItemValue) (w : Option (ℕ × List ℕ)) (x : Message) → items_with_other w its x ≡ items_after_step (step_if_open (sid_of w) x) w its x
 join_by-step its None x = refl
@@ -24,17 +27,10 @@ pub join-step : (its : List ItemValue) (x : Message) → items_with its x ≡ it
 join-step its x =
     elim (cases_Bool (is_tester_request x)) [ inl e ↦ rw e refl | inr e ↦ rw e (join_by-step its (open_exchange_in its) x) ]
 
--- a message that is no request does not become one
-pub not-request : (s : ℕ) (o : Option ℕ) (x : Message) → step.Request s ≡ step_if_open o x → ⊥
-not-request s None x h = cc
-not-request s (Some w) x h =
-    elim (cases_Bool (not (is_from_tester x.0) && is_final_for w x.1)) [
-      | inl e ↦ (let no : step.Request s ≡ step.Answer = rw e at h in cc)
-      | inr e ↦ elim (cases_Bool (not (is_from_tester x.0) && is_pending_for w x.1)) [
-        | inl q ↦ (let no : step.Request s ≡ step.Removed = rw (e, q) at h in cc)
-        | inr q ↦ (let no : step.Request s ≡ step.Hold = rw (e, q) at h in cc)
-      ]
-    ]
+-- the items with one more message, by the step that was found
+pub items-found : (M : List Message) (x : Message) (s : Step) (its : List ItemValue) → its ≡ meaning M → s ≡ step_after M x → items_after_step s (open_exchange_in its) its x ≡ meaning (M ++ x ∷ [])
+items-found M x s its is step_is =
+    (λ i. items_after_step ((step_is ∙ sym (step-is M x)) i) (open_exchange_in (is i)) (is i) x) ∙ sym (join-step (meaning M) x) ∙ sym (meaning-append M x)
 
 -- ---- the exchange that waits, by its place
 

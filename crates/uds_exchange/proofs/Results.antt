@@ -11,14 +11,6 @@ pub if_ok_by : {T E : Type 0} (r : Result T E) (B : Type 0) (P Q : T → Type 0)
 if_ok_by (Ok x) B P Q f b p = f b x p
 if_ok_by (Err e) B P Q f b p = tt
 
-pub on_ok_along : {T E : Type 0} (r : Result T E) (P Q : Type 0) → (P → Q) → OnOk r P → OnOk r Q
-on_ok_along (Ok x) P Q f h = f h
-on_ok_along (Err e) P Q f h = tt
-
-pub on_err_along : {T E : Type 0} (r : Result T E) (P Q : Type 0) → (P → Q) → OnErr r P → OnErr r Q
-on_err_along (Ok x) P Q f h = tt
-on_err_along (Err e) P Q f h = f h
-
 pub on_err : {T E : Type 0} (r : Result T E) (P : Type 0) → P → OnErr r P
 on_err (Ok x) P h = tt
 on_err (Err e) P h = h

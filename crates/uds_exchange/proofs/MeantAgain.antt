@@ -7,8 +7,8 @@ use Rattle.std.proofs.lemmas.Bool.{cases_Bool, false≢true}
 use Rattle.direction.specs.Dir.{Message}
 use Rattle.direction.specs.declared.Dir.TheVariants.{Tester, Unit}
 use Rattle.uds_exchange.specs.Meaning.{is_answer_to, is_pending_reply_to, before_requests, Part, part, parts, answer, strays_in, items_of, meaning, flattened}
-use Rattle.uds_exchange.proofs.Parts.{Quiet, quiet-before_requests, before_requests-append, parts-append, quiet-strays_in, Good, good-parts}
-use Rattle.uds_exchange.proofs.InOrder.{kept, stays, flattened-part, flattened-meaning}
+use Rattle.uds_exchange.proofs.RequestsInParts.{Quiet, quiet-before_requests, before_requests-append, parts-append, quiet-strays_in, Good, good-parts}
+use Rattle.uds_exchange.proofs.MessagesOfParts.{kept, stays, flattened-part, flattened-meaning}
 
 -- where nothing answers, what is left has neither an answer nor a pending reply
 unanswered : (r : List ℕ) (xs : List Message) → answer r xs ≡ None

@@ -9,13 +9,13 @@ use Rattle.direction.specs.Dir.{Message}
 use Rattle.direction.specs.declared.Dir.{Dir}
 use Rattle.direction.specs.declared.Dir.TheVariants.{Tester, Unit}
 use Rattle.uds_exchange.specs.Meaning.{ItemValue, exchange, stray, is_tester_request, is_answer_to, is_pending_reply_to, meaning, flattened}
-use Rattle.uds_exchange.specs.proving.OpenExchange.{one_later, open_exchange_in}
+use Rattle.uds_exchange.specs.proving.OpenExchange.{open_exchange_in}
 use Rattle.uds_exchange.specs.proving.Pairing.{items_with_other, items_with}
 use Rattle.uds_exchange.specs.Order.{has_exchange, held_in, held, early}
 use Rattle.uds_exchange.proofs.OpenExchange.{has-more, has-last, has-set, open_exchange-at, one_later-none, one_later-some}
 use Rattle.uds_exchange.proofs.Replies.{from-tester, from-unit}
-use Rattle.uds_exchange.proofs.InOrder.{flattened-push}
-use Rattle.uds_exchange.proofs.OneMore.{meaning-append}
+use Rattle.uds_exchange.proofs.MessagesOfParts.{flattened-push}
+use Rattle.uds_exchange.proofs.MeaningOfMore.{meaning-append}
 
 -- the messages of the items before those that are held
 abbrev pub early_in : List ItemValue → List Message

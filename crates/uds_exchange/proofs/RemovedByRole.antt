@@ -11,8 +11,8 @@ use Rattle.uds_exchange.specs.Roles.{those_removed}
 use Rattle.uds_exchange.specs.Order.{has_exchange}
 use Rattle.uds_exchange.specs.proving.OpenExchange.{open_exchange_in}
 use Rattle.uds_exchange.proofs.OpenExchange.{request_of, same-request}
-use Rattle.uds_exchange.proofs.OneMore.{grown, grows, no-strays, open_exchange-cons, has-behind, has-items, one-part}
-use Rattle.uds_exchange.proofs.RolesFound.{role_by, role_behind}
+use Rattle.uds_exchange.proofs.MeaningOfMore.{grown, grows, no-strays, open_exchange-cons, has-behind, has-items, one-part}
+use Rattle.uds_exchange.proofs.OneRole.{role_by, role_behind}
 
 abbrev open_if : Option (List ℕ) → List ℕ → Option (List ℕ)
 open_if None request = Some request

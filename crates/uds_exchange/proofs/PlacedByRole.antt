@@ -1,4 +1,4 @@
--- The messages of a meaning, by the roles of the list's messages.
+-- One more message is placed among the messages of a meaning by its role.
 use Rattle.std.specs.Prelude.{⊤}
 use Rattle.std.proofs.Common.{◌≡◌, ℕ, true, false, List, [], ◌∷◌, ◌++◌, map, Option, Some, None, refl, ◌∙◌, ap, inl, inr}
 use Rattle.std.specs.Prelude.{slice_set}
@@ -15,11 +15,11 @@ use Rattle.uds_exchange.specs.Order.{has_exchange}
 use Rattle.uds_exchange.specs.proving.OpenExchange.{open_exchange_in}
 use Rattle.uds_exchange.specs.proving.Pairing.{items_with_other}
 use Rattle.uds_exchange.proofs.OpenExchange.{one_later-some}
-use Rattle.uds_exchange.proofs.OneMore.{meaning-append}
-use Rattle.uds_exchange.proofs.Parts.{Quiet, quiet-before_requests, quiet-strays_in, Good, good-parts}
-use Rattle.uds_exchange.proofs.InOrder.{flattened-push}
+use Rattle.uds_exchange.proofs.MeaningOfMore.{meaning-append}
+use Rattle.uds_exchange.proofs.RequestsInParts.{Quiet, quiet-before_requests, quiet-strays_in, Good, good-parts}
+use Rattle.uds_exchange.proofs.MessagesOfParts.{flattened-push}
 use Rattle.uds_exchange.proofs.Replies.{from-tester, from-unit}
-use Rattle.uds_exchange.proofs.RolesFound.{role_by, role_behind}
+use Rattle.uds_exchange.proofs.OneRole.{role_by, role_behind}
 
 -- the exchanges have requests, and no stray is one
 abbrev Sound : List ItemValue → Type 0

@@ -4,9 +4,9 @@ use Rattle.std.proofs.lemmas.List.{append-nil}
 use Rattle.direction.specs.Dir.{Message}
 use Rattle.uds_exchange.specs.Meaning.{meaning, flattened, removed_messages}
 use Rattle.uds_exchange.specs.Roles.{MessageRole, as_request, as_answer, as_removed, as_stray, AreRoles, placed, arranged, those_removed}
-use Rattle.uds_exchange.proofs.RolesFound.{role_behind, has-role, only-role}
-use Rattle.uds_exchange.proofs.Placed.{flattened-meaning-append}
-use Rattle.uds_exchange.proofs.RemovedOnes.{removed_messages-append}
+use Rattle.uds_exchange.proofs.OneRole.{role_behind, has-role, only-role}
+use Rattle.uds_exchange.proofs.PlacedByRole.{flattened-meaning-append}
+use Rattle.uds_exchange.proofs.RemovedByRole.{removed_messages-append}
 
 -- the roles of the messages after `past`
 roles_of : List Message → List Message → List MessageRole

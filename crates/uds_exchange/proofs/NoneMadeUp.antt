@@ -6,9 +6,9 @@ use Rattle.std.proofs.lemmas.Bool.{cases_Bool, and_parts}
 use Rattle.direction.specs.Dir.{Message}
 use Rattle.uds_exchange.specs.Meaning.{is_tester_request, meaning, flattened}
 use Rattle.uds_exchange.specs.Roles.{MessageRole, as_request, as_answer, as_removed, as_stray, behind_last_request, placed}
-use Rattle.uds_exchange.proofs.Bools.{all-append}
-use Rattle.uds_exchange.proofs.RolesFound.{role_behind}
-use Rattle.uds_exchange.proofs.Placed.{flattened-meaning-append}
+use Rattle.uds_exchange.proofs.ListTests.{all-append}
+use Rattle.uds_exchange.proofs.OneRole.{role_behind}
+use Rattle.uds_exchange.proofs.PlacedByRole.{flattened-meaning-append}
 
 module _ (passes : Message → Bool) where
   all-behind : (out : List Message) (x : Message) → list_all passes out ≡ true → passes x ≡ true

@@ -1,5 +1,5 @@
--- What is decided as a meaning grows, and that a decider does just that.
-use Rattle.std.proofs.Common.{◌≡◌, ℕ, true, false, option_map, List, [], ◌∷◌, ◌++◌, map, Option, Some, None, refl, sym, ◌∙◌, ap, inl, inr, append_assoc}
+-- What is decided, as a meaning grows.
+use Rattle.std.proofs.Common.{◌≡◌, ℕ, false, List, [], ◌∷◌, ◌++◌, map, Option, Some, None, refl, sym, ◌∙◌, ap, inl, inr, append_assoc}
 use Rattle.std.specs.Prelude.{slice_set}
 use Rattle.std.proofs.lemmas.List.{append-nil}
 use Rattle.std.proofs.lemmas.Bool.{cases_Bool}
@@ -7,24 +7,18 @@ use Rattle.std.proofs.lemmas.Option.{same_Some, none-some}
 use Rattle.direction.specs.Dir.{Message}
 use Rattle.direction.specs.declared.Dir.{Dir}
 use Rattle.uds_exchange.specs.Decided.{decided_in, decided, exchange_items}
-use Rattle.uds_exchange.specs.Decider.{DeciderValue, decider_after, AreDecidedBy, IsKept}
+use Rattle.uds_exchange.specs.Decider.{DeciderValue, decider_after, AreDecidedBy}
 use Rattle.uds_exchange.specs.Laws.{open_with, DecidedThenUndecided, DecidedGrows, UndecidedMustWait}
 use Rattle.uds_exchange.specs.Meaning.{ItemValue, exchange, stray, stray_of, is_tester_request, is_answer_to, is_pending_reply_to, meaning, flattened}
 use Rattle.uds_exchange.specs.Order.{has_exchange, open_request_in, open_request, held_in, held, rejection_of}
-use Rattle.uds_exchange.specs.proving.Deciding.{step_in, decided_for, decided_by, decider_after_step, decider_with, Refuses}
-use Rattle.uds_message.specs.Message.{sid}
-use Rattle.uds_exchange.specs.Judging.{step_after}
-use Rattle.uds_exchange.proofs.Kept.{not-request}
-use Rattle.uds_exchange.specs.proving.OpenExchange.{one_later, open_exchange_in}
+use Rattle.uds_exchange.specs.proving.Deciding.{decided_by}
+use Rattle.uds_exchange.specs.proving.OpenExchange.{open_exchange_in}
 use Rattle.uds_exchange.specs.proving.Pairing.{items_with_other, items_with}
-use Rattle.uds_exchange.specs.proving.Steps.{Standing, standing_after, standing_after_step}
-use Rattle.uds_exchange.specs.declared.step.Step.{Step}
-use Rattle.uds_exchange.specs.declared.step.Step.TheVariants as step
-use Rattle.uds_exchange.proofs.MustWait.{open-request-waits, open-request-behind, rejects}
-use Rattle.uds_exchange.proofs.NextStep.{stands-next}
-use Rattle.uds_exchange.proofs.OneMore.{meaning-append}
+use Rattle.uds_exchange.proofs.OpenRequests.{open-request-waits, open-request-behind}
+use Rattle.uds_exchange.proofs.HeldMustWait.{rejects}
+use Rattle.uds_exchange.proofs.MeaningOfMore.{meaning-append}
 use Rattle.uds_exchange.proofs.OpenRequestOfMore.{open_request_goes_on}
-use Rattle.uds_exchange.proofs.OpenExchange.{has-more, has-last, has-set, open_exchange-at, one_later-none, one_later-some, request_of}
+use Rattle.uds_exchange.proofs.OpenExchange.{has-more, has-last, has-set, open_exchange-at, one_later-none, one_later-some, request_of, no-exchange}
 
 -- items without an exchange are the strays of their messages
 strays-again : (its : List ItemValue) → has_exchange its ≡ false → map stray_of (flattened its) ≡ its
@@ -98,20 +92,15 @@ decided-answered (exchange q None ∷ its) w a h =
           let more = has-set its v.0.0 v.0.1 None (Some a) (open_exchange-at its v.0 v.1) ∙ e in
           rw (v.2, more, e) (ap (λ l. exchange q None ∷ l) (decided-answered its v.0 a v.1)))
       | inr e ↦ (let same : (0, q) ≡ w = same_Some _ _ (rw e at h) in
-          rw (← same, e) (ap (λ l. exchange q (Some a) ∷ l) (decided-alone its e)))
+          rw (← same, e) (ap (λ l. exchange q (Some a) ∷ l) (decided-all its (no-exchange its e) ∙ sym (strays-again its e))))
     ]
-  where
-    decided-alone : (xs : List ItemValue) → has_exchange xs ≡ false → decided_in xs ≡ map stray_of (flattened xs)
-    decided-alone [] none = refl
-    decided-alone (exchange r c ∷ xs) none = cc
-    decided-alone (stray d m ∷ xs) none = ap (λ l. stray d m ∷ l) (decided-alone xs none)
 
 -- a decider, by the exchange that waits
-abbrev standing : Option (ℕ × List ℕ) → List Message → DeciderValue
-standing w holds = record { request = request_of w; holds = holds }
+abbrev decider-by : Option (ℕ × List ℕ) → List Message → DeciderValue
+decider-by w holds = record { request = request_of w; holds = holds }
 
 joined : (its : List ItemValue) (x : Message) (w : Option (ℕ × List ℕ)) → is_tester_request x ≡ false → open_exchange_in its ≡ w
-    → decided_in (items_with_other w its x) ≡ decided_in its ++ decided_by (standing w (held_in its)) x
+    → decided_in (items_with_other w its x) ≡ decided_in its ++ decided_by (decider-by w (held_in its)) x
 joined its x None r h = rw r (decided-stray its x.0 x.1 h ∙ ap (λ l. l ++ stray_of x ∷ []) (sym (decided-all its h)))
 joined its x (Some w) r h =
     elim (cases_Bool (is_answer_to w.1 x)) [
@@ -122,7 +111,7 @@ joined its x (Some w) r h =
       ]
     ]
 
-more : (its : List ItemValue) (x : Message) → decided_in (items_with its x) ≡ decided_in its ++ decided_by (standing (open_exchange_in its) (held_in its)) x
+more : (its : List ItemValue) (x : Message) → decided_in (items_with its x) ≡ decided_in its ++ decided_by (decider-by (open_exchange_in its) (held_in its)) x
 more its x =
     elim (cases_Bool (is_tester_request x)) [
       | inl e ↦ rw e (decided-request its x.1 ∙ sym (whole its) ∙ ap (λ o. decided_in its ++ exchange_items o None (held_in its)) (open-request-waits its))
@@ -135,59 +124,6 @@ decided-by M x d is =
     ap decided_in (meaning-append M x) ∙ more (meaning M) x
     ∙ ap (λ (o : Option (List ℕ)). let s : DeciderValue = record { request = o; holds = held M } in decided M ++ decided_by s x) (sym (open-request-waits (meaning M)))
     ∙ ap (λ s. decided M ++ decided_by s x) (sym is)
-
--- ---- what a decider keeps
-
-request-kept : (o : Option (List ℕ)) (holds : List Message) (x : Message) → (decider_with (record { request = o; holds = holds }) x).request ≡ open_with o x
-request-kept None holds x = elim (cases_Bool (is_tester_request x)) [ inl e ↦ rw e refl | inr e ↦ rw e refl ]
-request-kept (Some r) holds x =
-    elim (cases_Bool (is_tester_request x)) [
-      | inl e ↦ rw e refl
-      | inr e ↦ elim (cases_Bool (is_answer_to r x)) [
-        | inl a ↦ rw (e, a) refl
-        | inr a ↦ elim (cases_Bool (is_pending_reply_to r x)) [ inl q ↦ rw (e, a, q) refl | inr q ↦ rw (e, a, q) refl ]
-      ]
-    ]
-
-holds-same : (s : Step) (d : DeciderValue) (o : Standing) (x : Message) → d.holds ≡ o.holds → (decider_after_step s d x).holds ≡ (standing_after_step s o x).holds
-holds-same (step.Request service) d o x is = refl
-holds-same step.Answer d o x is = refl
-holds-same step.Removed d o x is = is
-holds-same step.Hold d o x is = ap (λ l. l ++ x ∷ []) is
-holds-same step.Pass d o x is = is
-
-holds-kept : (M : List Message) (x : Message) → (decider_with (decider_after M) x).holds ≡ held (M ++ x ∷ [])
-holds-kept M x = holds-same (step_in (decider_after M) x) (decider_after M) (standing_after M) x refl ∙ ap (λ (o : Standing). o.holds) (stands-next M x)
-
--- it is where it stands after the longer list
-pub keeps-next : (M : List Message) (x : Message) → decider_with (decider_after M) x ≡ decider_after (M ++ x ∷ [])
-keeps-next M x =
-    let request = request-kept (open_request M) (held M) x ∙ sym (open_request_goes_on M x) in
-    let holds = holds-kept M x in
-    (λ i. record { request = request i; holds = holds i })
-
--- by the step that was found
-pub keeps-found : (M : List Message) (x : Message) (s : Step) (d : DeciderValue) → d ≡ decider_after M → s ≡ step_after M x → decider_after_step s d x ≡ decider_after (M ++ x ∷ [])
-keeps-found M x s d is step_is = (λ i. decider_after_step (step_is i) (is i) x) ∙ keeps-next M x
-
-pub decided-found : (M : List Message) (x : Message) (s : Step) (d : DeciderValue) → d ≡ decider_after M → s ≡ step_after M x → AreDecidedBy M x (decided_for s d x)
-decided-found M x s d is step_is = decided-by M x (decider_after M) refl ∙ (λ i. decided M ++ decided_for (sym step_is i) (sym is i) x)
-
--- a step that begins an exchange is one of a request
-asks : (M : List Message) (x : Message) (service : ℕ) → step_after M x ≡ step.Request service → is_tester_request x ≡ true
-asks M x service is =
-    elim (cases_Bool (is_tester_request x)) [
-      | inl e ↦ e
-      | inr e ↦ absurd (not-request service (option_map sid (open_request M)) x (sym is ∙ rw e refl))
-    ]
-
--- where memory is refused, the message is one that is kept
-pub refuses-kept : (M : List Message) (x : Message) (s : Step) (d : DeciderValue) → d ≡ decider_after M → s ≡ step_after M x → Refuses s d x → IsKept M x
-refuses-kept M x s d is step_is (inl begins) = inl (asks M x begins.0 (sym step_is ∙ begins.1))
-refuses-kept M x s d is step_is (inr holds) =
-    inr (sym (ap (λ (d : DeciderValue). d.holds) (keeps-found M x s d is step_is)) ∙ holds ∙ ap (λ (d : DeciderValue). d.holds ++ x ∷ []) is)
-
--- ---- the laws
 
 pub decided_then_undecided : DecidedThenUndecided
 decided_then_undecided M = whole (meaning M)

@@ -1,5 +1,5 @@
 -- What is held must wait: the open request's answer would come before it.
-use Rattle.std.proofs.Common.{◌≡◌, ◌≢◌, ℕ, ◌+◌, true, false, ◌&&◌, List, [], ◌∷◌, ◌++◌, length, Option, Some, None, refl, sym, ◌∙◌, ap, subst, inl, inr, append_assoc, ◌==◌, ◌↔◌}
+use Rattle.std.proofs.Common.{◌≡◌, ◌≢◌, ℕ, ◌+◌, true, false, ◌&&◌, List, [], ◌∷◌, ◌++◌, Option, Some, None, refl, sym, ◌∙◌, ap, inl, inr, append_assoc, ◌==◌}
 use Rattle.std.specs.Prelude.{slice_set}
 use Rattle.std.specs.List.{list_any}
 use Rattle.std.proofs.lemmas.List.{append-nil}
@@ -8,45 +8,25 @@ use Rattle.std.proofs.Math.Bool.{or-true}
 use Rattle.std.proofs.lemmas.Option.{same_Some, none-some}
 use Rattle.direction.specs.Dir.{Message}
 use Rattle.uds_message.specs.Message.{is_request, is_response_sid}
-use Rattle.uds_exchange.specs.Meaning.{ItemValue, exchange, stray, is_tester_request, is_answer_to, is_pending_reply_to, meaning, flattened, removed_messages}
+use Rattle.uds_exchange.specs.Meaning.{ItemValue, exchange, is_tester_request, is_answer_to, is_pending_reply_to, meaning, flattened}
 use Rattle.uds_exchange.specs.Roles.{IsOpenBehind}
-use Rattle.uds_exchange.specs.Order.{has_exchange, open_request_in, open_request, held_in, held, early, rejection_of}
+use Rattle.uds_exchange.specs.Order.{open_request_in, held_in, held, early, rejection_of}
 use Rattle.uds_exchange.specs.proving.OpenExchange.{open_exchange_in}
 use Rattle.uds_exchange.specs.proving.Pairing.{items_with_other, items_with}
-use Rattle.uds_exchange.proofs.Counts.{none-lost}
-use Rattle.uds_exchange.proofs.OpenExchange.{request_of, same-request, open_exchange-stray, open_exchange-answered}
-use Rattle.uds_exchange.proofs.Bools.{any-append, any-first}
-use Rattle.uds_exchange.proofs.OneMore.{meaning-append}
-use Rattle.uds_exchange.proofs.OpenRequests.{opens, waits-open}
-use Rattle.uds_exchange.proofs.Early.{early_in, early-held, early-is, early-then-held, early-request, early-kept, early-answered, none-held}
+use Rattle.uds_exchange.proofs.OpenExchange.{request_of, open_exchange-stray, open_exchange-answered}
+use Rattle.uds_exchange.proofs.ListTests.{any-append, any-first}
+use Rattle.uds_exchange.proofs.MeaningOfMore.{meaning-append}
+use Rattle.uds_exchange.proofs.OpenRequests.{opens, open-request-waits}
+use Rattle.uds_exchange.proofs.EarlyOfMore.{early_in, early-held, early-is, early-request, early-kept, early-answered, none-held}
 use Rattle.uds_exchange.proofs.Replies.{from-unit}
 
--- the open request is that of the exchange which waits
-pub open-request-waits : (its : List ItemValue) → open_request_in its ≡ request_of (open_exchange_in its)
-open-request-waits [] = refl
-open-request-waits (stray d m ∷ its) = open-request-waits its ∙ same-request (open_exchange_in its)
-open-request-waits (exchange q (Some b) ∷ its) = open-request-waits its ∙ same-request (open_exchange_in its)
-open-request-waits (exchange q None ∷ its) =
-    elim (cases_Bool (has_exchange its)) [ inl e ↦ rw e (open-request-waits its ∙ same-request (open_exchange_in its)) | inr e ↦ rw e refl ]
+none-waits : (o : Option (ℕ × List ℕ)) → request_of o ≡ None → o ≡ None
+none-waits None h = refl
+none-waits (Some w) h = cc
 
-waits-by : (o : Option (ℕ × List ℕ)) (r : List ℕ) → request_of o ≡ Some r → (w : ℕ × List ℕ) × (o ≡ Some w) × (w.1 ≡ r)
-waits-by None r h = cc
-waits-by (Some w) r h = (w, refl, same_Some _ _ h)
-
-pub open-request-behind : (M : List Message) (r : List ℕ) → (open_request M ≡ Some r) ↔ IsOpenBehind M r
-open-request-behind M r = (
-  λ h.
-      let w = waits-by (open_exchange_in (meaning M)) r (sym (open-request-waits (meaning M)) ∙ h) in
-      subst (IsOpenBehind M) w.2 (opens M w.0 w.1),
-  λ o. open-request-waits (meaning M) ∙ ap request_of (waits-open M r o).1,
-)
-
+-- where no request is open nothing is held
 pub nothing-held : (its : List ItemValue) → open_request_in its ≡ None → held_in its ≡ []
-nothing-held [] h = refl
-nothing-held (stray d m ∷ its) h = nothing-held its h
-nothing-held (exchange q (Some b) ∷ its) h = nothing-held its h
-nothing-held (exchange q None ∷ its) h =
-    elim (cases_Bool (has_exchange its)) [ inl e ↦ rw e (nothing-held its (rw e at h)) | inr e ↦ absurd (none-some _ (sym (rw e at h))) ]
+nothing-held its h = none-held its (none-waits (open_exchange_in its) (sym (open-request-waits its) ∙ h))
 
 -- no message that is held answers the request that waits
 abbrev NoAnswerHeld : List ItemValue → Type 0
@@ -118,6 +98,3 @@ answer-first M x more h = answer-first-by (open_exchange_in (meaning M)) refl wh
             ∙ ap (λ l. l ++ rejection_of w.1 ∷ held M) (sym (early-is M)),
         λ e. false≢true (sym none ∙ any-first (is_answer_to w.1) x more (ap (is_answer_to w.1) e ∙ yes)),
       )
-
-pub none-lost-in-order : (M : List Message) → length (early M ++ held M) + length (removed_messages M) ≡ length M
-none-lost-in-order M = rw early-then-held (none-lost M)

@@ -1,19 +1,21 @@
--- Where the receptions that stand began, by what one frame does.
-use Rattle.std.proofs.Common.{◌≡◌, Bool, true, false, List, ℕ, Option, None, Some, refl}
+-- Where the receptions that stand began, moved by what one frame does.
+use Rattle.std.proofs.Common.{◌≡◌, Bool, true, false, List, [], ℕ, Option, None, Some, refl}
 use Rattle.std.specs.Prelude.{if◌then◌else◌}
 use Rattle.direction.specs.declared.Dir.{Dir}
 use Rattle.direction.specs.declared.Dir.TheVariants.{Tester, Unit}
+use Rattle.isotp_receive.specs.declared.TheConstants.{MESSAGE_LIMIT}
+use Rattle.isotp_receive.specs.declared.event.Reason.{Reason}
 use Rattle.isotp_receive.specs.Trace.{same_direction}
 use Rattle.isotp_receive.specs.Verdict.{message, began, stored, flowed, dropped}
-use Rattle.isotp_receive.specs.declared.event.Reason.{Reason}
-use Rattle.trace_canon.specs.ReceptionStarts.{reception_start, start_after_verdict}
-use Rattle.trace_canon.specs.declared.reception_starts.ReceptionStarts.{ReceptionStarts}
+use Rattle.trace_canon.specs.ReceptionStarts.{AreStartsAfter, reception_start}
 use Rattle.trace_canon.specs.declared.reception_starts.FramePlace.{FramePlace}
+use Rattle.trace_canon.specs.declared.reception_starts.ReceptionStarts.{ReceptionStarts}
+use Rattle.trace_canon.specs.proving.ReceptionStarts.{start_after_verdict}
 
--- none stands
-pub none_begun : (d : Dir) → reception_start (record { tester = None; unit = None }) d ≡ None
-none_begun Tester = refl
-none_begun Unit = refl
+-- before the first frame none stands
+pub none_begun : AreStartsAfter MESSAGE_LIMIT [] (record { tester = None; unit = None })
+none_begun Tester earlier = refl
+none_begun Unit earlier = refl
 
 -- that of one direction is another now
 pub of_tester : (begun : Option FramePlace) (old : ReceptionStarts) (d : Dir) → reception_start (record { tester = begun; unit = old.unit }) d ≡ (if same_direction d Tester then begun else reception_start old d)
