@@ -1,6 +1,6 @@
 -- What is known of two logs that are kept is known of them side by side.
 use Rattle.std.proofs.Common.{◌≡◌, ◌≢◌, ℕ, List, Result, Ok, Err, ap, sym, subst, ◌∙◌}
-use Rattle.std.specs.Prelude.{IfErr, ⊥}
+use Rattle.std.specs.Prelude.{IfErr}
 use Rattle.trace_canon.specs.Compared.{fault_in}
 use Rattle.trace_io.specs.declared.device.Source.{Ghosts as SourceGhosts}
 use Rattle.trace_log.specs.Devices.{ReadFrom}

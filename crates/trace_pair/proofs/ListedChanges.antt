@@ -1,5 +1,5 @@
 -- The lines of the changes in a list, one row after another.
-use Rattle.std.proofs.Common.{◌≡◌, ℕ, suc, ◌+◌, ◌-◌, ◌≤◌, ◌<◌, List, [], ◌∷◌, ◌++◌, take, Option, Some, None, ap, sym, ◌∙◌, arith, append_assoc, refl}
+use Rattle.std.proofs.Common.{◌≡◌, ℕ, suc, ◌+◌, ◌-◌, ◌≤◌, ◌<◌, List, [], ◌∷◌, ◌++◌, take, Option, Some, None, ap, sym, ◌∙◌, arith, refl}
 use Rattle.std.specs.Prelude.{◌==◌, if◌then◌else◌}
 use Rattle.std.proofs.lemmas.List.{take_all}
 use Rattle.text_parts.proofs.Promises.{IsLeft, same-rest, said-whole, say-more}
@@ -31,10 +31,10 @@ module _ {S : Type 0} (says : S → List ℕ → S → Type 0) (onward : (s m t 
       let line = difference_line one other number it in
       let rest = difference_lines one other listed (number + 1) (take (listed + 1 - (number + 1)) later) in
       let more : listed + 1 - number ≡ suc (listed + 1 - (number + 1)) = omega arith in
-      let first : difference_lines one other listed number (take (listed + 1 - number) all) ≡ start ++ line ++ rest =
+      let first : difference_lines one other listed number (take (listed + 1 - number) all) ≡ (start ++ line) ++ rest =
       ap (λ (l : List Change). difference_lines one other listed number (take (listed + 1 - number) l)) (some it refl)
       ∙ ap (λ (n : ℕ). difference_lines one other listed number (take n (it ∷ later))) more in
-      say-more says onward old now new (start ++ line) rest whole (same-rest says old now _ _ whole (first ∙ sym (append_assoc start line rest)) left) said
+      say-more says onward old now new (start ++ line) rest whole (same-rest says old now _ _ whole first left) said
 
   pub turn-change : (number : ℕ) (front : Row) (i j a b : ℕ) (rows later : List Row) (row : Row) (found : Option Change) (now new : S) → number ≤ listed
       → rows ≡ row ∷ later → found ≡ found_at front i j row later → a ≡ left_in row → b ≡ right_in row → Listed number (changes_from front i j rows) now

@@ -1,7 +1,7 @@
 -- What a list has from one place up to another.
 use Rattle.std.proofs.Common.{◌≡◌, ℕ, zero, suc, ◌+◌, ◌-◌, ◌≤◌, ◌<◌, List, [], ◌∷◌, ◌++◌, length, take, drop, Some, None, arith, ap, sym, ◌∙◌, refl}
 use Rattle.std.specs.Prelude.{slice_get}
-use Rattle.std.proofs.lemmas.List.{drop-drop, drop-take, drop_all, take-append-drop, take_all}
+use Rattle.std.proofs.lemmas.List.{drop-drop, drop-take, drop_all, take-append-drop, take-take, take_all}
 use Rattle.std.proofs.lemmas.Option.{none-some, same_Some}
 
 module _ {X : Type 0} where
@@ -36,11 +36,6 @@ module _ {X : Type 0} where
   cut-past xs at to past = take-nothing (to - at) (drop at xs) (drop_all at xs past)
 
   -- two pieces that stand one behind the other
-  take-front : (n m : ℕ) (xs : List X) → take n (take (n + m) xs) ≡ take n xs
-  take-front zero m xs = refl
-  take-front (suc n) m [] = refl
-  take-front (suc n) m (x ∷ xs) = ap (λ (l : List X). x ∷ l) (take-front n m xs)
-
   pub cut-joined : (xs : List X) (a b c : ℕ) → a ≤ b → b ≤ c
       → take (c - a) (drop a xs) ≡ take (b - a) (drop a xs) ++ take (c - b) (drop b xs)
   cut-joined xs a b c up further =
@@ -48,6 +43,6 @@ module _ {X : Type 0} where
       let place : a + (b - a) ≡ b = omega arith in
       ap (λ (n : ℕ). take n (drop a xs)) whole
       ∙ sym (take-append-drop (b - a) (take ((b - a) + (c - b)) (drop a xs)))
-      ∙ ap (λ (l : List X). l ++ drop (b - a) (take ((b - a) + (c - b)) (drop a xs))) (take-front (b - a) (c - b) (drop a xs))
+      ∙ ap (λ (l : List X). l ++ drop (b - a) (take ((b - a) + (c - b)) (drop a xs))) (take-take (b - a) ((b - a) + (c - b)) (drop a xs) (omega arith))
       ∙ ap (λ (l : List X). take (b - a) (drop a xs) ++ l)
       (drop-take (b - a) (c - b) (drop a xs) ∙ ap (take (c - b)) (drop-drop (b - a) a xs ∙ ap (λ (n : ℕ). drop n xs) place))

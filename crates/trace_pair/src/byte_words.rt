@@ -2,7 +2,7 @@
 ghost use Rattle.std.specs.Prelude.{◌≡◌, slice_get};
 
 use byte_columns::{Beside, Column};
-use text_parts::{Either, Part, When, say};
+use text_parts::{Either, Part, say};
 use trace_io::TextSink;
 use trace_text::{Byte, Number, Place};
 
@@ -122,6 +122,6 @@ impl Part for LengthsWords {
             Number(right as u64),
             " in B",
         );
-        say(out, When(left != right, words));
+        say(out, Either(left == right, "", words));
     }
 }

@@ -4,7 +4,7 @@ use crate::change_words::Tag;
 use crate::differ_words::DifferWords;
 use crate::item_row::Begun;
 use crate::sessions::item_of;
-use text_parts::{Part, When, say};
+use text_parts::{Either, Part, say};
 use trace_io::TextSink;
 use trace_report::PlacedItem;
 use trace_text::Number;
@@ -71,7 +71,7 @@ impl<'a> Part for ChangeWords<'a> {
                 (
                     "<b class=\"tag\">",
                     Tag(kind),
-                    When(count != 1, (": ", Number(count as u64), " items")),
+                    Either(count == 1, "", (": ", Number(count as u64), " items")),
                     "</b>",
                 ),
             ),
@@ -93,23 +93,21 @@ impl Part for Navigation {
         if all == 1 {
             return;
         }
-        say(
-            out,
-            (
-                "<span class=\"nav\">",
-                Number(number),
-                " of ",
-                Number(all),
-                " ",
-            ),
+        let front = (
+            "<span class=\"nav\">",
+            Number(number),
+            " of ",
+            Number(all),
+            " ",
         );
         if number < all {
+            let next = ("<a href=\"#d", Number(number + 1), "\">next</a>");
+            say(out, (front, next, "</span>"));
+        } else {
             say(
                 out,
-                ("<a href=\"#d", Number(number + 1), "\">next</a></span>"),
+                (front, "<a href=\"#differences\">list</a>", "</span>"),
             );
-        } else {
-            say(out, "<a href=\"#differences\">list</a></span>");
         }
     }
 }

@@ -7,7 +7,7 @@ use crate::differ_words::DifferWords;
 use crate::item_words::{OutcomeOf, Title};
 use crate::sessions::{Sessions, item_at};
 use shown_rows::Change;
-use text_parts::{Part, say};
+use text_parts::{Either, Part, say};
 use trace_io::TextSink;
 use trace_report::Session;
 use trace_text::{Number, Place};
@@ -29,16 +29,12 @@ pub(crate) fn say_change_line<S: TextSink>(
 {
     say(out, "<span class=\"where\">");
     say_where(linked, number, change, out);
-    say(
-        out,
-        (
-            "</span> <b class=\"tag\">",
-            Tag(change.kind),
-            "</b> <span class=\"what\">",
-        ),
-    );
+    say(out, "</span> <b class=\"tag\">");
+    say(out, Tag(change.kind));
+    say(out, "</b> <span class=\"what\">");
     say_what(sessions, change, out);
-    say(out, (unclean, "</span>"));
+    say(out, unclean);
+    say(out, "</span>");
 }
 
 /// Whether both logs are not clean at a change.
@@ -123,10 +119,16 @@ pub(crate) fn say_items_range<S: TextSink>(
     requires { before + count < 2 ^ 63 }
     ensures { S.says out.old (items_range log.now before count) out.new }
 {
-    say(out, (log, "&#160;", Place(before)));
-    if count != 1 {
-        say(out, ("&#8211;", Number((before + count) as u64)));
-    }
+    let last = ("&#8211;", Number((before + count) as u64));
+    say(
+        out,
+        (
+            log,
+            "&#160;",
+            Place(before),
+            Either(count == 1, "", last),
+        ),
+    );
 }
 
 /// Says what a change is.

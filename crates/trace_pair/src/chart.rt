@@ -8,7 +8,7 @@ ghost use Rattle.trace_pair.specs.proving.Marks.{marked_of};
 use crate::column_lines::{Sides, say_columns};
 use crate::log::Log;
 use byte_columns::Beside;
-use text_parts::{Part, When, say};
+use text_parts::{Either, Part, When, say};
 use trace_io::TextSink;
 use trace_report::{
     Arrow, CellEnd, CellFront, ChartHead, Data, KeptRows, MessageFront, MessageRole, Note,
@@ -45,17 +45,13 @@ pub(crate) fn say_chart<S: TextSink>(
     let end = to.min(from.saturating_add(MOST_ROWS));
     say(out, ChartHead);
     say_rows(log, marked, session.first(), rows, from, end, out);
-    say(
-        out,
-        (
-            ChartEnd {
-                more: to.saturating_sub(end),
-                empty: from == end,
-                ends: to == rows.len(),
-            },
-            "</table>\n",
-        ),
-    );
+    let rest = ChartEnd {
+        more: to.saturating_sub(end),
+        empty: from == end,
+        ends: to == rows.len(),
+    };
+    say(out, rest);
+    say(out, "</table>\n");
 }
 
 /// Says the rows from one place up to another. A body of the table begins with the first, and with each request.
@@ -123,13 +119,8 @@ fn say_row<S: TextSink>(
                 ),
             );
             say_data(log, message, counterpart(marked, role, place.item), out);
-            say(
-                out,
-                (
-                    Note(role, place, message.len() as u64),
-                    CellEnd(dir, Arrow::Headed),
-                ),
-            );
+            say(out, Note(role, place, message.len() as u64));
+            say(out, CellEnd(dir, Arrow::Headed));
         }
         Row::NoAnswer { number, silent } => say_no_answer_row(number, silent, out),
         Row::Dropped {
@@ -190,17 +181,13 @@ impl Part for ChartEnd {
     ghost text = { λ end. chart_end end.more end.empty end.ends };
 
     fn say<S: TextSink>(self, out: &mut S) {
-        if self.more == 1 {
-            say(out, WordsRow("<i>1 row more, not shown here</i>"));
-        } else if self.more > 1 {
-            say(
-                out,
-                WordsRow((
-                    "<i>",
-                    Number(self.more as u64),
-                    " rows more, not shown here</i>",
-                )),
+        if self.more >= 1 {
+            let rows = Either(
+                self.more == 1,
+                " row more, not shown here</i>",
+                " rows more, not shown here</i>",
             );
+            say(out, WordsRow(("<i>", Number(self.more as u64), rows)));
         } else if self.ends {
             say(
                 out,

@@ -1,8 +1,8 @@
 //! A line of columns, as one log has it.
-ghost use Rattle.std.specs.Prelude.{◌≡◌, ◌+◌, ◌-◌, ◌≤◌, ◌<◌, length, take, drop};
+ghost use Rattle.std.specs.Prelude.{[], ◌≡◌, ◌-◌, ◌≤◌, ◌<◌, length, take, drop, if◌then◌else◌};
 ghost use Rattle.byte_columns.specs.Laws.{listed};
 ghost use Rattle.byte_columns.specs.Lines.{line, line_count};
-ghost use Rattle.trace_report.specs.Letters.{letters};
+ghost use Rattle.trace_report.specs.Letters.{grey_letters, letters};
 ghost use Rattle.trace_pair.specs.ColumnLines.{bytes_in, cells, cells_behind, line_of, whose_text};
 ghost use Rattle.trace_pair.specs.Logs as Spec;
 
@@ -12,7 +12,7 @@ use byte_columns::{Beside, Column};
 use text_parts::say;
 use trace_io::TextSink;
 use trace_report::shown_byte;
-use trace_text::Number;
+use trace_text::Place;
 
 /// Says the line of a number, as one log has it, behind whose it is; with its letters, where the messages may be text.
 pub(crate) fn say_line_of<S: TextSink>(
@@ -36,15 +36,11 @@ pub(crate) fn say_line_of<S: TextSink>(
     } else {
         say(
             out,
-            ("<p><i>", Number(before as u64 + 1), "</i>", whose, "<code>"),
+            ("<p><i>", Place(before), "</i>", whose, "<code>"),
         );
         say_cells(log, columns, from, to, out);
         say(out, "</code>");
-        if lettered {
-            say(out, " <samp>");
-            say_letters(log, columns, from, to, out);
-            say(out, "</samp>");
-        }
+        say_letters_if(lettered, log, columns, from, to, out);
         say(out, "</p>");
     }
 }
@@ -106,6 +102,26 @@ fn say_cells_behind<S: TextSink>(
         marked = differs;
     }
     say(out, MarkEnd(marked, false));
+}
+
+/// Says its bytes there as letters, in grey, where the messages may be text.
+fn say_letters_if<S: TextSink>(
+    lettered: bool,
+    log: Log,
+    columns: &Beside<'_>,
+    from: usize,
+    to: usize,
+    out: &mut S,
+)
+    requires forward { from ≤ to }
+    requires inside { to ≤ length columns.now }
+    ensures { S.says out.old (if lettered then grey_letters (bytes_in log (take (to - from) (drop from columns.now))) else []) out.new }
+{
+    if lettered {
+        say(out, " <samp>");
+        say_letters(log, columns, from, to, out);
+        say(out, "</samp>");
+    }
 }
 
 /// Says its bytes there as letters.

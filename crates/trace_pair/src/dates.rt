@@ -54,22 +54,18 @@ impl Part for Civil {
         say(
             out,
             (
-                (
-                    FourDigits(date.year),
-                    "-",
-                    TwoDigits(date.month),
-                    "-",
-                    TwoDigits(date.day),
-                    "&#160;",
-                ),
-                (
-                    TwoDigits(hour),
-                    ":",
-                    TwoDigits(minute),
-                    ":",
-                    TwoDigits(second),
-                    "&#160;UTC",
-                ),
+                FourDigits(date.year),
+                "-",
+                TwoDigits(date.month),
+                "-",
+                TwoDigits(date.day),
+                "&#160;",
+                TwoDigits(hour),
+                ":",
+                TwoDigits(minute),
+                ":",
+                TwoDigits(second),
+                "&#160;UTC",
             ),
         );
     }
@@ -99,18 +95,27 @@ impl Part for FourDigits {
     ghost text = { λ number. digits.decimal 4 number.0 };
 
     fn say<S: TextSink>(self, out: &mut S) {
-        let [a, b] = two_digits(self.0 / 100);
-        let [c, d] = two_digits(self.0);
-        out.put_whole(&[a, b, c, d]);
+        out.put_whole(&four_digits(self.0));
     }
 }
 
 /// The last two decimal digits.
-#[tactic(auto, unfolding(can_log::specs::Digits::digits))]
 fn two_digits(number: u64) -> [u8; 2]
     ensures { result ≡ decimal 2 number }
 {
     [digit(number / 10), digit(number)]
+}
+
+/// The last four.
+fn four_digits(number: u64) -> [u8; 4]
+    ensures { result ≡ decimal 4 number }
+{
+    [
+        digit(number / 1_000),
+        digit(number / 100),
+        digit(number / 10),
+        digit(number),
+    ]
 }
 
 /// The last one.

@@ -27,17 +27,19 @@ impl<'a> Part for DifferWords<'a> {
                     answer: reply,
                 },
             ) => {
-                let answers = AnswersDiffer {
-                    before: if request == other { "" } else { "; " },
-                    one: came_of(request, answer),
-                    other: came_of(other, reply),
-                    answer,
-                    reply,
-                };
+                let one = came_of(request, answer);
+                let came = came_of(other, reply);
                 if request == other {
-                    say(out, answers);
+                    say(out, AnswersDiffer("", one, came, answer, reply));
                 } else {
-                    say(out, ("request", ByteWords(request, other), answers));
+                    say(
+                        out,
+                        (
+                            "request",
+                            ByteWords(request, other),
+                            AnswersDiffer("; ", one, came, answer, reply),
+                        ),
+                    );
                 }
             }
             (Item::Stray { bytes, .. }, Item::Stray { bytes: others, .. }) => say(
@@ -52,27 +54,28 @@ impl<'a> Part for DifferWords<'a> {
 
 /// How the answers of two exchanges differ, behind what stands before: in what came of the request, or else in bytes.
 #[derive(Clone, Copy)]
-struct AnswersDiffer<'a> {
-    before: &'static str,
-    one: Outcome,
-    other: Outcome,
-    answer: Option<&'a [u8]>,
-    reply: Option<&'a [u8]>,
-}
+struct AnswersDiffer<'a>(
+    &'static str,
+    Outcome,
+    Outcome,
+    Option<&'a [u8]>,
+    Option<&'a [u8]>,
+);
 
 impl<'a> Part for AnswersDiffer<'a> {
     ghost use Rattle.std.specs.Prelude.{option_map};
     ghost use Rattle.trace_pair.specs.ItemWords.{answers_differ};
 
-    ghost text = { λ t. answers_differ t.before.now t.one t.other (option_map (λ answer. answer.now) t.answer) (option_map (λ reply. reply.now) t.reply) };
+    ghost text = { λ t. answers_differ t.0.now t.1 t.2 (option_map (λ answer. answer.now) t.3) (option_map (λ reply. reply.now) t.4) };
 
     fn say<S: TextSink>(self, out: &mut S) {
-        if same_outcome(self.one, self.other) {
-            if let (Some(answer), Some(reply)) = (self.answer, self.reply) {
-                say_answer_bytes(self.before, answer, reply, out);
+        let AnswersDiffer(before, one, other, answer, reply) = self;
+        if same_outcome(one, other) {
+            if let (Some(answer), Some(reply)) = (answer, reply) {
+                say_answer_bytes(before, answer, reply, out);
             }
         } else {
-            say(out, (self.before, self.one, " in A, ", self.other, " in B"));
+            say(out, (before, one, " in A, ", other, " in B"));
         }
     }
 }

@@ -35,7 +35,8 @@ pub(crate) fn say_differences<S: TextSink>(sessions: Sessions<'_>, rows: &[Row],
             ),
         );
         say_lines(sessions, rows, count.min(LISTED), out);
-        say(out, (End(count), "</section>\n"));
+        say(out, End(count));
+        say(out, "</section>\n");
     }
 }
 
@@ -109,14 +110,14 @@ impl Part for Heading {
 
     fn say<S: TextSink>(self, out: &mut S) {
         let count = Number(self.0 as u64);
-        say(
-            out,
-            (
-                Either(self.0 <= LISTED, "<h2>All ", "<h2>The first 50 of "),
-                count,
-                " differences</h2>\n",
-            ),
-        );
+        if self.0 <= LISTED {
+            say(out, ("<h2>All ", count, " differences</h2>\n"));
+        } else {
+            say(
+                out,
+                ("<h2>The first 50 of ", count, " differences</h2>\n"),
+            );
+        }
     }
 }
 
@@ -166,7 +167,7 @@ impl Part for End {
             out,
             (
                 Either(count > OPEN, "</ol>\n</details>\n", "</ol>\n"),
-                When(count > LISTED, others),
+                Either(count <= LISTED, "", others),
             ),
         );
     }

@@ -1,5 +1,5 @@
 -- Devices of proof: what is answered of two logs that were kept, before and after they are set side by side.
-use Rattle.std.specs.Prelude.{◌≡◌, ⊥, Result, Ok, Err}
+use Rattle.std.specs.Prelude.{◌≡◌, Result, Ok, Err}
 use Rattle.trace_log.specs.declared.fault.CompareFault.{CompareFault}
 use Rattle.trace_log.specs.declared.fault.CompareFault.TheVariants.{Right}
 use Rattle.trace_log.specs.declared.fault.Fault.TheVariants.{Memory}

@@ -1,5 +1,5 @@
 -- The rows are those around the item; what stands behind them says how many more there are, or that the log ends.
-use Rattle.std.proofs.Common.{◌≡◌, ℕ, ◌+◌, ◌-◌, ◌<◌, ◌^◌, ◌++◌, true, List, codes, length, take, drop, min, option_map, ap, subst, ◌∙◌, arith}
+use Rattle.std.proofs.Common.{◌≡◌, ℕ, ◌+◌, ◌-◌, ◌<◌, ◌^◌, true, List, length, take, drop, min, option_map, ap, subst, ◌∙◌, arith}
 use Rattle.std.specs.Prelude.{◌==◌}
 use Rattle.trace_report.specs.Items.{rows_before}
 use Rattle.trace_report.specs.Rows.{RowValue}
@@ -32,5 +32,5 @@ returns g c =
     let none = none-are item rows few c.rows_before-from.result c.rows_before-to.result c.min-end.result from_is to_is end_is in
     let ends : (c.rows_before-to.result == c.len.result) ≡ (chart_to item rows == length rows) =
     (λ i. to_is i == (c.len.ensures.value ∙ ap (λ (l : List RowValue). length l) own) i) in
-    let said_end = subst (λ (text : List ℕ). says c.say_rows.new.out (text ++ codes "</table>\n") c.say-2.new.out) (λ i. chart_end (more i) (none i) (ends i)) c.say-2.ensures in
-    g.met.S.TextSink.onward _ _ _ _ _ c.say.ensures (g.met.S.TextSink.onward _ _ _ _ _ said_rows said_end)
+    let said_end = subst (λ (text : List ℕ). says c.say_rows.new.out text c.say-2.new.out) (λ i. chart_end (more i) (none i) (ends i)) c.say-2.ensures in
+    g.met.S.TextSink.onward _ _ _ _ _ (g.met.S.TextSink.onward _ _ _ _ _ (g.met.S.TextSink.onward _ _ _ _ _ c.say.ensures said_rows) said_end) c.say-3.ensures

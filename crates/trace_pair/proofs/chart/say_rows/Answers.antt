@@ -1,5 +1,5 @@
 -- Each row is said behind those before it; where the log ends, no row is left.
-use Rattle.std.proofs.Common.{◌≡◌, ◌-◌, Bool, Some, None, take, drop, option_map, ap, sym, subst, ◌∙◌, refl}
+use Rattle.std.proofs.Common.{◌≡◌, ◌-◌, Bool, Some, None, take, drop, option_map, ap, sym, subst, refl}
 use Rattle.std.specs.Prelude.{◌==◌, ◌||◌, slice_get}
 use Rattle.std.proofs.lemmas.Bool.{eq-eqb}
 use Rattle.text_parts.proofs.Promises.{none-said}
@@ -19,7 +19,7 @@ pub rows-preserved : goal.rows-preserved
 rows-preserved g c =
     let at = c.rows.at in
     let row = row_of c.in-Some.row in
-    let there : slice_get c.args.rows.now at ≡ Some row = sym c.row.ensures ∙ ap (option_map row_of) c.in-Some.is in
+    let there : slice_get c.args.rows.now at ≡ Some row = sym c.in-Some.ensures in
     turn-row g.S.TextSink.says g.met.S.TextSink.onward c.args.log (option_map marked_of c.args.marked) c.args.origin c.args.from c.args.to c.args.rows.now c.args.out.now _
     at row c.rows.out c.say.new.out c.say_row.new.out c.rows-test.true c.rows.auto.at there c.rows.invariant
     (subst (λ (begins : Bool). g.S.TextSink.says c.rows.out (body_start (at == c.args.from || begins)) c.say.new.out) c.begins_exchange-begins.ensures c.say.ensures)
@@ -27,7 +27,7 @@ rows-preserved g c =
 
 pub returns-in_default : goal.returns-in_default
 returns-in_default g c =
-    let past : slice_get c.args.rows.now c.rows.at ≡ None = sym c.row.ensures ∙ ap (option_map row_of) c.in_default.is in
+    let past : slice_get c.args.rows.now c.rows.at ≡ None = sym c.in_default.ensures in
     turn-past g.S.TextSink.says g.met.S.TextSink.onward c.args.log (option_map marked_of c.args.marked) c.args.origin c.args.from c.args.to c.args.rows.now c.args.out.now _
     c.rows.at c.rows.out past c.rows.invariant
 

@@ -9,7 +9,8 @@ columns-init g c = none-said g.S.TextSink.says c.args.out.now _ _ (g.met.S.TextS
 pub columns-preserved : goal.columns-preserved
 columns-preserved g c =
     turn-cell g.S.TextSink.says g.met.S.TextSink.onward c.args.log c.args.columns.now c.args.to c.args.out.now _
-    c.columns.marked c.columns.at c.column.result c.columns.out _ c.columns-test.true c.column.ensures c.columns.invariant c.say.ensures
+    c.columns.marked c.differs-differs.result c.byte_of.result c.columns.at c.column-column.result c.columns.out c.say.new.out
+    c.columns-test.true c.column-column.ensures c.differs-differs.ensures c.byte_of.ensures c.columns.invariant c.say.ensures
 
 pub returns : goal.returns
 returns g c =
