@@ -104,10 +104,7 @@ impl Part for Navigation {
             let next = ("<a href=\"#d", Number(number + 1), "\">next</a>");
             say(out, (front, next, "</span>"));
         } else {
-            say(
-                out,
-                (front, "<a href=\"#differences\">list</a>", "</span>"),
-            );
+            say(out, (front, "<a href=\"#differences\">list</a>", "</span>"));
         }
     }
 }

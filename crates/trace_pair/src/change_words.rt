@@ -122,12 +122,7 @@ pub(crate) fn say_items_range<S: TextSink>(
     let last = ("&#8211;", Number((before + count) as u64));
     say(
         out,
-        (
-            log,
-            "&#160;",
-            Place(before),
-            Either(count == 1, "", last),
-        ),
+        (log, "&#160;", Place(before), Either(count == 1, "", last)),
     );
 }
 

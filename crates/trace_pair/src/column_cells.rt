@@ -34,10 +34,7 @@ pub(crate) fn say_line_of<S: TextSink>(
             ("<p><i></i>", whose, "<code><mark>no byte</mark></code></p>"),
         );
     } else {
-        say(
-            out,
-            ("<p><i>", Place(before), "</i>", whose, "<code>"),
-        );
+        say(out, ("<p><i>", Place(before), "</i>", whose, "<code>"));
         say_cells(log, columns, from, to, out);
         say(out, "</code>");
         say_letters_if(lettered, log, columns, from, to, out);

@@ -113,10 +113,7 @@ impl Part for Heading {
         if self.0 <= LISTED {
             say(out, ("<h2>All ", count, " differences</h2>\n"));
         } else {
-            say(
-                out,
-                ("<h2>The first 50 of ", count, " differences</h2>\n"),
-            );
+            say(out, ("<h2>The first 50 of ", count, " differences</h2>\n"));
         }
     }
 }

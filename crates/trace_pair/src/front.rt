@@ -60,11 +60,7 @@ impl Part for Links {
             out,
             (
                 "<p class=\"skip\"><a href=\"#verdict\">Verdict</a> ",
-                Either(
-                    self.0 <= 1,
-                    (),
-                    "<a href=\"#differences\">Differences</a> ",
-                ),
+                Either(self.0 <= 1, (), "<a href=\"#differences\">Differences</a> "),
                 Either(self.0 == 0, (), Either(self.0 == 1, one, first)),
                 "<a href=\"#items\">Items</a> <a href=\"#help\">How to read this page</a></p>\n",
             ),

@@ -148,10 +148,7 @@ impl Part for Opening {
                 if at.table.is_full() {
                     say(
                         out,
-                        (
-                            TableEnd(at.table),
-                            BlockStart(at.blocks, at.left, at.right),
-                        ),
+                        (TableEnd(at.table), BlockStart(at.blocks, at.left, at.right)),
                     );
                 }
             }
