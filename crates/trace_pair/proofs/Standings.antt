@@ -1,6 +1,7 @@
 -- What stands before a row of the table of items, with one row more.
-use Rattle.std.proofs.Common.{ℕ, ◌+◌, ◌≤◌, Bool, true, false, List, ◌∷◌, arith}
+use Rattle.std.proofs.Common.{◌≡◌, ℕ, ◌+◌, ◌-◌, ◌≤◌, ◌<◌, ◌^◌, Bool, true, false, List, ◌∷◌, length, take, drop, ap, ◌∙◌, arith}
 use Rattle.std.specs.Prelude.{nat_lt, if◌then◌else◌}
+use Rattle.std.proofs.lemmas.List.{length-drop, take_rest}
 use Rattle.uds_difference.specs.declared.row.Row.{Row}
 use Rattle.uds_difference.specs.declared.row.Row.TheVariants.{Same, Changed, OnlyLeft, OnlyRight}
 use Rattle.shown_rows.specs.Changes.{begins_change}
@@ -9,7 +10,7 @@ use Rattle.shown_rows.specs.Rows.{left_in, right_in}
 use Rattle.trace_pair.specs.declared.standing.Standing.{Standing}
 use Rattle.trace_pair.specs.declared.standing.Table.{Table}
 use Rattle.trace_pair.specs.declared.standing.Table.TheVariants.{Closed, Open, Block}
-use Rattle.trace_pair.specs.ItemTables.{blocks_behind, changes_with, standing_behind, with_fold, with_shown}
+use Rattle.trace_pair.specs.ItemTables.{IsRoomy, blocks_behind, changes_with, standing_behind, with_fold, with_shown}
 
 left-one : (row : Row) → left_in row ≤ 1
 left-one Same = omega arith
@@ -88,3 +89,10 @@ module _ (at : Standing) (row : Row) (later : List Row) where
       by true is = omega (arith, small)
       by false true = omega (arith, small, one)
       by false false = omega (arith, small)
+
+-- what stands before a row has room for those from it on
+pub roomy : (at : Standing) (rows : List Row) (k : ℕ) → length rows < 2 ^ 63 → k < length rows → at.left ≤ k → at.right ≤ k → at.changes ≤ k → at.blocks ≤ k
+    → IsRoomy at (length (take (length rows - k) (drop k rows)))
+roomy at rows k few below left right changes blocks =
+    let rest : length (take (length rows - k) (drop k rows)) ≡ length rows - k = ap (λ (l : List Row). length l) (take_rest rows k) ∙ length-drop k rows in
+    record { left = omega (arith, rest, few, below, left); right = omega (arith, rest, few, below, right); changes = omega (arith, rest, few, below, changes); blocks = omega (arith, rest, few, below, blocks) }

@@ -66,16 +66,31 @@ impl<'a> Part for ChangeWords<'a> {
                     DifferWords(item_of(one), item_of(other)),
                 ),
             ),
-            (None, _) | (Some(_), None) => say(
-                out,
-                (
-                    "<b class=\"tag\">",
-                    Tag(kind),
-                    Either(count == 1, "", (": ", Number(count as u64), " items")),
-                    "</b>",
-                ),
-            ),
+            (None, _) | (Some(_), None) => say(out, AloneWords(kind, count)),
         }
+    }
+}
+
+/// So many items that stand alone.
+#[derive(Clone, Copy)]
+struct AloneWords(Row, usize);
+
+impl Part for AloneWords {
+    ghost use Rattle.trace_pair.specs.ItemRows.{alone_words};
+
+    ghost text = { λ t. alone_words t.0 t.1 };
+
+    fn say<S: TextSink>(self, out: &mut S) {
+        let AloneWords(kind, count) = self;
+        say(
+            out,
+            (
+                "<b class=\"tag\">",
+                Tag(kind),
+                Either(count == 1, "", (": ", Number(count as u64), " items")),
+                "</b>",
+            ),
+        );
     }
 }
 

@@ -1,19 +1,19 @@
 //! A chart of one log: the rows around an item, with a mark at each byte that differs.
-ghost use Rattle.std.specs.Prelude.{◌≡◌, ◌-◌, drop, option_map, take, true};
+ghost use Rattle.std.specs.Prelude.{◌≡◌, ◌==◌, ◌-◌, ◌||◌, drop, option_map, take, true};
 ghost use Rattle.trace_report.specs.Blocks.{begins_exchange as asks};
 ghost use Rattle.trace_report.specs.proving.Pages.{row_of};
 ghost use Rattle.trace_pair.specs.First as Spec;
 ghost use Rattle.trace_pair.specs.proving.Marks.{marked_of};
 
-use crate::column_lines::{Sides, say_columns};
+use crate::column_lines::{Sides, have_word, say_columns};
 use crate::log::Log;
 use byte_columns::Beside;
 use text_parts::{Either, Part, When, say};
 use trace_io::TextSink;
 use trace_report::{
     Arrow, CellEnd, CellFront, ChartHead, Data, KeptRows, MessageFront, MessageRole, Note,
-    RoleWords, Row, Session, begins_item, has_word, is_answer_role, is_request_role,
-    say_dropped_row, say_ended_row, say_no_answer_row, say_unfinished_row,
+    RoleWords, Row, Session, begins_item, is_answer_role, is_request_role, say_dropped_row,
+    say_ended_row, say_no_answer_row, say_unfinished_row,
 };
 use trace_text::Number;
 
@@ -70,10 +70,17 @@ fn say_rows<S: TextSink>(
         let Some(row) = rows.row(at) else {
             return;
         };
-        let begins = begins_exchange(row);
-        say(out, When(at == from || begins, "<tbody>\n"));
+        let begins = begins_body(at, from, row);
+        say(out, When(begins, "<tbody>\n"));
         say_row(log, marked, origin, row, out);
     }
+}
+
+/// Whether a body of the table begins with a row.
+fn begins_body(at: usize, from: usize, row: Row<'_>) -> bool
+    ensures { result ≡ (at == from || asks (row_of row.entry)) }
+{
+    at == from || begins_exchange(row)
 }
 
 /// Whether an exchange begins with a row.
@@ -156,14 +163,20 @@ fn say_data<S: TextSink>(log: Log, message: &[u8], other: Option<&[u8]>, out: &m
 {
     match other {
         Some(other) => {
-            let lettered = has_word(message) || has_word(other);
-            let columns = match log {
-                Log::A => Beside::of(message, other),
-                Log::B => Beside::of(other, message),
-            };
-            say_columns(Sides::Only(log), lettered, &columns, out);
+            let columns = beside_of(log, message, other);
+            say_columns(Sides::Only(log), have_word(message, other), &columns, out);
         }
         None => say(out, Data(message)),
+    }
+}
+
+/// Two messages beside each other, of which the first one is of this log.
+fn beside_of<'a>(log: Log, own: &'a [u8], other: &'a [u8]) -> Beside<'a>
+    ensures { result ≡ Spec.beside_of log own.now other.now }
+{
+    match log {
+        Log::A => Beside::of(own, other),
+        Log::B => Beside::of(other, own),
     }
 }
 

@@ -1,8 +1,9 @@
 //! Two messages byte under byte, in lines of sixteen columns.
-ghost use Rattle.std.specs.Prelude.{◌+◌, ◌-◌, ◌≤◌, ◌<◌};
+ghost use Rattle.std.specs.Prelude.{◌≡◌, ◌+◌, ◌-◌, ◌||◌, ◌≤◌, ◌<◌};
 ghost use Rattle.std.specs.List.{flat_map, range_with_len};
 ghost use Rattle.trace_pair.specs.declared.column_lines.Sides.TheVariants.{Both};
 ghost use Rattle.byte_columns.specs.Lines.{folded, hidden, line_count, stretches};
+ghost use Rattle.trace_report.specs.Letters.{has_word};
 ghost use Rattle.trace_pair.specs.ColumnLines.{hidden_text, line_text, lines_text, stretch_text};
 
 use crate::column_cells::say_line_of;
@@ -11,6 +12,7 @@ use crate::log::Log;
 use byte_columns::Beside;
 use text_parts::say;
 use trace_io::TextSink;
+use trace_report::has_word;
 
 /// Of which log a page shows the lines.
 #[derive(Clone, Copy, Debug)]
@@ -34,6 +36,13 @@ pub(crate) fn say_columns<S: TextSink>(
     say_stretches(sides, lettered, columns, out);
     say_hidden(columns, out);
     say(out, "</div>");
+}
+
+/// Whether one of two messages may be text.
+pub(crate) fn have_word(one: &[u8], other: &[u8]) -> bool
+    ensures { result ≡ (has_word one.now || has_word other.now) }
+{
+    has_word(one) || has_word(other)
 }
 
 /// Says all lines, shown or folded.

@@ -3,7 +3,7 @@ ghost use Rattle.std.specs.Prelude.{◌≡◌};
 ghost use Rattle.trace_report.specs.proving.Lending.{item_of};
 ghost use Rattle.trace_pair.specs.ItemRows.{both_bytes, outcome_by};
 
-use crate::column_lines::{Sides, say_columns};
+use crate::column_lines::{Sides, have_word, say_columns};
 use crate::column_words::Whose;
 use crate::log::Log;
 use crate::outcome::{Outcome, came_of, same_outcome};
@@ -11,7 +11,7 @@ use crate::told_items::ToldAnswer;
 use byte_columns::Beside;
 use text_parts::{Either, Part, When, say};
 use trace_io::TextSink;
-use trace_report::{Data, PlacedItem, RoleWords, RowMessage, has_word, is_request_role};
+use trace_report::{Data, PlacedItem, RoleWords, RowMessage, is_request_role};
 
 /// Two items that changed: what is the same once, what differs byte under byte, and other outcomes in lines of their own.
 #[derive(Clone, Copy)]
@@ -79,9 +79,8 @@ impl<'a> Part for OfBoth<'a> {
 fn say_both_bytes<S: TextSink>(one: &[u8], other: &[u8], out: &mut S)
     ensures { S.says out.old (both_bytes one.now other.now) out.new }
 {
-    let lettered = has_word(one) || has_word(other);
     let columns = Beside::of(one, other);
-    say_columns(Sides::Both, lettered, &columns, out);
+    say_columns(Sides::Both, have_word(one, other), &columns, out);
 }
 
 /// The answers of two exchanges.

@@ -1,6 +1,6 @@
 -- Each row is said behind those before it; where the log ends, no row is left.
 use Rattle.std.proofs.Common.{◌≡◌, ◌-◌, Bool, Some, None, take, drop, option_map, ap, sym, subst, refl}
-use Rattle.std.specs.Prelude.{◌==◌, ◌||◌, slice_get}
+use Rattle.std.specs.Prelude.{slice_get}
 use Rattle.std.proofs.lemmas.Bool.{eq-eqb}
 use Rattle.text_parts.proofs.Promises.{none-said}
 use Rattle.trace_report.specs.proving.Pages.{row_of}
@@ -22,7 +22,7 @@ rows-preserved g c =
     let there : slice_get c.args.rows.now at ≡ Some row = sym c.in-Some.ensures in
     turn-row g.S.TextSink.says g.met.S.TextSink.onward c.args.log (option_map marked_of c.args.marked) c.args.origin c.args.from c.args.to c.args.rows.now c.args.out.now _
     at row c.rows.out c.say.new.out c.say_row.new.out c.rows-test.true c.rows.auto.at there c.rows.invariant
-    (subst (λ (begins : Bool). g.S.TextSink.says c.rows.out (body_start (at == c.args.from || begins)) c.say.new.out) c.begins_exchange-begins.ensures c.say.ensures)
+    (subst (λ (begins : Bool). g.S.TextSink.says c.rows.out (body_start begins) c.say.new.out) c.begins_body-begins.ensures c.say.ensures)
     c.say_row.ensures
 
 pub returns-in_default : goal.returns-in_default

@@ -15,4 +15,4 @@ columns-preserved g c =
 pub returns : goal.returns
 returns g c =
     turn-last g.S.TextSink.says g.met.S.TextSink.onward c.args.log c.args.columns.now c.args.to c.args.out.now _
-    c.columns.marked c.columns.at c.columns.out _ (omega arith) c.columns.invariant c.say.ensures
+    c.columns.marked c.columns.at c.columns.out _ (omega arith) c.columns.invariant c.say-2.ensures

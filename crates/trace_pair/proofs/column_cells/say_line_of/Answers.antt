@@ -39,11 +39,11 @@ returns-else-bytes_before-before g c =
     let piece = line-piece columns number from to c.requires c.line-from.ensures.first c.line-from.ensures.length in
     let before = c.bytes_before-before.ensures ∙ ap (λ (n : ℕ). length (bytes_in log (take n columns))) c.line-from.ensures.first in
     let text = λ (own : List Column) (n : ℕ).
-    (codes "<p><i>" ++ decimal (n + 1) ++ codes "</i>" ++ who ++ codes "<code>") ++ cells log own ++ codes "</code>"
+    codes "<p><i>" ++ decimal (n + 1) ++ codes "</i>" ++ who ++ codes "<code>" ++ cells log own ++ codes "</code>"
     ++ (if lettered then grey_letters (bytes_in log own) else []) ++ codes "</p>" in
-    let said : says c.args.out.now (text (take (to - from) (drop from columns)) c.bytes_before-before.result) c.say-3.new.out =
-    onward _ _ _ _ _ (onward _ _ _ _ _ (onward _ _ _ _ _ (onward _ _ _ _ _ c.say.ensures c.say_cells.ensures) c.say-2.ensures) c.say_letters_if.ensures) c.say-3.ensures in
-    subst (λ (t : List ℕ). says c.args.out.now t c.say-3.new.out)
+    let said : says c.args.out.now (text (take (to - from) (drop from columns)) c.bytes_before-before.result) c.say-else-bytes_before-before-3.new.out =
+    onward _ _ _ _ _ (onward _ _ _ _ _ (onward _ _ _ _ _ (onward _ _ _ _ _ c.say-else-bytes_before-before.ensures c.say_cells.ensures) c.say-else-bytes_before-before-2.ensures) c.say_letters_if.ensures) c.say-else-bytes_before-before-3.ensures in
+    subst (λ (t : List ℕ). says c.args.out.now t c.say-else-bytes_before-before-3.new.out)
     ((λ i. text (piece i) (before i))
     ∙ some-bytes lettered who log (length (bytes_in log (take (16 * number) columns))) (line columns number) here some)
     said

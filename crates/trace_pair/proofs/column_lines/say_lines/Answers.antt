@@ -1,9 +1,14 @@
+-- Each line is said behind those before it.
 use Rattle.std.proofs.Common.{◌≡◌, ◌+◌, ◌-◌, ℕ, arith, ap}
 use Rattle.std.specs.List.{flat_map, range_with_len}
+use Rattle.std.proofs.lemmas.List.{length-take}
 use Rattle.text_parts.proofs.Promises.{none-said, said-whole, same-rest, say-more}
 use Rattle.trace_pair.specs.ColumnLines.{line_text}
 use Rattle.trace_pair.proofs.Stretches.{range-first, range-none}
 use Rattle.trace_pair.proofs.column_lines.say_lines.Goals as goal
+
+pub overflow_add-at-end : goal.overflow_add-at-end
+overflow_add-at-end g c = omega (arith, c.requires, length-take 4095 c.args.columns.now)
 
 pub lines-init : goal.lines-init
 lines-init g c =

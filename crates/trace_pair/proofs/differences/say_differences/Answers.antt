@@ -39,9 +39,9 @@ returns-then-count-gt1 g c =
     let left = c.args.sessions.left.now in
     let right = c.args.sessions.right.now in
     let all = changes c.args.rows.now in
-    subst (λ (text : List ℕ). g.S.TextSink.says c.args.out.now text c.say-3.new.out)
+    subst (λ (text : List ℕ). g.S.TextSink.says c.args.out.now text c.say-then-count-gt1-2.new.out)
     (several left right all c.count_changes-count.result c.count_changes-count.ensures c.min.result c.min.ensures c.if-count-gt1.true)
-    (onward _ _ _ _ _ (onward _ _ _ _ _ (onward _ _ _ _ _ c.say.ensures c.say_lines.ensures) c.say-2.ensures) c.say-3.ensures)
+    (onward _ _ _ _ _ (onward _ _ _ _ _ (onward _ _ _ _ _ c.say.ensures c.say_lines.ensures) c.say-then-count-gt1.ensures) c.say-then-count-gt1-2.ensures)
 
 pub returns-else-count-gt1 : goal.returns-else-count-gt1
 returns-else-count-gt1 g c =

@@ -26,8 +26,8 @@ rows-init g c =
           (ap (λ (n : ℕ). difference_lines c.args.sessions.left.now c.args.sessions.right.now c.args.listed 1 (take n (changes c.args.rows.now))) all);
     }
 
-pub say_line_if-requires : goal.say_line_if-requires
-say_line_if-requires g c =
+pub say_line_if-number-requires : goal.say_line_if-number-requires
+say_line_if-number-requires g c =
     let rows = c.args.rows.now in
     let k = c.rows.k in
     let first = drop_more rows k Same c.rows-test.true in
@@ -54,10 +54,10 @@ rows-preserved g c =
       right_small = omega (arith, inv.right_small, c.right_in-j.ensures.one);
       few = subst (λ (n : ℕ). n ≤ k + 1 + 1) (sym next) (omega (arith, inv.few, one_at_most c.change_at-change.result));
       left = same-rest says c.args.out.now c.say_line_if-number.new.out _ _ _
-          (ap (λ (n : ℕ). difference_lines one other listed n (take (listed + 1 - n) (changes_from (get_or rows k _) (c.rows.i + c.left_in-i.result) (c.rows.j + c.right_in-j.result) (drop (k + 1) rows)))) (sym next))
+          (ap (λ (n : ℕ). difference_lines one other listed n (take (listed + 1 - n) (changes_from (get_or rows k Same) (c.rows.i + c.left_in-i.result) (c.rows.j + c.right_in-j.result) (drop (k + 1) rows)))) (sym next))
           (turn-change says g.met.S.TextSink.onward one other listed c.args.out.now _ c.rows.number c.rows.front c.rows.i c.rows.j c.left_in-i.result c.right_in-j.result (drop k rows) (drop (k + 1) rows)
-          (get_or rows k _) c.change_at-change.result c.rows.out c.say_line_if-number.new.out c.if-number-listed.false (drop_more rows k _ c.rows-test.true)
-          (c.change_at-change.ensures (get_or rows k _) (drop (k + 1) rows) (take_rest rows k ∙ drop_more rows k _ c.rows-test.true))
+          (get_or rows k Same) c.change_at-change.result c.rows.out c.say_line_if-number.new.out c.if-number-listed.false (drop_more rows k Same c.rows-test.true)
+          (c.change_at-change.ensures (get_or rows k Same) (drop (k + 1) rows) (take_rest rows k ∙ drop_more rows k Same c.rows-test.true))
           c.left_in-i.ensures.value c.right_in-j.ensures.value inv.left c.say_line_if-number.ensures.text);
     }
 

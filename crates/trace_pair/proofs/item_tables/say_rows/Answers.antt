@@ -1,12 +1,12 @@
 -- Each row is said, or the fold that begins with it, behind those before it.
-use Rattle.std.proofs.Common.{ℕ, ◌+◌, ◌≤◌, ◌∙◌, arith, ap, subst, sym, length, drop, get_or}
+use Rattle.std.proofs.Common.{ℕ, ◌+◌, ◌≤◌, ◌<◌, ◌^◌, ◌∙◌, arith, rules, ap, subst, sym, length, drop, get_or}
 use Rattle.std.proofs.lemmas.List.{drop_all, drop_more, take_rest}
 use Rattle.text_parts.proofs.Promises.{none-said}
 use Rattle.uds_difference.specs.declared.row.Row.TheVariants.{Same}
 use Rattle.shown_rows.specs.Changes.{changes}
 use Rattle.trace_pair.specs.declared.standing.Standing.{Standing}
 use Rattle.trace_pair.specs.ItemTables.{row_or_fold, rows_text}
-use Rattle.trace_pair.proofs.Standings.{blocks-small, changes-small, left-small, right-small}
+use Rattle.trace_pair.proofs.Standings.{blocks-small, changes-small, left-small, right-small, roomy}
 use Rattle.trace_pair.proofs.Tables.{turn-row, turn-rows-end}
 use Rattle.trace_pair.proofs.item_tables.say_rows.Goals as goal
 
@@ -22,6 +22,20 @@ rows-init g c =
       left = none-said g.S.TextSink.says c.args.out.now _ _ (g.met.S.TextSink.nothing c.args.out.now)
           (ap (λ (at : Standing). rows_text c.args.sessions.left.now c.args.sessions.right.now (length (changes rows)) at rows) start);
     }
+
+pub say_row_or_fold-requires : goal.say_row_or_fold-requires
+say_row_or_fold-requires g c =
+    let rows = c.args.rows.now in
+    let inv = c.rows.invariant in
+    let few : length c.args.rows.now < 2 ^ 63 = search rules in
+    roomy c.rows.at rows c.rows.k few c.rows-test.true inv.left_small inv.right_small inv.changes_small inv.blocks_small
+
+pub behind-at-requires : goal.behind-at-requires
+behind-at-requires g c =
+    let rows = c.args.rows.now in
+    let inv = c.rows.invariant in
+    let few : length c.args.rows.now < 2 ^ 63 = search rules in
+    roomy c.rows.at rows c.rows.k few c.rows-test.true inv.left_small inv.right_small inv.changes_small inv.blocks_small
 
 pub rows-preserved : goal.rows-preserved
 rows-preserved g c =

@@ -13,6 +13,6 @@ returns c =
     let item = c.args.item in
     let end = c.args.item + c.args.count in
     c.count_lost.ensures
-    ∙ (λ i. length (lost (piece (c.stretch.ensures.from i) (c.stretch.ensures.to i) c.rows-rows.result.now)))
+    ∙ (λ i. length (lost (piece (c.stretch-from.ensures.from i) (c.stretch-from.ensures.to i) c.rows-rows.result.now)))
     ∙ ap (λ (l : List RowValue). length (lost (piece (first_row item l) (first_row end l) l))) all
     ∙ sym (losses-counted rows item c.args.count)

@@ -11,9 +11,9 @@ returns g c =
     let says = g.S.TextSink.says in
     let rows = c.args.session.now.rows in
     let item = c.args.item in
-    let told = lost (piece c.stretch.result.0 c.stretch.result.1 c.rows-rows.result.now) in
+    let told = lost (piece c.stretch-from.result.0 c.stretch-from.result.1 c.rows-rows.result.now) in
     let own : told ≡ losses_of rows item =
-    (λ i. lost (piece (c.stretch.ensures.from i) (c.stretch.ensures.to i) c.rows-rows.result.now))
+    (λ i. lost (piece (c.stretch-from.ensures.from i) (c.stretch-from.ensures.to i) c.rows-rows.result.now))
     ∙ ap (λ (l : List RowValue). lost (piece (first_row item l) (first_row (item + 1) l) l)) c.rows-rows.ensures
     ∙ sym (losses-are-lost rows item) in
     subst (λ (losses : List RowValue). says c.args.out.now (losses_text c.args.log losses) c.say.new.out) own
