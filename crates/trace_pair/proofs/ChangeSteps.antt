@@ -79,12 +79,6 @@ change-within Changed later = omega arith
 change-within OnlyLeft later = omega (arith, run-within OnlyLeft later)
 change-within OnlyRight later = omega (arith, run-within OnlyRight later)
 
-change-some : (row : Row) (later : List Row) → 0 < change_length row later
-change-some Same later = omega arith
-change-some Changed later = omega arith
-change-some OnlyLeft later = omega arith
-change-some OnlyRight later = omega arith
-
 pub is-small : (front : Row) (i j : ℕ) (row : Row) (later : List Row) (found : Option Change) → found ≡ found_at front i j row later
     → i + suc (length later) < 2 ^ 63 → j + suc (length later) < 2 ^ 63 → IfSome found IsSmall
 is-small front i j row later None is left right = tt
@@ -99,9 +93,5 @@ is-small front i j row later (Some here) is left right = by (begins_change front
         let first : here.left ≡ i = ap (λ (h : Change). h.left) it in
         let second : here.right ≡ j = ap (λ (h : Change). h.right) it in
         let many : here.count ≡ change_length row later = ap (λ (h : Change). h.count) it in
-        record {
-          some = omega (arith, many, change-some row later);
-          left = omega (arith, first, many, fits, left);
-          right = omega (arith, second, many, fits, right);
-        }
+        record { left = omega (arith, first, many, fits, left); right = omega (arith, second, many, fits, right) }
     by false e = absurd (none-some here (sym e))

@@ -6,7 +6,7 @@ use Rattle.std.proofs.lemmas.List.{take-append-drop}
 use Rattle.isotp_receive.proofs.Promises.{get-drop}
 use Rattle.trace_report.specs.Items.{begins, rows_before}
 use Rattle.trace_report.specs.Rows.{RowValue}
-use Rattle.trace_pair.specs.First.{chart_from, chart_rows, chart_to}
+use Rattle.trace_pair.specs.First.{chart_from, chart_to}
 use Rattle.trace_pair.specs.Laws.{ChartHasTheItem}
 use Rattle.trace_pair.proofs.ChartPlaces.{up-by}
 use Rattle.trace_pair.proofs.LossPlaces.{begins-first, begins-next, begins-none}

@@ -8,9 +8,8 @@ use Rattle.uds_difference.specs.declared.row.Row.TheVariants.{Same, Changed, Onl
 use Rattle.shown_rows.specs.declared.changes.Change.{Change}
 use Rattle.trace_pair.specs.ItemWords.{differ, outcome_of, title}
 
--- the change has a row, and stands where a memory has room for it
+-- the change stands where a memory has room for it
 pub record IsSmall (here : Change) : Type 0 where
-  pub some : 0 < here.count
   pub left : here.left + here.count < 2 ^ 63
   pub right : here.right + here.count < 2 ^ 63
 

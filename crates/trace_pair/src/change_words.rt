@@ -1,5 +1,5 @@
 //! The changes of two sessions, in a list.
-ghost use Rattle.std.specs.Prelude.{◌+◌, ◌<◌, ◌^◌};
+ghost use Rattle.std.specs.Prelude.{◌+◌, ◌<◌, ◌≤◌, ◌^◌};
 ghost use Rattle.trace_pair.specs.ChangeWords.{IsSmall, change_line, items_range, run_words, what_text, where_link, where_text};
 ghost use Rattle.trace_pair.specs.Sessions.{left_items, right_items, values_in};
 
@@ -116,7 +116,7 @@ pub(crate) fn say_items_range<S: TextSink>(
     count: usize,
     out: &mut S,
 )
-    requires { before + count < 2 ^ 63 }
+    requires { before + count ≤ 2 ^ 63 }
     ensures { S.says out.old (items_range log.now before count) out.new }
 {
     let last = ("&#8211;", Number((before + count) as u64));

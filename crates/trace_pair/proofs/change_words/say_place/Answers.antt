@@ -1,14 +1,14 @@
--- A change has a row, so that the one item of each log has room; and it is said as its kind.
+-- A change is said as its kind.
 use Rattle.std.proofs.Common.{arith, subst, sym}
 use Rattle.uds_difference.specs.declared.row.Row.{Row}
 use Rattle.trace_pair.specs.ChangeWords.{where_text}
 use Rattle.trace_pair.proofs.change_words.say_place.Goals as goal
 
 pub say_items_range-requires : goal.say_items_range-requires
-say_items_range-requires g c = omega (arith, c.requires.some, c.requires.left)
+say_items_range-requires g c = omega (arith, c.requires.left)
 
 pub say_items_range-requires-in-Changed : goal.say_items_range-requires-in-Changed
-say_items_range-requires-in-Changed g c = omega (arith, c.requires.some, c.requires.right)
+say_items_range-requires-in-Changed g c = omega (arith, c.requires.right)
 
 pub returns-in-Changed : goal.returns-in-Changed
 returns-in-Changed g c =

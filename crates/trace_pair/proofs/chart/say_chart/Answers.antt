@@ -1,5 +1,5 @@
 -- The rows are those around the item; what stands behind them says how many more there are, or that the log ends.
-use Rattle.std.proofs.Common.{◌≡◌, ℕ, ◌+◌, ◌-◌, ◌<◌, ◌^◌, true, List, length, take, drop, min, option_map, ap, subst, ◌∙◌, arith}
+use Rattle.std.proofs.Common.{◌≡◌, ℕ, ◌-◌, ◌<◌, ◌^◌, true, List, length, take, drop, min, option_map, ap, subst, ◌∙◌, arith}
 use Rattle.std.specs.Prelude.{◌==◌}
 use Rattle.trace_report.specs.Items.{rows_before}
 use Rattle.trace_report.specs.Rows.{RowValue}

@@ -1,5 +1,5 @@
 -- No change begins with a row before the one that is looked at.
-use Rattle.std.proofs.Common.{◌≡◌, ◌+◌, ◌<◌, ◌^◌, List, Option, IfSome, length, drop, get_or, ap, subst, sym, ◌∙◌, arith, refl, rules}
+use Rattle.std.proofs.Common.{◌+◌, ◌<◌, ◌^◌, List, Option, IfSome, length, drop, get_or, ap, subst, sym, ◌∙◌, arith, refl, rules}
 use Rattle.std.specs.Prelude.{slice_get}
 use Rattle.std.proofs.lemmas.List.{drop_all, drop_more, length-drop, take_rest}
 use Rattle.uds_difference.specs.declared.row.Row.TheVariants.{Same}

@@ -2,7 +2,6 @@
 use Rattle.std.proofs.Common.{◌≡◌, ℕ, ◌∷◌, ◌++◌, Bool, false, List, [], ap, arith, subst, sym, ◌∙◌}
 use Rattle.std.specs.Prelude.{nat_lt, if◌then◌else◌}
 use Rattle.std.proofs.lemmas.Bool.{le-ltb}
-use Rattle.uds_difference.specs.declared.row.Row.{Row}
 use Rattle.shown_rows.specs.Folds.{folded, is_shown}
 use Rattle.trace_pair.specs.ItemTables.{fold_text, shown_text, table_end}
 use Rattle.trace_pair.proofs.item_tables.say_row_or_fold.Goals as goal
