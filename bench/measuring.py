@@ -67,16 +67,18 @@ def name_of(log):
     return f"{mix}, {foreign} % foreign"
 
 
-def run(words, log=None, kept="/dev/null"):
+def run(words, log=None, kept="/dev/null", status=0):
     """Run to the end, the log as standard input; what is written to standard output is thrown away, or kept in a file."""
     with open(log or "/dev/null", "rb") as given, open(kept, "wb") as written:
-        subprocess.run(words, stdin=given, stdout=written, stderr=subprocess.DEVNULL, check=True)
+        done = subprocess.run(words, stdin=given, stdout=written, stderr=subprocess.DEVNULL)
+    if done.returncode != status:
+        raise subprocess.CalledProcessError(done.returncode, words)
 
 
-def seconds(words, log=None, kept="/dev/null"):
+def seconds(words, log=None, kept="/dev/null", status=0):
     """The processor time of one run, user and system."""
     begun = resource.getrusage(resource.RUSAGE_CHILDREN)
-    run(words, log, kept)
+    run(words, log, kept, status)
     ended = resource.getrusage(resource.RUSAGE_CHILDREN)
     return ended.ru_utime - begun.ru_utime + ended.ru_stime - begun.ru_stime
 
