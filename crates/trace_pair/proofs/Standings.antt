@@ -1,6 +1,7 @@
 -- What stands before a row of the table of items, with one row more.
-use Rattle.std.proofs.Common.{◌≡◌, ℕ, ◌+◌, ◌-◌, ◌≤◌, ◌<◌, ◌^◌, Bool, true, false, List, ◌∷◌, length, take, drop, ap, ◌∙◌, arith}
+use Rattle.std.proofs.Common.{◌≡◌, ℕ, ◌+◌, ◌-◌, ◌≤◌, ◌<◌, ◌^◌, Bool, true, false, List, [], ◌∷◌, ◌++◌, length, take, drop, ap, sym, ◌∙◌, arith}
 use Rattle.std.specs.Prelude.{nat_lt, if◌then◌else◌}
+use Rattle.std.proofs.lemmas.Bool.{le-ltb, leb-true}
 use Rattle.std.proofs.lemmas.List.{length-drop, take_rest}
 use Rattle.uds_difference.specs.declared.row.Row.{Row}
 use Rattle.uds_difference.specs.declared.row.Row.TheVariants.{Same, Changed, OnlyLeft, OnlyRight}
@@ -10,7 +11,7 @@ use Rattle.shown_rows.specs.Rows.{left_in, right_in}
 use Rattle.trace_pair.specs.declared.standing.Standing.{Standing}
 use Rattle.trace_pair.specs.declared.standing.Table.{Table}
 use Rattle.trace_pair.specs.declared.standing.Table.TheVariants.{Closed, Open, Block}
-use Rattle.trace_pair.specs.ItemTables.{IsRoomy, blocks_behind, changes_with, standing_behind, with_fold, with_shown}
+use Rattle.trace_pair.specs.ItemTables.{IsRoomy, block_start, blocks_behind, changes_with, is_full, opening, table_end, standing_behind, with_fold, with_shown}
 
 left-one : (row : Row) → left_in row ≤ 1
 left-one Same = omega arith
@@ -96,3 +97,14 @@ pub roomy : (at : Standing) (rows : List Row) (k : ℕ) → length rows < 2 ^ 63
 roomy at rows k few below left right changes blocks =
     let rest : length (take (length rows - k) (drop k rows)) ≡ length rows - k = ap (λ (l : List Row). length l) (take_rest rows k) ∙ length-drop k rows in
     record { left = omega (arith, rest, few, below, left); right = omega (arith, rest, few, below, right); changes = omega (arith, rest, few, below, changes); blocks = omega (arith, rest, few, below, blocks) }
+
+-- behind a table that is full, a block begins
+of-full : (table : Table) (blocks left right : ℕ) → is_full table ≡ true → table_end table ++ block_start blocks left right ≡ opening table blocks left right
+of-full Closed blocks left right full = absurd (cc full)
+of-full (Open rows) blocks left right full =
+    sym (ap (λ (room : Bool). if room then [] else table_end (Open rows) ++ block_start blocks left right) (le-ltb rows 200 (leb-true 200 rows full)))
+of-full (Block rows) blocks left right full =
+    sym (ap (λ (room : Bool). if room then [] else table_end (Block rows) ++ block_start blocks left right) (le-ltb rows 200 (leb-true 200 rows full)))
+
+pub what-begins : (at : Standing) → is_full at.table ≡ true → table_end at.table ++ block_start at.blocks at.left at.right ≡ opening at.table at.blocks at.left at.right
+what-begins at full = of-full at.table at.blocks at.left at.right full

@@ -90,14 +90,11 @@ abbrev pub row_start : Row → Option ℕ → List ℕ
 row_start kind None = codes "<tr class=\"" ++ row_class kind ++ codes "\">"
 row_start kind (Some number) = codes "<tr class=\"" ++ row_class kind ++ codes "\" id=\"d" ++ decimal number ++ codes "\">"
 
--- so many items that stand alone
-abbrev pub alone_words : Row → ℕ → List ℕ
-alone_words kind count = codes "<b class=\"tag\">" ++ tag kind ++ (if count == 1 then [] else codes ": " ++ decimal count ++ codes " items") ++ codes "</b>"
-
 -- what a change is, above its first row
 abbrev pub change_words : Row → ℕ → Option PlacedItemValue → Option PlacedItemValue → List ℕ
 change_words kind count (Some one) (Some other) = codes "<b class=\"tag\">" ++ tag kind ++ codes "</b> " ++ differ (item_value one) (item_value other)
-change_words kind count one other = alone_words kind count
+change_words kind count one other =
+    codes "<b class=\"tag\">" ++ tag kind ++ (if count == 1 then [] else codes ": " ++ decimal count ++ codes " items") ++ codes "</b>"
 
 -- the way to the next change of all, or back to the list from the last one
 abbrev pub navigation : ℕ → ℕ → List ℕ

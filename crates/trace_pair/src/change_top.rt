@@ -76,9 +76,10 @@ impl<'a> Part for ChangeWords<'a> {
 struct AloneWords(Row, usize);
 
 impl Part for AloneWords {
-    ghost use Rattle.trace_pair.specs.ItemRows.{alone_words};
+    ghost use Rattle.std.specs.Prelude.{None};
+    ghost use Rattle.trace_pair.specs.ItemRows.{change_words};
 
-    ghost text = { λ t. alone_words t.0 t.1 };
+    ghost text = { λ t. change_words t.0 t.1 None None };
 
     fn say<S: TextSink>(self, out: &mut S) {
         let AloneWords(kind, count) = self;

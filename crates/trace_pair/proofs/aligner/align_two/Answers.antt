@@ -1,3 +1,4 @@
+-- What is known of two logs that are kept is known of them side by side.
 use Rattle.isotp_receive.specs.declared.TheConstants.{MESSAGE_LIMIT}
 use Rattle.trace_log.specs.declared.fault.CompareFault.TheVariants.{Left, Right}
 use Rattle.trace_log.specs.declared.fault.Fault.TheVariants as fault

@@ -1,3 +1,4 @@
+-- What is said so far and the text of the rest are that of all rows.
 use Rattle.std.proofs.Common.{◌-◌, take, drop, option_map, true}
 use Rattle.std.specs.Prelude.{◌==◌}
 use Rattle.text_parts.proofs.Promises.{IsLeft}

@@ -1,3 +1,4 @@
+-- Each column adds what the log has in it, and the last mark ends behind them.
 use Rattle.std.proofs.Common.{arith, refl}
 use Rattle.text_parts.proofs.Promises.{none-said}
 use Rattle.trace_pair.proofs.Cells.{turn-cell, turn-last}

@@ -1,3 +1,4 @@
+-- What is said so far and the text of the rest are that of all columns.
 use Rattle.std.proofs.Common.{◌-◌, take, drop}
 use Rattle.text_parts.proofs.Promises.{IsLeft}
 use Rattle.trace_pair.specs.ColumnLines.{cells_behind}

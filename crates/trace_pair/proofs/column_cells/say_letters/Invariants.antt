@@ -1,3 +1,4 @@
+-- What is said so far and the letters of the rest are those of all columns.
 use Rattle.std.proofs.Common.{◌-◌, take, drop}
 use Rattle.text_parts.proofs.Promises.{IsLeft}
 use Rattle.trace_report.specs.Letters.{letters}

@@ -1,3 +1,4 @@
+-- What is said so far and the text of the rest are that of all lines.
 use Rattle.std.proofs.Common.{◌+◌, ◌-◌, ◌≤◌}
 use Rattle.std.specs.List.{flat_map, range_with_len}
 use Rattle.text_parts.proofs.Promises.{IsLeft}

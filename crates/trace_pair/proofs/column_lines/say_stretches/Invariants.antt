@@ -1,3 +1,4 @@
+-- What is said so far and the text of the rest are that of all stretches.
 use Rattle.std.proofs.Common.{◌≡◌, ◌-◌, ◌≤◌}
 use Rattle.std.specs.List.{flat_map}
 use Rattle.text_parts.proofs.Promises.{IsLeft}

@@ -1,3 +1,4 @@
+-- The digits are those of the number, from the thousands on.
 use Rattle.trace_pair.proofs.LastDigits.{four-digits}
 use Rattle.trace_pair.proofs.dates.four_digits.Goals as goal
 

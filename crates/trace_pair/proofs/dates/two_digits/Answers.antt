@@ -1,3 +1,4 @@
+-- The digits are those of the number, from the tens on.
 use Rattle.trace_pair.proofs.LastDigits.{two-digits}
 use Rattle.trace_pair.proofs.dates.two_digits.Goals as goal
 

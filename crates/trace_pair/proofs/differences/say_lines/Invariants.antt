@@ -1,3 +1,4 @@
+-- What is said so far and the lines of the rest are those of all that are listed.
 use Rattle.std.proofs.Common.{◌≤◌, ◌+◌, ◌-◌, drop, take}
 use Rattle.shown_rows.specs.Changes.{changes, changes_from}
 use Rattle.text_parts.proofs.Promises.{IsLeft}

@@ -1,3 +1,4 @@
+-- The changes of all rows are those from the place of the loop on.
 use Rattle.std.proofs.Common.{◌≡◌, ◌≤◌, drop}
 use Rattle.uds_difference.specs.declared.row.Row.TheVariants.{Same}
 use Rattle.shown_rows.specs.Changes.{changes, changes_from}

@@ -1,3 +1,4 @@
+-- What is said so far and the parts of the rest are those of all items.
 use Rattle.std.proofs.Common.{◌+◌, ◌-◌, ◌/◌, ◌≤◌}
 use Rattle.text_parts.proofs.Promises.{IsLeft}
 use Rattle.trace_pair.specs.ItemTables.{fold_parts}

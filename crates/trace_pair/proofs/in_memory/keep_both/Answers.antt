@@ -1,3 +1,4 @@
+-- No device fails where logs lie in memory.
 use Rattle.isotp_receive.specs.declared.TheConstants.{MESSAGE_LIMIT}
 use Rattle.trace_canon.proofs.Promises.{agrees_in_memory}
 use Rattle.trace_pair.proofs.PagesInMemory.{held_in_memory}

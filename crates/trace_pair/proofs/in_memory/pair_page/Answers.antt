@@ -1,3 +1,4 @@
+-- The title is made of what the call is handed.
 use Rattle.std.proofs.Common.{◌≡◌, subst}
 use Rattle.std.specs.Prelude.{MatchResult}
 use Rattle.isotp_receive.specs.declared.TheConstants.{MESSAGE_LIMIT}

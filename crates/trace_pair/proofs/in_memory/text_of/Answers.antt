@@ -1,3 +1,4 @@
+-- What was written is what the writer holds.
 use Rattle.std.proofs.Common.{ap, sym, ◌∙◌}
 use Rattle.trace_canon.proofs.Promises.{taken_is_held}
 use Rattle.trace_pair.proofs.PagesInMemory.{text_in_memory}

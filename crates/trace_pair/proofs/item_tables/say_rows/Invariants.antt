@@ -1,3 +1,4 @@
+-- What is said so far and the text of the rest are that of all rows.
 use Rattle.std.proofs.Common.{◌≤◌, length, drop}
 use Rattle.text_parts.proofs.Promises.{IsLeft}
 use Rattle.shown_rows.specs.Changes.{changes}

@@ -1,3 +1,4 @@
+-- What is counted so far and the losses of the rest are those of all rows.
 use Rattle.std.proofs.Common.{◌≡◌, ◌≤◌, ◌+◌, ◌-◌, length, take, drop}
 use Rattle.trace_pair.specs.proving.Losing.{lost}
 use Rattle.trace_pair.proofs.losses.count_lost.Given as goal

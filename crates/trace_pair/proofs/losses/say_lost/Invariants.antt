@@ -1,3 +1,4 @@
+-- What is told so far and the losses of the rest are those of all rows.
 use Rattle.std.proofs.Common.{◌≡◌, ◌≤◌, ◌+◌, ◌-◌, length, take, drop}
 use Rattle.std.specs.List.{flat_map}
 use Rattle.text_parts.proofs.Promises.{IsLeft}

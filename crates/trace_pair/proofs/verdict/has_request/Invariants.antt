@@ -1,3 +1,4 @@
+-- Some item asks exactly where one asks from the place of the loop on.
 use Rattle.std.proofs.Common.{◌≡◌}
 use Rattle.std.specs.List.{list_any}
 use Rattle.trace_pair.specs.Sessions.{values_in}
