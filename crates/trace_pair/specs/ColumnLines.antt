@@ -21,10 +21,11 @@ abbrev pub byte_or_gap : Option ℕ → List ℕ
 byte_or_gap None = codes "--"
 byte_or_gap (Some byte) = hexadecimal 2 byte
 
--- A mark begins with a column that differs, behind one that doesn't, and ends before one that doesn't.
+-- a mark begins with a column that differs, where none is open
 abbrev pub mark_start : Bool → Bool → List ℕ
 mark_start marked differ = if differ && not marked then codes "<mark>" else []
 
+-- a mark that is open ends before a column that doesn't differ
 abbrev pub mark_end : Bool → Bool → List ℕ
 mark_end marked differ = if marked && not differ then codes "</mark>" else []
 

@@ -7,10 +7,11 @@ use Rattle.trace_pair.specs.ChangeWords.{change_line}
 use Rattle.trace_pair.specs.Sessions.{values_in}
 use Rattle.trace_pair.specs.Verdict.{left_lossy, right_lossy}
 
--- how many stand in the open, and how many in the list
+-- so many differences of the list stand in the open
 abbrev pub open_differences : ℕ
 open_differences = 10
 
+-- so many differences stand in the list at most
 abbrev pub listed_differences : ℕ
 listed_differences = 50
 

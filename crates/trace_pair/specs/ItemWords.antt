@@ -17,13 +17,14 @@ abbrev pub outcome : List ℕ → Option (List ℕ) → Outcome
 outcome request (Some reply) = if is_negative_response reply then Refused (response_code reply) else Positive
 outcome request None = if is_suppressing request then Silent else Unanswered
 
+-- what came of a request, in words
 abbrev pub outcome_words : Outcome → List ℕ
 outcome_words Positive = codes "positive"
 outcome_words (Refused code) = codes "refused with <b>" ++ code_text code ++ codes "</b>"
 outcome_words Silent = codes "silent, as the request asks"
 outcome_words Unanswered = codes "without an answer"
 
--- both are of one kind; a refusal is another one by its code
+-- two outcomes are the same: of one kind, and refusals with one code
 abbrev pub same_outcome : Outcome → Outcome → Bool
 same_outcome Positive Positive = true
 same_outcome (Refused code) (Refused other) = code == other
@@ -49,7 +50,7 @@ title (stray side bytes) =
     (if keeps_alive side bytes then codes "<b>keep-alive</b> " else codes "<b>stray</b> <i>from the " ++ direction_text side ++ codes "</i> ")
     ++ first_bytes bytes
 
--- what came of it, where it is an exchange
+-- what came of an item, behind its title, where it is an exchange
 abbrev pub outcome_of : ItemValue → List ℕ
 outcome_of (exchange request answer) = codes ": " ++ outcome_words (outcome request answer)
 outcome_of (stray side bytes) = []
