@@ -20,7 +20,7 @@ use Rattle.trace_pair.specs.declared.outcome.Outcome.{Outcome}
 use Rattle.trace_pair.specs.ChangeWords.{tag}
 use Rattle.trace_pair.specs.ColumnLines.{lines_text, whose_text}
 use Rattle.trace_pair.specs.declared.column_words.Whose.TheVariants.{Of}
-use Rattle.trace_pair.specs.ItemWords.{differ, outcome, same_outcome}
+use Rattle.trace_pair.specs.ItemWords.{came_of, differ, same_outcome}
 use Rattle.trace_pair.specs.Losses.{losses_of, losses_text}
 use Rattle.trace_pair.specs.ToldItems.{note_of, told_answer, told_item}
 use Rattle.trace_pair.specs.Verdict.{has_left, has_right}
@@ -50,8 +50,8 @@ other_outcomes request answer asked reply =
 
 -- what came of a request, by its answer
 abbrev pub outcome_by : List ℕ → Option RowMessageValue → Outcome
-outcome_by request None = outcome request None
-outcome_by request (Some reply) = outcome request (Some reply.bytes)
+outcome_by request None = came_of request None
+outcome_by request (Some reply) = came_of request (Some reply.bytes)
 
 -- two items that changed: what is the same once, what differs byte under byte, and other outcomes in lines of their own
 abbrev pub told_pair : PlacedItemValue → PlacedItemValue → List ℕ

@@ -13,9 +13,9 @@ use Rattle.trace_pair.specs.declared.outcome.Outcome.TheVariants.{Positive, Refu
 use Rattle.trace_pair.specs.ByteWords.{byte_words}
 
 -- what came of a request: its answer, or why there is none
-abbrev pub outcome : List ℕ → Option (List ℕ) → Outcome
-outcome request (Some reply) = if is_negative_response reply then Refused (response_code reply) else Positive
-outcome request None = if is_suppressing request then Silent else Unanswered
+abbrev pub came_of : List ℕ → Option (List ℕ) → Outcome
+came_of request (Some reply) = if is_negative_response reply then Refused (response_code reply) else Positive
+came_of request None = if is_suppressing request then Silent else Unanswered
 
 -- what came of a request, in words
 abbrev pub outcome_words : Outcome → List ℕ
@@ -44,16 +44,16 @@ keeps_alive dir.Tester bytes = is_keep_alive bytes
 keeps_alive dir.Unit bytes = false
 
 -- what an item is, and how it begins
-abbrev pub title : ItemValue → List ℕ
-title (exchange request answer) = codes "<b>" ++ service_text (sid request) ++ codes "</b> " ++ first_bytes request
-title (stray side bytes) =
+abbrev pub item_title : ItemValue → List ℕ
+item_title (exchange request answer) = codes "<b>" ++ service_text (sid request) ++ codes "</b> " ++ first_bytes request
+item_title (stray side bytes) =
     (if keeps_alive side bytes then codes "<b>keep-alive</b> " else codes "<b>stray</b> <i>from the " ++ direction_text side ++ codes "</i> ")
     ++ first_bytes bytes
 
 -- what came of an item, behind its title, where it is an exchange
-abbrev pub outcome_of : ItemValue → List ℕ
-outcome_of (exchange request answer) = codes ": " ++ outcome_words (outcome request answer)
-outcome_of (stray side bytes) = []
+abbrev pub outcome_note : ItemValue → List ℕ
+outcome_note (exchange request answer) = codes ": " ++ outcome_words (came_of request answer)
+outcome_note (stray side bytes) = []
 
 -- at which bytes two answers differ, behind what stands before
 abbrev pub answer_bytes : List ℕ → Option (List ℕ) → Option (List ℕ) → List ℕ
@@ -70,7 +70,7 @@ answers_differ before one other answer reply =
 abbrev pub differ : ItemValue → ItemValue → List ℕ
 differ (exchange request answer) (exchange other reply) =
     if same_bytes request other
-    then answers_differ [] (outcome request answer) (outcome other reply) answer reply
-    else codes "request" ++ byte_words request other ++ answers_differ (codes "; ") (outcome request answer) (outcome other reply) answer reply
+    then answers_differ [] (came_of request answer) (came_of other reply) answer reply
+    else codes "request" ++ byte_words request other ++ answers_differ (codes "; ") (came_of request answer) (came_of other reply) answer reply
 differ (stray side bytes) (stray other others) = codes "message" ++ byte_words bytes others
 differ _ _ = []

@@ -12,7 +12,7 @@ use Rattle.trace_report.specs.Kept.{KeepsTwo, TwoValue}
 use Rattle.trace_report.specs.Rows.{RowValue}
 use Rattle.trace_pair.specs.Compared.{comparison_in}
 use Rattle.trace_pair.specs.First.{chart_from, chart_rows}
-use Rattle.trace_pair.specs.ItemWords.{outcome}
+use Rattle.trace_pair.specs.ItemWords.{came_of}
 use Rattle.trace_pair.specs.Sessions.{values_in}
 use Rattle.trace_pair.specs.Style.{page_style}
 use Rattle.trace_pair.specs.declared.outcome.Outcome.TheVariants.{Silent, Unanswered}
@@ -44,4 +44,4 @@ ChartHasTheItem = (item : ℕ) (rows : List RowValue)
 -- an exchange that is told as one without an answer, or as silent, has none
 abbrev pub UnansweredHasNone : Type 0
 UnansweredHasNone = (request : List ℕ) (answer : Option (List ℕ))
-    → (outcome request answer ≡ Unanswered → answer ≡ None) × (outcome request answer ≡ Silent → answer ≡ None)
+    → (came_of request answer ≡ Unanswered → answer ≡ None) × (came_of request answer ≡ Silent → answer ≡ None)

@@ -87,16 +87,16 @@ who_words true false = codes "A is not clean"
 who_words false right = codes "B is not clean"
 
 -- what it means that a log is not clean at so many of so many changes, where one isn't
-abbrev pub loss_line_by : ℕ → ℕ → Bool → Bool → List ℕ
-loss_line_by lossy all left right =
+abbrev pub lossy_line : ℕ → ℕ → Bool → Bool → List ℕ
+lossy_line lossy all left right =
     if lossy == 0 then []
     else codes "<p class=\"lossline\"><b>" ++ at_words lossy all ++ codes "</b> " ++ who_words left right
     ++ codes ": frames are missing, late, out of order or of no legal form there. The recording may differ, and not the session.</p>\n"
 
 -- what it means that a log is not clean at some of these changes, where one isn't
-abbrev pub loss_line : SessionValue → SessionValue → List Change → List ℕ
-loss_line left right all =
-    loss_line_by (lossy_count left right all) (length all) (list_any (left_lossy left) all) (list_any (right_lossy right) all)
+abbrev pub lossy_line_of : SessionValue → SessionValue → List Change → List ℕ
+lossy_line_of left right all =
+    lossy_line (lossy_count left right all) (length all) (list_any (left_lossy left) all) (list_any (right_lossy right) all)
 
 -- How far it can be known.
 
@@ -115,7 +115,7 @@ size_line rows =
 abbrev pub different_verdict : Bool → ℕ → List Row → SessionValue → SessionValue → List ℕ
 different_verdict shortest bound rows left right =
     different_heading (length (changes rows)) (count_of Same rows) (count_of OnlyLeft rows) (count_of OnlyRight rows) (count_of Changed rows)
-    ++ loss_line left right (changes rows) ++ bound_line shortest bound ++ size_line (length rows)
+    ++ lossy_line_of left right (changes rows) ++ bound_line shortest bound ++ size_line (length rows)
 
 -- The same.
 
@@ -130,11 +130,11 @@ nothing_verdict =
     codes "<section id=\"verdict\" class=\"warn\">\n<h2><span aria-hidden=\"true\">!</span> Neither session has an item</h2>\n"
     ++ codes "<p>So they can't differ. <code>udsnorm find</code> names the identifiers of a log.</p>\n"
 
--- which log is not clean, by whether each is
+-- which log is not clean, by whether each is not
 abbrev pub unclean_words : Bool → Bool → List ℕ
-unclean_words false false = codes "neither is clean"
-unclean_words false true = codes "A is not clean"
-unclean_words true clean = codes "B is not clean"
+unclean_words true true = codes "neither is clean"
+unclean_words true false = codes "A is not clean"
+unclean_words false right = codes "B is not clean"
 
 -- the heading of sessions that are the same: in green only where they are so without a doubt
 abbrev pub same_heading : Bool → Bool → Bool → Bool → List ℕ
@@ -145,7 +145,7 @@ same_heading exchanged asked left_clean right_clean =
     then codes "<section id=\"verdict\" class=\"warn\">\n<h2><span aria-hidden=\"true\">!</span> The two sessions are the same, and neither has a request</h2>\n"
     else if left_clean && right_clean
     then codes "<section id=\"verdict\" class=\"good\">\n<h2><span aria-hidden=\"true\">=</span> The two sessions are the same</h2>\n"
-    else codes "<section id=\"verdict\" class=\"warn\">\n<h2><span aria-hidden=\"true\">=</span> The two sessions are the same as far as they are recorded: " ++ unclean_words left_clean right_clean ++ codes "</h2>\n"
+    else codes "<section id=\"verdict\" class=\"warn\">\n<h2><span aria-hidden=\"true\">=</span> The two sessions are the same as far as they are recorded: " ++ unclean_words (not left_clean) (not right_clean) ++ codes "</h2>\n"
 
 -- that so many items are the same
 abbrev pub same_items : ℕ → List ℕ

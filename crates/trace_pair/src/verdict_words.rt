@@ -132,22 +132,22 @@ impl Part for SameWords {
 
 /// At how many of all changes a log is not clean, and whether the left one is, and the right one.
 #[derive(Clone, Copy, Debug)]
-pub(crate) struct LossLine {
+pub(crate) struct LossyLine {
     pub lossy: u64,
     pub all: u64,
     pub left: bool,
     pub right: bool,
 }
 
-impl LossLine {
+impl LossyLine {
     /// Of no change.
-    pub(crate) fn none() -> LossLine
+    pub(crate) fn none() -> LossyLine
         ensures lossy { result.lossy ≡ 0 }
         ensures all { result.all ≡ 0 }
         ensures left { result.left ≡ false }
         ensures right { result.right ≡ false }
     {
-        LossLine {
+        LossyLine {
             lossy: 0,
             all: 0,
             left: false,
@@ -156,7 +156,7 @@ impl LossLine {
     }
 
     /// With one change more, at which the logs are not clean or are.
-    pub(crate) fn with(self, left: bool, right: bool) -> LossLine
+    pub(crate) fn with(self, left: bool, right: bool) -> LossyLine
         requires small { self.all + 1 < 2 ^ 63 }
         requires few { self.lossy ≤ self.all }
         ensures lossy { result.lossy ≡ (if left || right then 1 else 0) + self.lossy }
@@ -164,7 +164,7 @@ impl LossLine {
         ensures left { result.left ≡ (left || self.left) }
         ensures right { result.right ≡ (right || self.right) }
     {
-        LossLine {
+        LossyLine {
             lossy: if left || right {
                 self.lossy + 1
             } else {
@@ -177,10 +177,10 @@ impl LossLine {
     }
 }
 
-impl Part for LossLine {
-    ghost use Rattle.trace_pair.specs.Verdict.{loss_line_by};
+impl Part for LossyLine {
+    ghost use Rattle.trace_pair.specs.Verdict.{lossy_line};
 
-    ghost text = { λ line. loss_line_by line.lossy line.all line.left line.right };
+    ghost text = { λ line. lossy_line line.lossy line.all line.left line.right };
 
     fn say<S: TextSink>(self, out: &mut S) {
         if self.lossy > 0 {
