@@ -4,6 +4,7 @@ use Rattle.std.specs.Fmt.{decimal}
 use Rattle.std.specs.List.{flat_map, range_with_len}
 use Rattle.can_log.specs.Digits.{hexadecimal}
 use Rattle.byte_columns.specs.declared.column.Column.{Column}
+use Rattle.byte_columns.specs.declared.lines.TheConstants.{LINE}
 use Rattle.byte_columns.specs.Columns.{differing, differs}
 use Rattle.byte_columns.specs.Laws.{listed}
 use Rattle.byte_columns.specs.Lines.{Stretch, shown, folded, columns_from, hidden, line, line_differs, stretches}
@@ -74,7 +75,7 @@ whose_text Untold = []
 
 -- how many bytes a log has before a line
 abbrev pub bytes_before : Log → List Column → ℕ → ℕ
-bytes_before log columns number = length (bytes_in log (take (16 * number) columns))
+bytes_before log columns number = length (bytes_in log (take (LINE * number) columns))
 
 -- the line of a number, as one log has it
 abbrev pub line_of : Bool → List ℕ → Log → List Column → ℕ → List ℕ

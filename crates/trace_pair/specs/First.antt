@@ -33,6 +33,10 @@ use Rattle.trace_pair.specs.Verdict.{left_lossy, right_lossy}
 
 -- The rows that a chart has.
 
+-- a chart has so many rows at most
+abbrev pub most_rows : ℕ
+most_rows = 40
+
 -- a chart around the item of a place begins with the row of the item before it
 abbrev pub chart_from : ℕ → List RowValue → ℕ
 chart_from item rows = rows_before (item - 1) rows
@@ -41,13 +45,13 @@ chart_from item rows = rows_before (item - 1) rows
 abbrev pub chart_to : ℕ → List RowValue → ℕ
 chart_to item rows = rows_before (item + 3) rows
 
--- the rows of a chart around the item of a place, forty at most
+-- the rows of a chart around the item of a place
 abbrev pub chart_rows : ℕ → List RowValue → List RowValue
-chart_rows item rows = take (min 40 (chart_to item rows - chart_from item rows)) (drop (chart_from item rows) rows)
+chart_rows item rows = take (min most_rows (chart_to item rows - chart_from item rows)) (drop (chart_from item rows) rows)
 
--- how many rows more than forty stand between the start of a chart and its end
+-- how many rows between the start of a chart and its end are more than it has
 abbrev pub rows_more : ℕ → List RowValue → ℕ
-rows_more item rows = chart_to item rows - chart_from item rows - 40
+rows_more item rows = chart_to item rows - chart_from item rows - most_rows
 
 -- Their text.
 

@@ -32,11 +32,15 @@ same_outcome Silent Silent = true
 same_outcome Unanswered Unanswered = true
 same_outcome _ _ = false
 
--- the first eight bytes of a message, and how many more it has
+-- so many bytes of a message are told in a sentence
+abbrev pub told_bytes : ℕ
+told_bytes = 8
+
+-- the first bytes of a message, and how many more it has
 abbrev pub first_bytes : List ℕ → List ℕ
 first_bytes bytes =
-    codes "<code>" ++ bytes_apart (take 8 bytes) ++ codes "</code>"
-    ++ (if nat_le (length bytes) 8 then [] else codes " <i>and " ++ decimal (length bytes - 8) ++ more_words (length bytes - 8) ++ codes "</i>")
+    codes "<code>" ++ bytes_apart (take told_bytes bytes) ++ codes "</code>"
+    ++ (if nat_le (length bytes) told_bytes then [] else codes " <i>and " ++ decimal (length bytes - told_bytes) ++ more_words (length bytes - told_bytes) ++ codes "</i>")
 
 -- a stray is a keep-alive, where the tester sent it and it is one
 abbrev pub keeps_alive : Dir → List ℕ → Bool

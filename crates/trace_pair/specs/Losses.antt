@@ -53,10 +53,14 @@ loss_words (unfinished d line len) = unfinished_words d line len
 abbrev pub loss_line : Log → RowValue → List ℕ
 loss_line log row = codes "<p class=\"lost\">" ++ letter_mark log ++ loss_words row ++ codes "</p>"
 
--- how many losses more than twenty there are, where there are more
-abbrev pub more_losses : Log → ℕ → List ℕ
-more_losses log count = if nat_le count 20 then [] else codes "<p class=\"lost\">and " ++ decimal (count - 20) ++ codes " more in " ++ letter log ++ codes "</p>"
+-- so many losses of an item are told
+abbrev pub told_losses : ℕ
+told_losses = 20
 
--- what is missing of an item: up to twenty losses, and how many more there are
+-- how many losses there are that are not told, where there are more
+abbrev pub more_losses : Log → ℕ → List ℕ
+more_losses log count = if nat_le count told_losses then [] else codes "<p class=\"lost\">and " ++ decimal (count - told_losses) ++ codes " more in " ++ letter log ++ codes "</p>"
+
+-- what is missing of an item: the losses that are told, and how many more there are
 abbrev pub losses_text : Log → List RowValue → List ℕ
-losses_text log losses = flat_map (loss_line log) (take 20 losses) ++ more_losses log (length losses)
+losses_text log losses = flat_map (loss_line log) (take told_losses losses) ++ more_losses log (length losses)

@@ -105,10 +105,14 @@ abbrev pub bound_line : Bool → ℕ → List ℕ
 bound_line true bound = []
 bound_line false bound = codes "<p>Perhaps not the shortest: more than " ++ decimal bound ++ codes " items would be removed or added.</p>\n"
 
+-- a page with more rows is a large one
+abbrev pub large_page : ℕ
+large_page = 100000
+
 -- how many rows a large page has, and what gives a part of it
 abbrev pub size_line : ℕ → List ℕ
 size_line rows =
-    if nat_le rows 100000 then []
+    if nat_le rows large_page then []
     else codes "<p>This page has " ++ decimal rows ++ codes " rows. <code>udsnorm diff</code> has the differences alone, and <code>udsnorm list</code> any part of a session.</p>\n"
 
 -- the verdict of two sessions that differ, with these rows

@@ -89,7 +89,7 @@ impl<'a> Part for FirstBytes<'a> {
 
 /// The first bytes of a message.
 fn told(bytes: &[u8]) -> &[u8]
-    ensures { result.now ≡ take 8 bytes.now }
+    ensures { result.now ≡ take Spec.told_bytes bytes.now }
 {
     &bytes[..TOLD.min(bytes.len())]
 }

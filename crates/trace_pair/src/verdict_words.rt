@@ -5,6 +5,9 @@ use text_parts::{Either, Part, say};
 use trace_io::TextSink;
 use trace_text::Number;
 
+/// A page with more rows is a large one.
+const LARGE_PAGE: usize = 100_000;
+
 /// So many items.
 #[derive(Clone, Copy)]
 pub(crate) struct ItemsWord(pub u64);
@@ -130,7 +133,7 @@ impl Part for SameWords {
     }
 }
 
-/// At how many of all changes a log is not clean, and whether the left one is, and the right one.
+/// At how many of all changes a log is not clean, and whether the left log is not clean at one, and the right one.
 #[derive(Clone, Copy, Debug)]
 pub(crate) struct LossyLine {
     pub lossy: u64,
@@ -284,7 +287,7 @@ impl Part for SizeLine {
     ghost text = { λ line. size_line line.0 };
 
     fn say<S: TextSink>(self, out: &mut S) {
-        if self.0 > 100_000 {
+        if self.0 > LARGE_PAGE {
             say(
                 out,
                 (

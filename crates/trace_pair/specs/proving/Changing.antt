@@ -1,9 +1,9 @@
 -- Devices of proof: what a change adds to a text and to a count, where one begins with a row.
-use Rattle.std.specs.Prelude.{ℕ, ◌-◌, ◌==◌, Bool, false, ◌||◌, List, [], ◌++◌, Option, Some, None, if◌then◌else◌}
+use Rattle.std.specs.Prelude.{ℕ, ◌+◌, ◌-◌, ◌==◌, Bool, false, ◌||◌, List, [], ◌++◌, Option, Some, None, if◌then◌else◌}
 use Rattle.uds_exchange.specs.Meaning.{ItemValue}
 use Rattle.shown_rows.specs.declared.changes.Change.{Change}
 use Rattle.trace_report.specs.Session.{SessionValue}
-use Rattle.trace_pair.specs.Differences.{difference_line, more_start}
+use Rattle.trace_pair.specs.Differences.{difference_line, more_start, open_differences}
 use Rattle.trace_pair.specs.Verdict.{is_exchange, left_lossy, right_lossy}
 
 -- how many changes there are: one, or none
@@ -14,7 +14,7 @@ count_if (Some here) = 1
 -- the line of a change in a list of so many, and what begins before it
 abbrev pub line_if : SessionValue → SessionValue → ℕ → ℕ → Option Change → List ℕ
 line_if left right listed number None = []
-line_if left right listed number (Some here) = (if number == 11 then more_start (listed - 10) else []) ++ difference_line left right number here
+line_if left right listed number (Some here) = (if number == open_differences + 1 then more_start (listed - open_differences) else []) ++ difference_line left right number here
 
 -- at how many changes a log is not clean: at one, or at none
 abbrev pub lossy_if : SessionValue → SessionValue → Option Change → ℕ
