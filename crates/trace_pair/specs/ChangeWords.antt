@@ -6,7 +6,7 @@ use Rattle.uds_exchange.specs.Meaning.{ItemValue}
 use Rattle.uds_difference.specs.declared.row.Row.{Row}
 use Rattle.uds_difference.specs.declared.row.Row.TheVariants.{Same, Changed, OnlyLeft, OnlyRight}
 use Rattle.shown_rows.specs.declared.changes.Change.{Change}
-use Rattle.trace_pair.specs.ItemWords.{differ, outcome_of, title}
+use Rattle.trace_pair.specs.ItemWords.{differ, item_title, outcome_note}
 
 -- the change stands where a memory has room for it
 pub record IsSmall (here : Change) : Type 0 where
@@ -34,14 +34,14 @@ tag OnlyRight = codes "only in B"
 
 -- a change of two items, if they are there
 abbrev pub pair_words : Option ItemValue → Option ItemValue → List ℕ
-pair_words (Some x) (Some y) = title x ++ codes ": " ++ differ x y
+pair_words (Some x) (Some y) = item_title x ++ codes ": " ++ differ x y
 pair_words _ _ = []
 
 -- so many items that stand alone, from the place of the first one on
 abbrev pub run_words : List ItemValue → ℕ → ℕ → List ℕ
 run_words items first count =
-    if count == 1 then text_if_some title (slice_get items first) ++ text_if_some outcome_of (slice_get items first)
-    else decimal count ++ codes " items, from " ++ text_if_some title (slice_get items first) ++ codes " to " ++ text_if_some title (slice_get items (first + count - 1))
+    if count == 1 then text_if_some item_title (slice_get items first) ++ text_if_some outcome_note (slice_get items first)
+    else decimal count ++ codes " items, from " ++ text_if_some item_title (slice_get items first) ++ codes " to " ++ text_if_some item_title (slice_get items (first + count - 1))
 
 -- what a change is
 abbrev pub what_text : List ItemValue → List ItemValue → Row → ℕ → ℕ → ℕ → List ℕ

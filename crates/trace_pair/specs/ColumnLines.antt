@@ -4,6 +4,7 @@ use Rattle.std.specs.Fmt.{decimal}
 use Rattle.std.specs.List.{flat_map, range_with_len}
 use Rattle.can_log.specs.Digits.{hexadecimal}
 use Rattle.byte_columns.specs.declared.column.Column.{Column}
+use Rattle.byte_columns.specs.declared.lines.TheConstants.{LINE}
 use Rattle.byte_columns.specs.Columns.{differing, differs}
 use Rattle.byte_columns.specs.Laws.{listed}
 use Rattle.byte_columns.specs.Lines.{Stretch, shown, folded, columns_from, hidden, line, line_differs, stretches}
@@ -21,10 +22,11 @@ abbrev pub byte_or_gap : Option ℕ → List ℕ
 byte_or_gap None = codes "--"
 byte_or_gap (Some byte) = hexadecimal 2 byte
 
--- A mark begins with a column that differs, behind one that doesn't, and ends before one that doesn't.
+-- a mark begins with a column that differs, where none is open
 abbrev pub mark_start : Bool → Bool → List ℕ
 mark_start marked differ = if differ && not marked then codes "<mark>" else []
 
+-- a mark that is open ends before a column that doesn't differ
 abbrev pub mark_end : Bool → Bool → List ℕ
 mark_end marked differ = if marked && not differ then codes "</mark>" else []
 
@@ -73,7 +75,7 @@ whose_text Untold = []
 
 -- how many bytes a log has before a line
 abbrev pub bytes_before : Log → List Column → ℕ → ℕ
-bytes_before log columns number = length (bytes_in log (take (16 * number) columns))
+bytes_before log columns number = length (bytes_in log (take (LINE * number) columns))
 
 -- the line of a number, as one log has it
 abbrev pub line_of : Bool → List ℕ → Log → List Column → ℕ → List ℕ

@@ -33,20 +33,25 @@ use Rattle.trace_pair.specs.Verdict.{left_lossy, right_lossy}
 
 -- The rows that a chart has.
 
--- from the row of the item before a place up to that of the third item from there on
+-- a chart has so many rows at most
+abbrev pub most_rows : ℕ
+most_rows = 40
+
+-- a chart around the item of a place begins with the row of the item before it
 abbrev pub chart_from : ℕ → List RowValue → ℕ
 chart_from item rows = rows_before (item - 1) rows
 
+-- a chart around the item of a place ends before the row of the third item from there on
 abbrev pub chart_to : ℕ → List RowValue → ℕ
 chart_to item rows = rows_before (item + 3) rows
 
--- at most forty rows
+-- the rows of a chart around the item of a place
 abbrev pub chart_rows : ℕ → List RowValue → List RowValue
-chart_rows item rows = take (min 40 (chart_to item rows - chart_from item rows)) (drop (chart_from item rows) rows)
+chart_rows item rows = take (min most_rows (chart_to item rows - chart_from item rows)) (drop (chart_from item rows) rows)
 
--- how many more there are
+-- how many rows between the start of a chart and its end are more than it has
 abbrev pub rows_more : ℕ → List RowValue → ℕ
-rows_more item rows = chart_to item rows - chart_from item rows - 40
+rows_more item rows = chart_to item rows - chart_from item rows - most_rows
 
 -- Their text.
 
@@ -73,6 +78,7 @@ abbrev pub chart_data : Log → List ℕ → Option (List ℕ) → List ℕ
 chart_data log bytes None = data_text bytes
 chart_data log bytes (Some other) = lines_text (Only log) (has_word bytes || has_word other) (beside_of log bytes other)
 
+-- the row of a message in a chart: when it was, what it is, its bytes, and its arrow
 abbrev pub chart_message : Log → Option Marked → ℕ → MessageRole → Dir → MessagePlace → List ℕ → List ℕ
 chart_message log marked origin is d place bytes =
     message_front false origin is place ++ cell_front d ++ role_words is d bytes ++ chart_data log bytes (counterpart marked is place.item)
@@ -90,6 +96,7 @@ chart_row log marked origin (unfinished d line len) = unfinished_row false d lin
 abbrev pub body_start : Bool → List ℕ
 body_start is = if is then codes "<tbody>\n" else []
 
+-- rows of a chart, in bodies of the table; the first row of all begins one
 abbrev pub rows_text : Log → Option Marked → ℕ → Bool → List RowValue → List ℕ
 rows_text log marked origin first [] = []
 rows_text log marked origin first (row ∷ rows) =
@@ -128,7 +135,7 @@ abbrev pub answer_beside : PlacedItemValue → PlacedItemValue → Option (List 
 answer_beside own other =
     answer_if own.answer other.answer (same_outcome (outcome_by own.begin.bytes own.answer) (outcome_by other.begin.bytes other.answer))
 
--- the marks of an item, which has this number, beside the one that it changed to
+-- what a chart marks of the item of this number, beside the one that it changed to
 abbrev pub marks : ℕ → Option PlacedItemValue → Option PlacedItemValue → Option Marked
 marks number (Some own) (Some other) = Some (record {
   item = number;
@@ -137,7 +144,7 @@ marks number (Some own) (Some other) = Some (record {
 })
 marks number own other = None
 
--- a change is of two items that changed, and only these have marks, in the left log and in the right one
+-- a change is of two items that changed; only these have marks
 abbrev pub is_changed : Row → Bool
 is_changed Same = false
 is_changed Changed = true
@@ -148,17 +155,19 @@ is_changed OnlyRight = false
 abbrev pub changed_item : Change → SessionValue → ℕ → Option PlacedItemValue
 changed_item here session place = if is_changed here.kind then slice_get (items_in session.rows) place else None
 
+-- what the chart of the left log marks at a change
 abbrev pub left_marks : SessionValue → SessionValue → Change → Option Marked
 left_marks left right here = marks (here.left + 1) (changed_item here left here.left) (changed_item here right here.right)
 
+-- what the chart of the right log marks at a change
 abbrev pub right_marks : SessionValue → SessionValue → Change → Option Marked
 right_marks left right here = marks (here.right + 1) (changed_item here right here.right) (changed_item here left here.left)
 
--- a log's side
+-- the side of a log in the section of the first difference: its letter, its name, and its chart
 abbrev pub side : Log → List ℕ → Option Marked → ℕ → SessionValue → List ℕ
 side log name marked item session = codes "<section>\n<h3>" ++ lettered_name log name ++ codes "</h3>\n" ++ chart log marked item session ++ codes "</section>\n"
 
--- a change, which is the first of so many
+-- the section of a change that is the first of so many: its line, and both logs around it
 abbrev pub first_of : ℕ → List ℕ → List ℕ → SessionValue → SessionValue → Change → List ℕ
 first_of count left_name right_name left right here =
     codes "<section id=\"difference\">\n<h2>" ++ (if count == 1 then codes "The difference, as recorded" else codes "The first difference, as recorded") ++ codes "</h2>\n<p>"
@@ -166,7 +175,7 @@ first_of count left_name right_name left right here =
     ++ side A left_name (left_marks left right here) here.left left ++ side B right_name (right_marks left right here) here.right right
     ++ codes "</div>\n</section>\n"
 
--- the first of these changes, if there is one
+-- the section of the first of these changes, if there is one
 abbrev pub first_text : List ℕ → List ℕ → SessionValue → SessionValue → List Change → List ℕ
 first_text left_name right_name left right [] = []
 first_text left_name right_name left right (here ∷ later) = first_of (suc (length later)) left_name right_name left right here

@@ -10,5 +10,6 @@ help_start =
     ++ codes "<p>In a chart the left line is the tester, the right line the unit, and an arrow from one to the other is a message, however many frames carried it, in the order in which the messages were complete. An item has the time of its first message. Times are not compared. "
     ++ times_words
 
+-- the whole end of a page of two logs
 abbrev pub help_text : List ℕ
 help_text = help_start ++ legend_text ++ limits_text ++ tail_text

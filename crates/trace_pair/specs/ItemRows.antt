@@ -20,7 +20,7 @@ use Rattle.trace_pair.specs.declared.outcome.Outcome.{Outcome}
 use Rattle.trace_pair.specs.ChangeWords.{tag}
 use Rattle.trace_pair.specs.ColumnLines.{lines_text, whose_text}
 use Rattle.trace_pair.specs.declared.column_words.Whose.TheVariants.{Of}
-use Rattle.trace_pair.specs.ItemWords.{differ, outcome, same_outcome}
+use Rattle.trace_pair.specs.ItemWords.{came_of, differ, same_outcome}
 use Rattle.trace_pair.specs.Losses.{losses_of, losses_text}
 use Rattle.trace_pair.specs.ToldItems.{note_of, told_answer, told_item}
 use Rattle.trace_pair.specs.Verdict.{has_left, has_right}
@@ -50,8 +50,8 @@ other_outcomes request answer asked reply =
 
 -- what came of a request, by its answer
 abbrev pub outcome_by : List ℕ → Option RowMessageValue → Outcome
-outcome_by request None = outcome request None
-outcome_by request (Some reply) = outcome request (Some reply.bytes)
+outcome_by request None = came_of request None
+outcome_by request (Some reply) = came_of request (Some reply.bytes)
 
 -- two items that changed: what is the same once, what differs byte under byte, and other outcomes in lines of their own
 abbrev pub told_pair : PlacedItemValue → PlacedItemValue → List ℕ
@@ -65,9 +65,11 @@ told_pair one other =
 
 -- Numbers of a row.
 
+-- a dash, in place of the number of an item that a row doesn't have
 abbrev pub no_number : List ℕ
 no_number = codes "<span class=\"none\">&#8211;</span>"
 
+-- the number of an item, counted from 1, where a row has it
 abbrev pub number_if : Bool → ℕ → List ℕ
 number_if has place = if has then decimal (place + 1) else no_number
 
@@ -103,53 +105,61 @@ navigation number all =
     else codes "<span class=\"nav\">" ++ decimal number ++ codes " of " ++ decimal all ++ codes " "
     ++ (if nat_lt number all then codes "<a href=\"#d" ++ decimal (number + 1) ++ codes "\">next</a>" else codes "<a href=\"#differences\">list</a>") ++ codes "</span>"
 
+-- the line above the first row of a change: what it is, its number of all, and the way to the next one
 abbrev pub top : ℕ → ℕ → Row → ℕ → Option PlacedItemValue → Option PlacedItemValue → List ℕ
 top number all kind count one other =
     codes "<p class=\"top\"><span>" ++ change_words kind count one other ++ codes "</span>" ++ navigation number all ++ codes "</p>"
 
 -- What a row says of its items, which stand at these places.
 
+-- an item with its messages, if there is one
 abbrev pub told_if : Option PlacedItemValue → List ℕ
 told_if None = []
 told_if (Some item) = told_item item
 
+-- two items that changed, if both are there
 abbrev pub told_pair_if : Option PlacedItemValue → Option PlacedItemValue → List ℕ
 told_pair_if (Some one) (Some other) = told_pair one other
 told_pair_if _ _ = []
 
--- the items themselves: what both have the same stands once
+-- the items of a row of this kind: what both have the same stands once
 abbrev pub told : Row → Option PlacedItemValue → Option PlacedItemValue → List ℕ
 told Same one other = told_if other
 told Changed one other = told_pair_if one other
 told OnlyLeft one other = told_if one
 told OnlyRight one other = told_if other
 
+-- where an item stands in its log and when it was, if there is one
 abbrev pub note_if : Log → ℕ → Option PlacedItemValue → List ℕ
 note_if log origin None = []
 note_if log origin (Some item) = note_of log origin item
 
--- what is missing of the item that a row has of each log
+-- what is missing of the item that a row has of the left log, if it has one
 abbrev pub left_losses : SessionValue → Row → ℕ → List ℕ
 left_losses session kind i = if has_left kind then losses_text A (losses_of session.rows i) else []
 
+-- what is missing of the item that a row has of the right log, if it has one
 abbrev pub right_losses : SessionValue → Row → ℕ → List ℕ
 right_losses session kind j = if has_right kind then losses_text B (losses_of session.rows j) else []
 
--- the item that a row has of each log, if it has one
+-- the item that a row has of the left log, if it has one
 abbrev pub left_item : SessionValue → Row → ℕ → Option PlacedItemValue
 left_item session kind i = if has_left kind then slice_get (items_in session.rows) i else None
 
+-- the item that a row has of the right log, if it has one
 abbrev pub right_item : SessionValue → Row → ℕ → Option PlacedItemValue
 right_item session kind j = if has_right kind then slice_get (items_in session.rows) j else None
 
--- as a row stands, and with the change that begins with it
+-- the number of the change that begins with a row, if one does
 abbrev pub begun_number : Option Begun → Option ℕ
 begun_number begun = option_map (λ (b : Begun). b.number) begun
 
+-- the line above a row, if a change begins with it
 abbrev pub top_of : Option Begun → Row → Option PlacedItemValue → Option PlacedItemValue → List ℕ
 top_of None kind one other = []
 top_of (Some begun) kind one other = top begun.number begun.all kind begun.count one other
 
+-- a row of the table: its numbers, the change that begins with it, its items, when they were, and what is missing of them
 abbrev pub row_text : SessionValue → SessionValue → RowPlace → Option Begun → List ℕ
 row_text left right place begun =
     row_start place.kind (begun_number begun) ++ numbers place.kind place.left place.right

@@ -18,10 +18,15 @@ use Rattle.trace_pair.specs.ItemRows.{row_text}
 use Rattle.trace_pair.specs.Losses.{losses_from}
 use Rattle.trace_pair.specs.Verdict.{items_word}
 
--- the start of a table, and its end
+-- a table that folds has so many rows at most, and another one goes on
+abbrev pub full_table : ℕ
+full_table = 200
+
+-- the start of a table, up to its first row
 abbrev pub table_start : List ℕ
 table_start = codes "<table class=\"pair\">\n<thead><tr><th scope=\"col\">A<th scope=\"col\">B<th scope=\"col\">Item</thead>\n<tbody>\n"
 
+-- the end of the table that stands, if one does
 abbrev pub table_end : Table → List ℕ
 table_end Closed = []
 table_end (Open rows) = codes "</table>\n"
@@ -33,6 +38,7 @@ both_ranges left right count = items_range (codes "A") left count ++ codes ", " 
 
 -- Folds.
 
+-- the place of a row of two items that are the same, behind so many items of both logs
 abbrev pub same_place : ℕ → ℕ → RowPlace
 same_place left right = record { kind = Same; left = left; right = right }
 
@@ -51,57 +57,67 @@ fold_line one other left right count =
     codes "<b>" ++ items_word count ++ codes ", the same</b> <i>" ++ both_ranges left right count ++ codes "</i>"
     ++ fold_losses (codes "A") (losses_from one.rows left count) ++ fold_losses (codes "B") (losses_from other.rows right count)
 
--- a part of a long fold: up to two hundred items
+-- a part of a long fold: up to a full table of items
 abbrev pub fold_part : SessionValue → SessionValue → ℕ → ℕ → ℕ → List ℕ
 fold_part one other left right count =
     codes "<details class=\"b\">\n<summary>" ++ both_ranges left right count ++ codes "</summary>\n" ++ table_start ++ same_rows one other left right count
     ++ codes "</table>\n</details>\n"
 
--- so many parts, of which the last one has the items that are left
+-- the parts of a long fold, so many of them: the last one has the items that are left
 abbrev pub fold_parts : SessionValue → SessionValue → ℕ → ℕ → ℕ → ℕ → List ℕ
 fold_parts one other left right count zero = []
 fold_parts one other left right count (suc more) =
-    fold_part one other left right (min 200 count) ++ fold_parts one other (left + 200) (right + 200) (count - 200) more
+    fold_part one other left right (min full_table count)
+    ++ fold_parts one other (left + full_table) (right + full_table) (count - full_table) more
 
--- so many items that are the same, folded: in one table, or in parts of two hundred
+-- a long fold of so many items has so many parts
+abbrev pub part_count : ℕ → ℕ
+part_count count = (count + (full_table - 1)) / full_table
+
+-- so many items that are the same, folded: in one table, or in parts that are full but for the last one
 abbrev pub fold_text : SessionValue → SessionValue → ℕ → ℕ → ℕ → List ℕ
 fold_text one other left right count =
-    if nat_le count 200
+    if nat_le count full_table
     then codes "<details class=\"b same\">\n<summary>" ++ fold_line one other left right count ++ codes "</summary>\n" ++ table_start
     ++ same_rows one other left right count ++ codes "</table>\n</details>\n"
     else codes "<details class=\"b same long\">\n<summary>" ++ fold_line one other left right count ++ codes "</summary>\n"
-    ++ fold_parts one other left right count ((count + 199) / 200) ++ codes "</details>\n"
+    ++ fold_parts one other left right count (part_count count) ++ codes "</details>\n"
 
 -- What stands in the open.
+
+-- so many blocks, the first ones, are open
+abbrev pub open_blocks : ℕ
+open_blocks = 4
 
 -- a block: a table that folds, by how many stand before it
 abbrev pub block_start : ℕ → ℕ → ℕ → List ℕ
 block_start blocks left right =
-    (if nat_lt blocks 4 then codes "<details class=\"b\" open>\n<summary>From A&#160;" else codes "<details class=\"b\">\n<summary>From A&#160;")
+    (if nat_lt blocks open_blocks then codes "<details class=\"b\" open>\n<summary>From A&#160;" else codes "<details class=\"b\">\n<summary>From A&#160;")
     ++ decimal (left + 1) ++ codes ", B&#160;" ++ decimal (right + 1) ++ codes "</summary>\n" ++ table_start
 
--- what begins before a row, by the table that stands: a table; and behind two hundred rows a block
+-- what begins before a row that is shown: a table where none stands, a block where one is full
 abbrev pub opening : Table → ℕ → ℕ → ℕ → List ℕ
 opening Closed blocks left right = table_start
-opening (Open rows) blocks left right = if nat_lt rows 200 then [] else table_end (Open rows) ++ block_start blocks left right
-opening (Block rows) blocks left right = if nat_lt rows 200 then [] else table_end (Block rows) ++ block_start blocks left right
+opening (Open rows) blocks left right = if nat_lt rows full_table then [] else table_end (Open rows) ++ block_start blocks left right
+opening (Block rows) blocks left right = if nat_lt rows full_table then [] else table_end (Block rows) ++ block_start blocks left right
 
--- the table that stands then, and how many blocks
+-- the table that stands behind a row that is shown, by the one before it
 abbrev pub table_behind : Table → Table
 table_behind Closed = Open 1
-table_behind (Open rows) = if nat_lt rows 200 then Open (rows + 1) else Block 1
-table_behind (Block rows) = if nat_lt rows 200 then Block (rows + 1) else Block 1
+table_behind (Open rows) = if nat_lt rows full_table then Open (rows + 1) else Block 1
+table_behind (Block rows) = if nat_lt rows full_table then Block (rows + 1) else Block 1
 
+-- how many blocks began up to a row that is shown, by the table before it and how many began then
 abbrev pub blocks_behind : Table → ℕ → ℕ
 blocks_behind Closed blocks = blocks
-blocks_behind (Open rows) blocks = if nat_lt rows 200 then blocks else blocks + 1
-blocks_behind (Block rows) blocks = if nat_lt rows 200 then blocks else blocks + 1
+blocks_behind (Open rows) blocks = if nat_lt rows full_table then blocks else blocks + 1
+blocks_behind (Block rows) blocks = if nat_lt rows full_table then blocks else blocks + 1
 
--- it is full: another one begins before the next row
+-- a table is full: another one begins before the next row that is shown
 abbrev pub is_full : Table → Bool
 is_full Closed = false
-is_full (Open rows) = nat_le 200 rows
-is_full (Block rows) = nat_le 200 rows
+is_full (Open rows) = nat_le full_table rows
+is_full (Block rows) = nat_le full_table rows
 
 -- All rows.
 
@@ -112,7 +128,7 @@ pub record IsSmall (at : Standing) : Type 0 where
   pub changes : at.changes < 2 ^ 63
   pub blocks : at.blocks < 2 ^ 63
 
--- and so does what stands behind so many more rows
+-- what stands behind so many rows more fits a memory
 pub record IsRoomy (at : Standing) (more : ℕ) : Type 0 where
   pub left : at.left + more < 2 ^ 63
   pub right : at.right + more < 2 ^ 63
@@ -124,6 +140,7 @@ abbrev pub begun : Row → ℕ → ℕ → Row → List Row → Option Begun
 begun front before all row rows =
     if begins_change front row then Some (record { number = before + 1; all = all; count = change_length row rows }) else None
 
+-- how many changes began up to a row, where so many began before it
 abbrev pub changes_with : Row → ℕ → Row → ℕ
 changes_with front before row = if begins_change front row then before + 1 else before
 
@@ -131,16 +148,16 @@ changes_with front before row = if begins_change front row then before + 1 else 
 abbrev pub at_start : Standing
 at_start = record { folded = 0; context = 0; front = Same; left = 0; right = 0; changes = 0; table = Closed; blocks = 0 }
 
--- behind a row
+-- what stands behind a row, but for the table and the fold
 abbrev pub with_row : Row → Standing → Standing
 with_row row at =
     record at { context = context_behind at.context row; front = row; left = at.left + left_in row; right = at.right + right_in row; changes = changes_with at.front at.changes row }
 
--- where it is shown, in a table
+-- what stands behind a row that is shown in a table
 abbrev pub with_shown : Row → Standing → Standing
 with_shown row at = record (with_row row at) { table = table_behind at.table; blocks = blocks_behind at.table at.blocks }
 
--- where a fold of so many rows begins with it, or is under way
+-- what stands behind a row in a fold, of which so many rows are left from that one on
 abbrev pub with_fold : ℕ → Row → Standing → Standing
 with_fold count row at = record (with_row row at) { folded = count - 1; table = Closed }
 
@@ -159,6 +176,7 @@ row_or_fold one other all at row rows =
     then shown_text one other all at row rows
     else table_end at.table ++ fold_text one other at.left at.right (folded (row ∷ rows))
 
+-- what stands behind a row: one within a fold, one that is shown, or the first one of a fold
 abbrev pub standing_behind : Standing → Row → List Row → Standing
 standing_behind at row rows =
     if nat_lt 0 at.folded then with_fold at.folded row at

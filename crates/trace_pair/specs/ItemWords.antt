@@ -13,17 +13,18 @@ use Rattle.trace_pair.specs.declared.outcome.Outcome.TheVariants.{Positive, Refu
 use Rattle.trace_pair.specs.ByteWords.{byte_words}
 
 -- what came of a request: its answer, or why there is none
-abbrev pub outcome : List ℕ → Option (List ℕ) → Outcome
-outcome request (Some reply) = if is_negative_response reply then Refused (response_code reply) else Positive
-outcome request None = if is_suppressing request then Silent else Unanswered
+abbrev pub came_of : List ℕ → Option (List ℕ) → Outcome
+came_of request (Some reply) = if is_negative_response reply then Refused (response_code reply) else Positive
+came_of request None = if is_suppressing request then Silent else Unanswered
 
+-- what came of a request, in words
 abbrev pub outcome_words : Outcome → List ℕ
 outcome_words Positive = codes "positive"
 outcome_words (Refused code) = codes "refused with <b>" ++ code_text code ++ codes "</b>"
 outcome_words Silent = codes "silent, as the request asks"
 outcome_words Unanswered = codes "without an answer"
 
--- both are of one kind; a refusal is another one by its code
+-- two outcomes are the same: of one kind, and refusals with one code
 abbrev pub same_outcome : Outcome → Outcome → Bool
 same_outcome Positive Positive = true
 same_outcome (Refused code) (Refused other) = code == other
@@ -31,11 +32,15 @@ same_outcome Silent Silent = true
 same_outcome Unanswered Unanswered = true
 same_outcome _ _ = false
 
--- the first eight bytes of a message, and how many more it has
+-- so many bytes of a message are told in a sentence
+abbrev pub told_bytes : ℕ
+told_bytes = 8
+
+-- the first bytes of a message, and how many more it has
 abbrev pub first_bytes : List ℕ → List ℕ
 first_bytes bytes =
-    codes "<code>" ++ bytes_apart (take 8 bytes) ++ codes "</code>"
-    ++ (if nat_le (length bytes) 8 then [] else codes " <i>and " ++ decimal (length bytes - 8) ++ more_words (length bytes - 8) ++ codes "</i>")
+    codes "<code>" ++ bytes_apart (take told_bytes bytes) ++ codes "</code>"
+    ++ (if nat_le (length bytes) told_bytes then [] else codes " <i>and " ++ decimal (length bytes - told_bytes) ++ more_words (length bytes - told_bytes) ++ codes "</i>")
 
 -- a stray is a keep-alive, where the tester sent it and it is one
 abbrev pub keeps_alive : Dir → List ℕ → Bool
@@ -43,16 +48,16 @@ keeps_alive dir.Tester bytes = is_keep_alive bytes
 keeps_alive dir.Unit bytes = false
 
 -- what an item is, and how it begins
-abbrev pub title : ItemValue → List ℕ
-title (exchange request answer) = codes "<b>" ++ service_text (sid request) ++ codes "</b> " ++ first_bytes request
-title (stray side bytes) =
+abbrev pub item_title : ItemValue → List ℕ
+item_title (exchange request answer) = codes "<b>" ++ service_text (sid request) ++ codes "</b> " ++ first_bytes request
+item_title (stray side bytes) =
     (if keeps_alive side bytes then codes "<b>keep-alive</b> " else codes "<b>stray</b> <i>from the " ++ direction_text side ++ codes "</i> ")
     ++ first_bytes bytes
 
--- what came of it, where it is an exchange
-abbrev pub outcome_of : ItemValue → List ℕ
-outcome_of (exchange request answer) = codes ": " ++ outcome_words (outcome request answer)
-outcome_of (stray side bytes) = []
+-- what came of an item, behind its title, where it is an exchange
+abbrev pub outcome_note : ItemValue → List ℕ
+outcome_note (exchange request answer) = codes ": " ++ outcome_words (came_of request answer)
+outcome_note (stray side bytes) = []
 
 -- at which bytes two answers differ, behind what stands before
 abbrev pub answer_bytes : List ℕ → Option (List ℕ) → Option (List ℕ) → List ℕ
@@ -69,7 +74,7 @@ answers_differ before one other answer reply =
 abbrev pub differ : ItemValue → ItemValue → List ℕ
 differ (exchange request answer) (exchange other reply) =
     if same_bytes request other
-    then answers_differ [] (outcome request answer) (outcome other reply) answer reply
-    else codes "request" ++ byte_words request other ++ answers_differ (codes "; ") (outcome request answer) (outcome other reply) answer reply
+    then answers_differ [] (came_of request answer) (came_of other reply) answer reply
+    else codes "request" ++ byte_words request other ++ answers_differ (codes "; ") (came_of request answer) (came_of other reply) answer reply
 differ (stray side bytes) (stray other others) = codes "message" ++ byte_words bytes others
 differ _ _ = []

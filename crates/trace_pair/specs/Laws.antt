@@ -11,8 +11,8 @@ use Rattle.trace_report.specs.Items.{rows_before}
 use Rattle.trace_report.specs.Kept.{KeepsTwo, TwoValue}
 use Rattle.trace_report.specs.Rows.{RowValue}
 use Rattle.trace_pair.specs.Compared.{comparison_in}
-use Rattle.trace_pair.specs.First.{chart_from, chart_rows}
-use Rattle.trace_pair.specs.ItemWords.{outcome}
+use Rattle.trace_pair.specs.First.{chart_from, chart_rows, most_rows}
+use Rattle.trace_pair.specs.ItemWords.{came_of}
 use Rattle.trace_pair.specs.Sessions.{values_in}
 use Rattle.trace_pair.specs.Style.{page_style}
 use Rattle.trace_pair.specs.declared.outcome.Outcome.TheVariants.{Silent, Unanswered}
@@ -34,14 +34,14 @@ AgreesWithCompare = (settings : Settings) (one other : List ℕ) (held : TwoValu
     → comparison_in held ≡ compared.comparison
 
 -- the chart of a log around the item of a place is one piece of the log's rows, and has the row with which the item begins,
--- if the log has one and the item before it has less than forty rows
+-- if the log has one and the item before it has fewer rows than a chart has at most
 abbrev pub ChartHasTheItem : Type 0
 ChartHasTheItem = (item : ℕ) (rows : List RowValue)
     → ((front more : List RowValue) × (rows ≡ front ++ (chart_rows item rows ++ more)))
-    × (rows_before item rows < length rows → rows_before item rows < chart_from item rows + 40
+    × (rows_before item rows < length rows → rows_before item rows < chart_from item rows + most_rows
     → slice_get (chart_rows item rows) (rows_before item rows - chart_from item rows) ≡ slice_get rows (rows_before item rows))
 
 -- an exchange that is told as one without an answer, or as silent, has none
 abbrev pub UnansweredHasNone : Type 0
 UnansweredHasNone = (request : List ℕ) (answer : Option (List ℕ))
-    → (outcome request answer ≡ Unanswered → answer ≡ None) × (outcome request answer ≡ Silent → answer ≡ None)
+    → (came_of request answer ≡ Unanswered → answer ≡ None) × (came_of request answer ≡ Silent → answer ≡ None)

@@ -5,15 +5,16 @@ use Rattle.trace_report.specs.Front.{name_text}
 use Rattle.trace_pair.specs.declared.log.Log.{Log}
 use Rattle.trace_pair.specs.declared.log.Log.TheVariants.{A, B}
 
+-- the letter of a log
 abbrev pub letter : Log → List ℕ
 letter A = codes "A"
 letter B = codes "B"
 
--- a log, where words go on
+-- the letter of a log, before words or its name
 abbrev pub letter_mark : Log → List ℕ
 letter_mark log = codes "<span class=\"who\">" ++ letter log ++ codes "</span> "
 
--- and by its name
+-- a log by its letter and its name
 abbrev pub lettered_name : Log → List ℕ → List ℕ
 lettered_name log name = letter_mark log ++ name_text name
 

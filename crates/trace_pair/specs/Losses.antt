@@ -32,10 +32,11 @@ losses_behind begun item [] = []
 losses_behind begun item (row ∷ rows) =
     if is_loss row && begun - 1 == item then row ∷ losses_behind (begun + count_begun row) item rows else losses_behind (begun + count_begun row) item rows
 
+-- what is missing of the item of this place in a log with these rows
 abbrev pub losses_of : List RowValue → ℕ → List RowValue
 losses_of rows item = losses_behind 0 item rows
 
--- something is missing of so many items, from this one on
+-- how much is missing of so many items, from this one on
 abbrev pub losses_from : List RowValue → ℕ → ℕ → ℕ
 losses_from rows item zero = 0
 losses_from rows item (suc more) = length (losses_of rows item) + losses_from rows (item + 1) more
@@ -48,14 +49,18 @@ loss_words (dropped place d linked why) = codes "line " ++ decimal place.line ++
 loss_words (ended place end) = codes "line " ++ decimal place.line ++ codes ": " ++ ended_words end
 loss_words (unfinished d line len) = unfinished_words d line len
 
--- a loss of a log
+-- a loss of a log, in a line of its own
 abbrev pub loss_line : Log → RowValue → List ℕ
 loss_line log row = codes "<p class=\"lost\">" ++ letter_mark log ++ loss_words row ++ codes "</p>"
 
--- that there are more, where there are
-abbrev pub more_losses : Log → ℕ → List ℕ
-more_losses log count = if nat_le count 20 then [] else codes "<p class=\"lost\">and " ++ decimal (count - 20) ++ codes " more in " ++ letter log ++ codes "</p>"
+-- so many losses of an item are told
+abbrev pub told_losses : ℕ
+told_losses = 20
 
--- what is missing of an item: up to twenty losses, and how many more there are
+-- how many losses there are that are not told, where there are more
+abbrev pub more_losses : Log → ℕ → List ℕ
+more_losses log count = if nat_le count told_losses then [] else codes "<p class=\"lost\">and " ++ decimal (count - told_losses) ++ codes " more in " ++ letter log ++ codes "</p>"
+
+-- what is missing of an item: the losses that are told, and how many more there are
 abbrev pub losses_text : Log → List RowValue → List ℕ
-losses_text log losses = flat_map (loss_line log) (take 20 losses) ++ more_losses log (length losses)
+losses_text log losses = flat_map (loss_line log) (take told_losses losses) ++ more_losses log (length losses)

@@ -44,6 +44,7 @@ abbrev pub cut_notice : List ℕ
 cut_notice =
     codes "<p id=\"cut\" role=\"status\" hidden>This page has no end. What wrote it was stopped, or the file was cut, or the page is still loading: it tells nothing of the rest of the session.</p>\n</header>\n"
 
+-- the front of a page, up to its verdict: the title, the style, both logs by their names, the identifiers, and the links
 abbrev pub front : TitleValue → ℕ → List ℕ
 front title count =
     page_start ++ codes "<title>" ++ name_text title.left ++ codes " and " ++ name_text title.right ++ codes " - udsnorm report</title>\n<style>\n" ++ title.style
@@ -53,11 +54,13 @@ front title count =
 
 -- All counts.
 
+-- the counts of a log, below its name
 abbrev pub counts_of : Log → List ℕ → SessionValue → List ℕ
 counts_of log name session =
     codes "<section>\n<h3>" ++ lettered_name log name ++ codes "</h3>\n<p>" ++ state session.summary ++ codes "</p>\n"
     ++ counts_text (counts_in session.rows) session.summary ++ span_of session.summary.frames session.first session.last ++ codes "</section>\n"
 
+-- the counts of both logs, side by side
 abbrev pub counts_section : TitleValue → SessionValue → SessionValue → List ℕ
 counts_section title left right =
     codes "<section id=\"counts\">\n<h2>The recordings</h2>\n<div class=\"two\">\n" ++ counts_of A title.left left ++ counts_of B title.right right
@@ -65,14 +68,14 @@ counts_section title left right =
 
 -- The page.
 
--- of two sessions with these rows
+-- the page of two sessions with these rows
 abbrev pub body : TitleValue → Bool → ℕ → List Row → SessionValue → SessionValue → List ℕ
 body title shortest bound rows left right =
     front title (length (changes rows)) ++ verdict shortest bound rows left right ++ recordings title.left title.right left right ++ codes "</section>\n<main>\n"
     ++ list_text left right (changes rows) ++ first_text title.left title.right left right (changes rows) ++ items_text left right rows
     ++ counts_section title left right ++ codes "</main>\n" ++ help_text
 
--- the rows of a page are those of the difference of both sessions
+-- the page of two sessions: its rows are those of their difference
 abbrev pub page_of : TitleValue → SessionValue → SessionValue → List ℕ
 page_of title left right =
     body title (is_shortest (values_in left) (values_in right)) (bound_for (length (values_in left) + length (values_in right)))
@@ -96,6 +99,7 @@ has_page Read = false
 has_page Write = false
 has_page Memory = false
 
+-- the page where a log can't be read, if that has one
 abbrev pub unread_page : TitleValue → Log → Fault → Option RefusalCause → List ℕ
 unread_page title log why cause = if has_page why then refused_page title log why cause else []
 

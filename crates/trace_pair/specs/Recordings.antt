@@ -32,6 +32,7 @@ civil_text time =
 abbrev pub has_date : ℕ → Bool
 has_date micros = nat_le 100000000 (micros / 1000000) && nat_lt (micros / 1000000) 253402300800
 
+-- a time of a log: its date, where it has one, and its stamp
 abbrev pub when_text : ℕ → List ℕ
 when_text micros =
     if has_date micros then codes "<span class=\"nw\">" ++ civil_text (time_after (micros / 1000000)) ++ codes "</span> <i>(" ++ stamp_text micros ++ codes ")</i>"
@@ -49,7 +50,7 @@ recording log name session =
     codes "<tr><th scope=\"row\">" ++ lettered_name log name ++ codes "<td>" ++ state session.summary ++ codes "<td>" ++ decimal (length (values_in session))
     ++ times_text session.summary.frames session.first session.last ++ codes "\n"
 
--- of both
+-- the table of both recordings
 abbrev pub recordings : List ℕ → List ℕ → SessionValue → SessionValue → List ℕ
 recordings left_name right_name left right =
     codes "<table class=\"recs\">\n<thead><tr><th scope=\"col\">Recording<th scope=\"col\">State<th scope=\"col\">Items<th scope=\"col\">First frame<th scope=\"col\">Length</thead>\n<tbody>\n"

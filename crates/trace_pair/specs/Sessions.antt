@@ -9,8 +9,10 @@ use Rattle.trace_pair.specs.declared.sessions.Sessions.{Sessions}
 abbrev pub values_in : SessionValue → List ItemValue
 values_in session = map item_value (items_in session.rows)
 
+-- the items of the left session, without their places
 abbrev pub left_items : Sessions → List ItemValue
 left_items both = values_in both.left.now
 
+-- the items of the right session, without their places
 abbrev pub right_items : Sessions → List ItemValue
 right_items both = values_in both.right.now

@@ -2,6 +2,6 @@
 use Rattle.std.specs.Prelude.{ℕ, List}
 use Rattle.trace_pair.specs.declared.style.TheConstants.{STYLE}
 
--- its text, which only a law opens
+-- the text of the style, which only a law opens
 unfoldable pub page_style : List ℕ
 page_style = STYLE.now

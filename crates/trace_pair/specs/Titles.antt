@@ -4,7 +4,7 @@ use Rattle.can_log.specs.declared.frame.Id.{Id}
 use Rattle.trace_log.specs.Settings.{Settings}
 use Rattle.trace_pair.specs.declared.title.Title.{Title}
 
--- its style, the names of the logs, and the identifiers
+-- what a page is made for: its style, the names of the logs, and the identifiers
 pub record TitleValue : Type 0 where
   pub style : List ℕ
   pub left : List ℕ
@@ -12,10 +12,10 @@ pub record TitleValue : Type 0 where
   pub tester : Id
   pub unit : Id
 
--- as contracts see it
+-- a title, as contracts see it
 abbrev pub title_of : Title → TitleValue
 title_of title = record { style = title.style.now; left = title.left.now; right = title.right.now; tester = title.tester; unit = title.unit }
 
--- of logs with these names and this configuration
+-- the title of logs with these names and this configuration
 abbrev pub title_for : List ℕ → List ℕ → List ℕ → Settings → TitleValue
 title_for style left right settings = record { style = style; left = left; right = right; tester = settings.tester; unit = settings.unit }

@@ -43,5 +43,6 @@ item_note log origin begin last =
     codes "<i>" ++ letter_mark log ++ lines_of_both begin.place last.place ++ codes ", " ++ seconds_between origin begin.place.last.micros
     ++ codes "&#160;s" ++ further_note (asked_at last.role) last.place.first.micros ++ codes "</i>"
 
+-- where an item stands in its log, and when it was
 abbrev pub note_of : Log → ℕ → PlacedItemValue → List ℕ
 note_of log origin item = item_note log origin item.begin (last_message item)

@@ -17,7 +17,8 @@ use Rattle.trace_pair.specs.Sessions.{values_in}
 abbrev pub items_word : ℕ → List ℕ
 items_word count = if count == 1 then codes "1 item" else decimal count ++ codes " items"
 
--- how many items only one session has, and how many changed: what is there, one after another; the first says what is counted
+-- how many items only one session has, and how many changed: what is there, one after another; the first says what is
+-- counted
 abbrev pub counts_words : ℕ → ℕ → ℕ → List ℕ
 counts_words left right changed =
     (if left == 0 then [] else items_word left ++ codes " only in A")
@@ -46,22 +47,25 @@ abbrev pub lossy_by : Bool → SessionValue → ℕ → ℕ → Bool
 lossy_by has session before count =
     if has then nat_lt 0 (losses_from session.rows before count) else nat_lt 0 (losses_from session.rows (before - 1) 1)
 
--- a change of this kind has items of the left log, and of the right one
+-- a change of this kind has items of the left log
 abbrev pub has_left : Row → Bool
 has_left Same = true
 has_left Changed = true
 has_left OnlyLeft = true
 has_left OnlyRight = false
 
+-- a change of this kind has items of the right log
 abbrev pub has_right : Row → Bool
 has_right Same = true
 has_right Changed = true
 has_right OnlyLeft = false
 has_right OnlyRight = true
 
+-- the left log is not clean at a change
 abbrev pub left_lossy : SessionValue → Change → Bool
 left_lossy session here = lossy_by (has_left here.kind) session here.left here.count
 
+-- the right log is not clean at a change
 abbrev pub right_lossy : SessionValue → Change → Bool
 right_lossy session here = lossy_by (has_right here.kind) session here.right here.count
 
@@ -70,28 +74,29 @@ abbrev pub lossy_count : SessionValue → SessionValue → List Change → ℕ
 lossy_count left right [] = 0
 lossy_count left right (here ∷ later) = (if left_lossy left here || right_lossy right here then 1 else 0) + lossy_count left right later
 
--- where that is, among so many
+-- at which changes a log is not clean: so many of so many
 abbrev pub at_words : ℕ → ℕ → List ℕ
 at_words lossy all =
     if lossy == all then (if all == 1 then codes "At this difference" else codes "At each of these differences")
     else codes "At " ++ decimal lossy ++ codes " of these " ++ decimal all ++ codes " differences"
 
--- which log is not clean at one of them
+-- which log is not clean at one of some changes, where one is not
 abbrev pub who_words : Bool → Bool → List ℕ
 who_words true true = codes "A or B is not clean"
 who_words true false = codes "A is not clean"
 who_words false right = codes "B is not clean"
 
 -- what it means that a log is not clean at so many of so many changes, where one isn't
-abbrev pub loss_line_by : ℕ → ℕ → Bool → Bool → List ℕ
-loss_line_by lossy all left right =
+abbrev pub lossy_line : ℕ → ℕ → Bool → Bool → List ℕ
+lossy_line lossy all left right =
     if lossy == 0 then []
     else codes "<p class=\"lossline\"><b>" ++ at_words lossy all ++ codes "</b> " ++ who_words left right
     ++ codes ": frames are missing, late, out of order or of no legal form there. The recording may differ, and not the session.</p>\n"
 
-abbrev pub loss_line : SessionValue → SessionValue → List Change → List ℕ
-loss_line left right all =
-    loss_line_by (lossy_count left right all) (length all) (list_any (left_lossy left) all) (list_any (right_lossy right) all)
+-- what it means that a log is not clean at some of these changes, where one isn't
+abbrev pub lossy_line_of : SessionValue → SessionValue → List Change → List ℕ
+lossy_line_of left right all =
+    lossy_line (lossy_count left right all) (length all) (list_any (left_lossy left) all) (list_any (right_lossy right) all)
 
 -- How far it can be known.
 
@@ -100,35 +105,40 @@ abbrev pub bound_line : Bool → ℕ → List ℕ
 bound_line true bound = []
 bound_line false bound = codes "<p>Perhaps not the shortest: more than " ++ decimal bound ++ codes " items would be removed or added.</p>\n"
 
+-- a page with more rows is a large one
+abbrev pub large_page : ℕ
+large_page = 100000
+
 -- how many rows a large page has, and what gives a part of it
 abbrev pub size_line : ℕ → List ℕ
 size_line rows =
-    if nat_le rows 100000 then []
+    if nat_le rows large_page then []
     else codes "<p>This page has " ++ decimal rows ++ codes " rows. <code>udsnorm diff</code> has the differences alone, and <code>udsnorm list</code> any part of a session.</p>\n"
 
--- two sessions that differ
+-- the verdict of two sessions that differ, with these rows
 abbrev pub different_verdict : Bool → ℕ → List Row → SessionValue → SessionValue → List ℕ
 different_verdict shortest bound rows left right =
     different_heading (length (changes rows)) (count_of Same rows) (count_of OnlyLeft rows) (count_of OnlyRight rows) (count_of Changed rows)
-    ++ loss_line left right (changes rows) ++ bound_line shortest bound ++ size_line (length rows)
+    ++ lossy_line_of left right (changes rows) ++ bound_line shortest bound ++ size_line (length rows)
 
 -- The same.
 
+-- an item is an exchange, and no stray
 abbrev pub is_exchange : ItemValue → Bool
 is_exchange (exchange request answer) = true
 is_exchange (stray side bytes) = false
 
--- none of the two has an item: nothing was compared
+-- the verdict where none of the two sessions has an item
 abbrev pub nothing_verdict : List ℕ
 nothing_verdict =
     codes "<section id=\"verdict\" class=\"warn\">\n<h2><span aria-hidden=\"true\">!</span> Neither session has an item</h2>\n"
     ++ codes "<p>So they can't differ. <code>udsnorm find</code> names the identifiers of a log.</p>\n"
 
--- which log is not clean, by whether each is
+-- which log is not clean, by whether each is not
 abbrev pub unclean_words : Bool → Bool → List ℕ
-unclean_words false false = codes "neither is clean"
-unclean_words false true = codes "A is not clean"
-unclean_words true clean = codes "B is not clean"
+unclean_words true true = codes "neither is clean"
+unclean_words true false = codes "A is not clean"
+unclean_words false right = codes "B is not clean"
 
 -- the heading of sessions that are the same: in green only where they are so without a doubt
 abbrev pub same_heading : Bool → Bool → Bool → Bool → List ℕ
@@ -139,18 +149,20 @@ same_heading exchanged asked left_clean right_clean =
     then codes "<section id=\"verdict\" class=\"warn\">\n<h2><span aria-hidden=\"true\">!</span> The two sessions are the same, and neither has a request</h2>\n"
     else if left_clean && right_clean
     then codes "<section id=\"verdict\" class=\"good\">\n<h2><span aria-hidden=\"true\">=</span> The two sessions are the same</h2>\n"
-    else codes "<section id=\"verdict\" class=\"warn\">\n<h2><span aria-hidden=\"true\">=</span> The two sessions are the same as far as they are recorded: " ++ unclean_words left_clean right_clean ++ codes "</h2>\n"
+    else codes "<section id=\"verdict\" class=\"warn\">\n<h2><span aria-hidden=\"true\">=</span> The two sessions are the same as far as they are recorded: " ++ unclean_words (not left_clean) (not right_clean) ++ codes "</h2>\n"
 
--- so many items are the same
+-- that so many items are the same
 abbrev pub same_items : ℕ → List ℕ
 same_items count =
     if count == 1 then codes "<p>One item is equal in both, byte for byte.</p>\n"
     else codes "<p>Each of the " ++ decimal count ++ codes " items is equal in both, byte for byte.</p>\n"
 
+-- the verdict of two sessions that are the same: its heading, how many items they have, and the size of the page
 abbrev pub same_verdict : Bool → Bool → Bool → Bool → ℕ → List ℕ
 same_verdict exchanged asked left_clean right_clean count =
     same_heading exchanged asked left_clean right_clean ++ same_items count ++ size_line count
 
+-- the verdict of two sessions that are the same, and have so many items
 abbrev pub same_of : ℕ → SessionValue → SessionValue → List ℕ
 same_of count left right =
     same_verdict (left.summary.looks_exchanged || right.summary.looks_exchanged) (list_any is_exchange (values_in left)) (is_clean left.summary) (is_clean right.summary) count

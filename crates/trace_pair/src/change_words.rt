@@ -4,7 +4,7 @@ ghost use Rattle.trace_pair.specs.ChangeWords.{IsSmall, change_line, items_range
 ghost use Rattle.trace_pair.specs.Sessions.{left_items, right_items, values_in};
 
 use crate::differ_words::DifferWords;
-use crate::item_words::{OutcomeOf, Title};
+use crate::item_words::{ItemTitle, OutcomeNote};
 use crate::sessions::{Sessions, item_at};
 use shown_rows::Change;
 use text_parts::{Either, Part, say};
@@ -158,7 +158,7 @@ impl<'a> Part for Pair<'a> {
 
     fn say<S: TextSink>(self, out: &mut S) {
         if let (Some(x), Some(y)) = (self.0, self.1) {
-            say(out, (Title(x), ": ", DifferWords(x, y)));
+            say(out, (ItemTitle(x), ": ", DifferWords(x, y)));
         }
     }
 }
@@ -195,13 +195,13 @@ impl<'a> Part for TitleIf<'a> {
     ghost use Rattle.std.specs.Prelude.{option_map};
     ghost use Rattle.text_parts.specs.Parts.{text_if_some};
     ghost use Rattle.uds_exchange.specs.ItemSeen.{item_value};
-    ghost use Rattle.trace_pair.specs.ItemWords.{title};
+    ghost use Rattle.trace_pair.specs.ItemWords.{item_title};
 
-    ghost text = { λ t. text_if_some title (option_map item_value t.0) };
+    ghost text = { λ t. text_if_some item_title (option_map item_value t.0) };
 
     fn say<S: TextSink>(self, out: &mut S) {
         if let Some(item) = self.0 {
-            say(out, Title(item));
+            say(out, ItemTitle(item));
         }
     }
 }
@@ -214,13 +214,13 @@ impl<'a> Part for OutcomeIf<'a> {
     ghost use Rattle.std.specs.Prelude.{option_map};
     ghost use Rattle.text_parts.specs.Parts.{text_if_some};
     ghost use Rattle.uds_exchange.specs.ItemSeen.{item_value};
-    ghost use Rattle.trace_pair.specs.ItemWords.{outcome_of};
+    ghost use Rattle.trace_pair.specs.ItemWords.{outcome_note};
 
-    ghost text = { λ t. text_if_some outcome_of (option_map item_value t.0) };
+    ghost text = { λ t. text_if_some outcome_note (option_map item_value t.0) };
 
     fn say<S: TextSink>(self, out: &mut S) {
         if let Some(item) = self.0 {
-            say(out, OutcomeOf(item));
+            say(out, OutcomeNote(item));
         }
     }
 }

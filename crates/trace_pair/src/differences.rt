@@ -113,12 +113,21 @@ impl Part for Heading {
         if self.0 <= LISTED {
             say(out, ("<h2>All ", count, " differences</h2>\n"));
         } else {
-            say(out, ("<h2>The first 50 of ", count, " differences</h2>\n"));
+            say(
+                out,
+                (
+                    "<h2>The first ",
+                    Number(LISTED as u64),
+                    " of ",
+                    count,
+                    " differences</h2>\n",
+                ),
+            );
         }
     }
 }
 
-/// So many more are folded behind the tenth.
+/// The start of the fold of so many differences more than stand in the open.
 #[derive(Clone, Copy)]
 struct MoreStart(usize);
 
@@ -134,7 +143,9 @@ impl Part for MoreStart {
             (
                 "</ol>\n<details class=\"more\">\n<summary>",
                 Either(self.0 == 1, "1 more difference", several),
-                "</summary>\n<ol class=\"dl\" start=\"11\">\n",
+                "</summary>\n<ol class=\"dl\" start=\"",
+                Number(OPEN as u64 + 1),
+                "\">\n",
             ),
         );
     }
@@ -158,7 +169,9 @@ impl Part for End {
         let others = (
             "<p>",
             Either(count == LISTED + 1, "1 more difference stands", several),
-            " below: <a href=\"#d51\">go on there</a>.</p>\n",
+            " below: <a href=\"#d",
+            Number(LISTED as u64 + 1),
+            "\">go on there</a>.</p>\n",
         );
         say(
             out,

@@ -11,7 +11,7 @@ use crate::chart::{Marked, say_chart};
 use crate::log::{LetteredName, Log};
 use crate::losses::{left_lossy, right_lossy};
 use crate::outcome::same_outcome;
-use crate::pair_bytes::outcome_of;
+use crate::pair_bytes::outcome_by;
 use crate::sessions::Sessions;
 use shown_rows::{Change, change_at, count_changes, left_in, right_in};
 use text_parts::{Either, say};
@@ -149,17 +149,17 @@ fn marks<'a>(
     Some(Marked {
         item: place as u64 + 1,
         begin: if_other(own.begin.bytes, other.begin.bytes),
-        answer: answer_if(own, other),
+        answer: answer_beside(own, other),
     })
 }
 
 /// The answer beside which another is marked: both have the same outcome, and differ.
-fn answer_if<'a>(own: PlacedItem<'a>, other: PlacedItem<'a>) -> Option<&'a [u8]>
+fn answer_beside<'a>(own: PlacedItem<'a>, other: PlacedItem<'a>) -> Option<&'a [u8]>
     ensures { option_map (λ bytes. bytes.now) result ≡ Spec.answer_beside (item_of own.entry) (item_of other.entry) }
 {
     let answer = own.answer?;
     let reply = other.answer?;
-    if same_outcome(outcome_of(own), outcome_of(other)) {
+    if same_outcome(outcome_by(own), outcome_by(other)) {
         if_other(answer.bytes, reply.bytes)
     } else {
         None

@@ -1,5 +1,5 @@
 //! What is folded of the table of items: items that are the same, in one line.
-ghost use Rattle.std.specs.Prelude.{◌+◌, ◌/◌, ◌<◌, ◌^◌};
+ghost use Rattle.std.specs.Prelude.{◌+◌, ◌<◌, ◌^◌};
 ghost use Rattle.trace_pair.specs.ItemTables as Spec;
 
 use crate::change_words::say_items_range;
@@ -90,7 +90,7 @@ fn say_fold_parts<S: TextSink>(
 )
     requires left { left + count < 2 ^ 63 }
     requires right { right + count < 2 ^ 63 }
-    ensures { S.says out.old (Spec.fold_parts sessions.entry.left.now sessions.entry.right.now left right count ((count + 199) / 200)) out.new }
+    ensures { S.says out.old (Spec.fold_parts sessions.entry.left.now sessions.entry.right.now left right count (Spec.part_count count)) out.new }
 {
     let mut said: usize = 0;
     'parts: while said < count {

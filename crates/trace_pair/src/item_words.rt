@@ -16,13 +16,13 @@ const TOLD: usize = 8;
 
 /// What an item is, and how it begins.
 #[derive(Clone, Copy)]
-pub(crate) struct Title<'a>(pub Item<'a>);
+pub(crate) struct ItemTitle<'a>(pub Item<'a>);
 
-impl<'a> Part for Title<'a> {
+impl<'a> Part for ItemTitle<'a> {
     ghost use Rattle.uds_exchange.specs.ItemSeen.{item_value};
-    ghost use Rattle.trace_pair.specs.ItemWords.{title};
+    ghost use Rattle.trace_pair.specs.ItemWords.{item_title};
 
-    ghost text = { λ t. title (item_value t.0) };
+    ghost text = { λ t. item_title (item_value t.0) };
 
     fn say<S: TextSink>(self, out: &mut S) {
         match self.0 {
@@ -89,20 +89,20 @@ impl<'a> Part for FirstBytes<'a> {
 
 /// The first bytes of a message.
 fn told(bytes: &[u8]) -> &[u8]
-    ensures { result.now ≡ take 8 bytes.now }
+    ensures { result.now ≡ take Spec.told_bytes bytes.now }
 {
     &bytes[..TOLD.min(bytes.len())]
 }
 
 /// What came of an item, behind its title, where it is an exchange.
 #[derive(Clone, Copy)]
-pub(crate) struct OutcomeOf<'a>(pub Item<'a>);
+pub(crate) struct OutcomeNote<'a>(pub Item<'a>);
 
-impl<'a> Part for OutcomeOf<'a> {
+impl<'a> Part for OutcomeNote<'a> {
     ghost use Rattle.uds_exchange.specs.ItemSeen.{item_value};
-    ghost use Rattle.trace_pair.specs.ItemWords.{outcome_of};
+    ghost use Rattle.trace_pair.specs.ItemWords.{outcome_note};
 
-    ghost text = { λ t. outcome_of (item_value t.0) };
+    ghost text = { λ t. outcome_note (item_value t.0) };
 
     fn say<S: TextSink>(self, out: &mut S) {
         match self.0 {

@@ -1,7 +1,7 @@
 //! What is missing in a log, by the items that it belongs to.
 ghost use Rattle.std.specs.Prelude.{◌≡◌, ◌≤◌, ◌+◌, ◌-◌, drop, length, nat_lt, option_map, take};
 ghost use Rattle.std.specs.List.{flat_map};
-ghost use Rattle.trace_pair.specs.Losses.{first_row, loss_line, losses_from, losses_of, losses_text};
+ghost use Rattle.trace_pair.specs.Losses.{first_row, loss_line, losses_from, losses_of, losses_text, told_losses};
 ghost use Rattle.trace_pair.specs.Losses as Spec;
 ghost use Rattle.trace_pair.specs.Verdict as Verdict;
 ghost use Rattle.trace_pair.specs.proving.Losing.{loss_if, lost, lost_if};
@@ -119,7 +119,7 @@ pub(crate) fn say_losses<S: TextSink>(log: Log, session: &Session, item: usize, 
 
 /// Says the first twenty losses that rows tell, from one place up to another, and answers how many these tell.
 fn say_lost<S: TextSink>(log: Log, rows: &KeptRows, from: usize, to: usize, out: &mut S) -> usize
-    ensures text { S.says out.old (flat_map (loss_line log) (take 20 (lost (take (to - from) (drop from rows.now))))) out.new }
+    ensures text { S.says out.old (flat_map (loss_line log) (take told_losses (lost (take (to - from) (drop from rows.now))))) out.new }
     ensures count { result ≡ length (lost (take (to - from) (drop from rows.now))) }
 {
     let mut told: usize = 0;

@@ -35,7 +35,7 @@ impl Part for Outcome {
 
 /// What came of a request with this answer, if it has one.
 pub(crate) fn came_of(request: &[u8], answer: Option<&[u8]>) -> Outcome
-    ensures { result ≡ Spec.outcome request.now (option_map (λ reply. reply.now) answer.entry) }
+    ensures { result ≡ Spec.came_of request.now (option_map (λ reply. reply.now) answer.entry) }
 {
     match answer {
         Some(reply) => {

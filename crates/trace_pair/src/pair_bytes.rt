@@ -26,7 +26,7 @@ impl<'a> Part for ToldPair<'a> {
     fn say<S: TextSink>(self, out: &mut S) {
         let ToldPair(one, other) = self;
         let answers = Answers(one, other);
-        let same = same_outcome(outcome_of(one), outcome_of(other));
+        let same = same_outcome(outcome_by(one), outcome_by(other));
         say(
             out,
             (
@@ -45,7 +45,7 @@ impl<'a> Part for ToldPair<'a> {
 }
 
 /// What came of the request that begins an item.
-pub(crate) fn outcome_of(item: PlacedItem<'_>) -> Outcome
+pub(crate) fn outcome_by(item: PlacedItem<'_>) -> Outcome
     ensures { result ≡ outcome_by (item_of item.entry).begin.bytes (item_of item.entry).answer }
 {
     match item.answer {

@@ -58,7 +58,7 @@ impl Part for SameHeading {
                 out,
                 (
                     "<section id=\"verdict\" class=\"warn\">\n<h2><span aria-hidden=\"true\">=</span> The two sessions are the same as far as they are recorded: ",
-                    UncleanWords(self.left_clean, self.right_clean),
+                    UncleanWords(!self.left_clean, !self.right_clean),
                     "</h2>\n",
                 ),
             );
@@ -66,7 +66,7 @@ impl Part for SameHeading {
     }
 }
 
-/// Which log is not clean, by whether each is.
+/// Which log is not clean, by whether each is not.
 #[derive(Clone, Copy)]
 struct UncleanWords(bool, bool);
 
@@ -77,9 +77,9 @@ impl Part for UncleanWords {
 
     fn say<S: TextSink>(self, out: &mut S) {
         match (self.0, self.1) {
-            (false, false) => say(out, "neither is clean"),
-            (false, true) => say(out, "A is not clean"),
-            (true, _) => say(out, "B is not clean"),
+            (true, true) => say(out, "neither is clean"),
+            (true, false) => say(out, "A is not clean"),
+            (false, _) => say(out, "B is not clean"),
         }
     }
 }

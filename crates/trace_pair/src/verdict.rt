@@ -10,7 +10,7 @@ ghost use Rattle.uds_exchange.specs.ItemSeen.{item_value};
 use crate::losses::{left_lossy, right_lossy};
 use crate::same_words::{NothingVerdict, SameHeading, SameItems};
 use crate::sessions::{Sessions, item_at};
-use crate::verdict_words::{BoundLine, DifferentHeading, LossLine, SizeLine};
+use crate::verdict_words::{BoundLine, DifferentHeading, LossyLine, SizeLine};
 use shown_rows::{Change, change_at, count_changes, count_of, differs, left_in, right_in};
 use text_parts::say;
 use trace_io::TextSink;
@@ -125,13 +125,13 @@ fn is_exchange(item: Item<'_>) -> bool
 }
 
 /// At how many changes a log is not clean, and which.
-fn losses_at_changes(rows: &[Row], sessions: Sessions<'_>) -> LossLine
+fn losses_at_changes(rows: &[Row], sessions: Sessions<'_>) -> LossyLine
     ensures lossy { result.lossy ≡ Spec.lossy_count sessions.entry.left.now sessions.entry.right.now (changes rows.now) }
     ensures all { result.all ≡ length (changes rows.now) }
     ensures left { result.left ≡ list_any (Spec.left_lossy sessions.entry.left.now) (changes rows.now) }
     ensures right { result.right ≡ list_any (Spec.right_lossy sessions.entry.right.now) (changes rows.now) }
 {
-    let mut line = LossLine::none();
+    let mut line = LossyLine::none();
     let mut front = Row::Same;
     let mut i: usize = 0;
     let mut j: usize = 0;
@@ -145,7 +145,7 @@ fn losses_at_changes(rows: &[Row], sessions: Sessions<'_>) -> LossLine
 }
 
 /// With what is missing at a change, if there is one.
-fn with_change(line: LossLine, sessions: Sessions<'_>, change: Option<Change>) -> LossLine
+fn with_change(line: LossyLine, sessions: Sessions<'_>, change: Option<Change>) -> LossyLine
     requires small { line.all + 1 < 2 ^ 63 }
     requires few { line.lossy ≤ line.all }
     ensures lossy { result.lossy ≡ lossy_if sessions.entry.left.now sessions.entry.right.now change + line.lossy }

@@ -5,6 +5,9 @@ use text_parts::{Either, Part, say};
 use trace_io::TextSink;
 use trace_text::Number;
 
+/// A page with more rows is a large one.
+const LARGE_PAGE: usize = 100_000;
+
 /// So many items.
 #[derive(Clone, Copy)]
 pub(crate) struct ItemsWord(pub u64);
@@ -130,24 +133,24 @@ impl Part for SameWords {
     }
 }
 
-/// At how many of all changes a log is not clean, and whether the left one is, and the right one.
+/// At how many of all changes a log is not clean, and whether the left log is not clean at one, and the right one.
 #[derive(Clone, Copy, Debug)]
-pub(crate) struct LossLine {
+pub(crate) struct LossyLine {
     pub lossy: u64,
     pub all: u64,
     pub left: bool,
     pub right: bool,
 }
 
-impl LossLine {
+impl LossyLine {
     /// Of no change.
-    pub(crate) fn none() -> LossLine
+    pub(crate) fn none() -> LossyLine
         ensures lossy { result.lossy ≡ 0 }
         ensures all { result.all ≡ 0 }
         ensures left { result.left ≡ false }
         ensures right { result.right ≡ false }
     {
-        LossLine {
+        LossyLine {
             lossy: 0,
             all: 0,
             left: false,
@@ -156,7 +159,7 @@ impl LossLine {
     }
 
     /// With one change more, at which the logs are not clean or are.
-    pub(crate) fn with(self, left: bool, right: bool) -> LossLine
+    pub(crate) fn with(self, left: bool, right: bool) -> LossyLine
         requires small { self.all + 1 < 2 ^ 63 }
         requires few { self.lossy ≤ self.all }
         ensures lossy { result.lossy ≡ (if left || right then 1 else 0) + self.lossy }
@@ -164,7 +167,7 @@ impl LossLine {
         ensures left { result.left ≡ (left || self.left) }
         ensures right { result.right ≡ (right || self.right) }
     {
-        LossLine {
+        LossyLine {
             lossy: if left || right {
                 self.lossy + 1
             } else {
@@ -177,10 +180,10 @@ impl LossLine {
     }
 }
 
-impl Part for LossLine {
-    ghost use Rattle.trace_pair.specs.Verdict.{loss_line_by};
+impl Part for LossyLine {
+    ghost use Rattle.trace_pair.specs.Verdict.{lossy_line};
 
-    ghost text = { λ line. loss_line_by line.lossy line.all line.left line.right };
+    ghost text = { λ line. lossy_line line.lossy line.all line.left line.right };
 
     fn say<S: TextSink>(self, out: &mut S) {
         if self.lossy > 0 {
@@ -284,7 +287,7 @@ impl Part for SizeLine {
     ghost text = { λ line. size_line line.0 };
 
     fn say<S: TextSink>(self, out: &mut S) {
-        if self.0 > 100_000 {
+        if self.0 > LARGE_PAGE {
             say(
                 out,
                 (

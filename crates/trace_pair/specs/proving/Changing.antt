@@ -1,31 +1,32 @@
 -- Devices of proof: what a change adds to a text and to a count, where one begins with a row.
-use Rattle.std.specs.Prelude.{ℕ, ◌-◌, ◌==◌, Bool, false, ◌||◌, List, [], ◌++◌, Option, Some, None, if◌then◌else◌}
+use Rattle.std.specs.Prelude.{ℕ, ◌+◌, ◌-◌, ◌==◌, Bool, false, ◌||◌, List, [], ◌++◌, Option, Some, None, if◌then◌else◌}
 use Rattle.uds_exchange.specs.Meaning.{ItemValue}
 use Rattle.shown_rows.specs.declared.changes.Change.{Change}
 use Rattle.trace_report.specs.Session.{SessionValue}
-use Rattle.trace_pair.specs.Differences.{difference_line, more_start}
+use Rattle.trace_pair.specs.Differences.{difference_line, more_start, open_differences}
 use Rattle.trace_pair.specs.Verdict.{is_exchange, left_lossy, right_lossy}
 
--- one change, if there is one
+-- how many changes there are: one, or none
 abbrev pub count_if : Option Change → ℕ
 count_if None = 0
 count_if (Some here) = 1
 
--- its line in a list of so many, and what begins before it
+-- the line of a change in a list of so many, and what begins before it
 abbrev pub line_if : SessionValue → SessionValue → ℕ → ℕ → Option Change → List ℕ
 line_if left right listed number None = []
-line_if left right listed number (Some here) = (if number == 11 then more_start (listed - 10) else []) ++ difference_line left right number here
+line_if left right listed number (Some here) = (if number == open_differences + 1 then more_start (listed - open_differences) else []) ++ difference_line left right number here
 
--- one, where a log is not clean at it
+-- at how many changes a log is not clean: at one, or at none
 abbrev pub lossy_if : SessionValue → SessionValue → Option Change → ℕ
 lossy_if left right None = 0
 lossy_if left right (Some here) = if left_lossy left here || right_lossy right here then 1 else 0
 
--- the left log is not clean at it, and the right one
+-- there is a change, and the left log is not clean at it
 abbrev pub left_lossy_if : SessionValue → Option Change → Bool
 left_lossy_if left None = false
 left_lossy_if left (Some here) = left_lossy left here
 
+-- there is a change, and the right log is not clean at it
 abbrev pub right_lossy_if : SessionValue → Option Change → Bool
 right_lossy_if right None = false
 right_lossy_if right (Some here) = right_lossy right here

@@ -2,7 +2,7 @@
 use Rattle.std.specs.Prelude.{ℕ, ◌&&◌, List, [], ◌∷◌, nat_lt, Option, Some, None, if◌then◌else◌}
 use Rattle.trace_report.specs.Rows.{RowValue}
 use Rattle.trace_pair.specs.declared.log.Log.{Log}
-use Rattle.trace_pair.specs.Losses.{is_loss, loss_line}
+use Rattle.trace_pair.specs.Losses.{is_loss, loss_line, told_losses}
 
 -- the rows that tell a loss
 abbrev pub lost : List RowValue → List RowValue
@@ -14,7 +14,7 @@ abbrev pub lost_if : Option RowValue → ℕ
 lost_if None = 0
 lost_if (Some row) = if is_loss row then 1 else 0
 
--- the loss that a row tells, if it tells one, and fewer than twenty were told before
+-- the loss that a row tells, if it tells one, and fewer were told before than are told
 abbrev pub loss_if : Log → ℕ → Option RowValue → List ℕ
 loss_if log told None = []
-loss_if log told (Some row) = if is_loss row && nat_lt told 20 then loss_line log row else []
+loss_if log told (Some row) = if is_loss row && nat_lt told told_losses then loss_line log row else []

@@ -2,4 +2,4 @@
 use Rattle.trace_pair.proofs.pair_bytes.ToldPairPart.say.Goals as goal
 
 pub returns : goal.returns
-returns g c = rw (c.is_request_role.ensures, c.same_outcome-same.ensures, c.outcome_of.ensures, c.outcome_of-2.ensures) at c.say.ensures
+returns g c = rw (c.is_request_role.ensures, c.same_outcome-same.ensures, c.outcome_by.ensures, c.outcome_by-2.ensures) at c.say.ensures
