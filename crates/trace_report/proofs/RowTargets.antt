@@ -23,7 +23,7 @@ use Rattle.uds_exchange.specs.Order.{open_request}
 use Rattle.uds_exchange.specs.declared.step.Step.{Step}
 use Rattle.uds_exchange.specs.declared.step.Step.TheVariants as becomes
 use Rattle.uds_message.specs.Message.{is_keep_alive, is_negative_response, is_suppressing, sid}
-use Rattle.trace_report.specs.Events.{asked_in, closing_rows, ended_rows, ends_nothing, message_place, rows_before, rows_of, standing_row, verdict_rows, waiting_row}
+use Rattle.trace_report.specs.Events.{asked_in, closing_before, closing_rows, ended_rows, ends_nothing, message_place, rows_of, standing_row, verdict_rows, waiting_row}
 use Rattle.trace_report.specs.Roles.{other_role, role_of_step}
 use Rattle.trace_report.specs.Laws.{AreDistinct}
 use Rattle.trace_report.specs.Linked.{IsAmong, target_at, targets_in}
@@ -274,7 +274,7 @@ module _ (T : List Entry) (e : Entry) where
       elim (cases_Bool (is_keep_alive bytes)) [ inl e ↦ rw (is, e) tt | inr e ↦ rw (is, e) among ]
 
   placed-step : (lines sides : ℕ) (rows : List RowValue) (bytes : List ℕ) (step : Step) → step_after M (e.dir, bytes) ≡ step → ArePlaced count lines sides rows
-      → ArePlaced (item_count_after_step step count) lines sides ((rows ++ rows_before M step) ++ sent bytes step ∷ [])
+      → ArePlaced (item_count_after_step step count) lines sides ((rows ++ closing_before M step) ++ sent bytes step ∷ [])
   placed-step lines sides rows bytes (becomes.Request service) is are =
       placed-begin lines sides (rows ++ closing_rows M) bytes (becomes.Request service) (waiting-placed M lines sides rows are) (ap (λ step. number_by step M) is) refl (λ places among. tt)
   placed-step lines sides rows bytes becomes.Answer is are =
@@ -301,8 +301,8 @@ module _ (T : List Entry) (e : Entry) where
       → ArePlaced (count_with (message bytes)) lines sides (rows ++ verdict_rows MESSAGE_LIMIT T e false (message bytes))
   placed-message lines sides rows bytes are =
       let step = step_after M (e.dir, bytes) in
-      subst (λ n. ArePlaced n lines sides (rows ++ (rows_before M step ++ sent bytes step ∷ []))) (sym (items_grow M (e.dir, bytes)))
-      (subst (ArePlaced (item_count_after_step step count) lines sides) (append_assoc rows (rows_before M step) (sent bytes step ∷ [])) (placed-step lines sides rows bytes step refl are))
+      subst (λ n. ArePlaced n lines sides (rows ++ (closing_before M step ++ sent bytes step ∷ []))) (sym (items_grow M (e.dir, bytes)))
+      (subst (ArePlaced (item_count_after_step step count) lines sides) (append_assoc rows (closing_before M step) (sent bytes step ∷ [])) (placed-step lines sides rows bytes step refl are))
 
   -- what it does, behind what it ended
   placed-unlinked : (rows : List RowValue) (did : VerdictValue) → ArePlaced count (e.line + 1) 0 rows → IsAmong (of_line e.line) (targets_in rows)

@@ -17,7 +17,7 @@ use Rattle.trace_report.specs.Roles.{role_of_step, asked_at}
 use Rattle.trace_report.specs.Front.{name_text}
 use Rattle.trace_report.specs.Items.{item_value, items_in}
 use Rattle.trace_report.specs.Linked.{HasEachTarget, identifiers_in}
-use Rattle.trace_report.specs.Looks.{begins}
+use Rattle.trace_report.specs.Looks.{has_front}
 use Rattle.trace_report.specs.Page.{all_rows}
 use Rattle.trace_report.specs.MessageRows.{message_row, note_text}
 use Rattle.trace_report.specs.Style.{page_style}
@@ -34,8 +34,8 @@ is_harmless b =
 -- the text begins with what HTML has behind the & of one of the five signs
 abbrev pub begins_sign : List ℕ → Bool
 begins_sign text =
-    begins text (codes "amp;") || begins text (codes "lt;") || begins text (codes "gt;")
-    || begins text (codes "quot;") || begins text (codes "#39;")
+    has_front text (codes "amp;") || has_front text (codes "lt;") || has_front text (codes "gt;")
+    || has_front text (codes "quot;") || has_front text (codes "#39;")
 
 -- each & of the text begins one of these names of signs
 abbrev pub is_escaped : List ℕ → Bool

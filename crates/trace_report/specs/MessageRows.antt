@@ -47,7 +47,7 @@ lines_text first last = if first == last then decimal first else several_lines f
 
 -- the lines of the log from one to another, behind the word line or lines
 abbrev pub named_lines : ℕ → ℕ → List ℕ
-named_lines first last = if first == last then codes "line " ++ decimal first else codes "lines " ++ several_lines first last
+named_lines first last = (if first == last then codes "line " else codes "lines ") ++ lines_text first last
 
 -- where a message stands: its item, its lines, and the time of its last frame since the time `origin`
 abbrev pub message_front : Bool → ℕ → MessageRole → MessagePlace → List ℕ

@@ -48,7 +48,7 @@ sort_of_silence false = sort.Unanswered
 -- the sort of a row
 abbrev pub sort_of : RowValue → Sort
 sort_of (message is d place bytes) = sort_of_role is
-sort_of (no_answer number asked) = sort_of_silence asked
+sort_of (no_answer number silent) = sort_of_silence silent
 sort_of (dropped place d linked why) = sort.Dropped
 sort_of (ended place end) = sort.Ended
 sort_of (unfinished d line len) = sort.Unfinished
@@ -74,7 +74,7 @@ is_of kind row = rank kind == rank (sort_of row)
 -- where a link to a row leads: to its item or to its line, or to what stands of its side
 abbrev pub target_of : RowValue → LinkTarget
 target_of (message is d place bytes) = target.Item place.item
-target_of (no_answer number asked) = target.Item number
+target_of (no_answer number silent) = target.Item number
 target_of (dropped place d linked why) = target.Line place.line
 target_of (ended place end) = target.Line place.line
 target_of (unfinished d line len) = target.Side d

@@ -168,9 +168,9 @@ impl<N: Part> Part for CauseOf<N> {
 struct RowOf<N>(CauseRow, N);
 
 impl<N: Part> Part for RowOf<N> {
-    ghost use Rattle.trace_report.specs.Causes.{row_text, row_value};
+    ghost use Rattle.trace_report.specs.Causes.{cause_row_text, row_value};
 
-    ghost text = { λ row. row_text (row_value row.0) (N.text row.1) };
+    ghost text = { λ row. cause_row_text (row_value row.0) (N.text row.1) };
 
     fn say<S: TextSink>(self, out: &mut S) {
         let RowOf(row, name) = self;

@@ -9,7 +9,7 @@ ghost use Rattle.isotp_receive.specs.Verdict.{verdict};
 ghost use Rattle.trace_run.specs.Seen.{IsSeen};
 ghost use Rattle.uds_exchange.specs.Judging.{IsJudgedAfter, number_after, sent, step_after};
 ghost use Rattle.trace_canon.specs.MessageLines.{place_of};
-ghost use Rattle.trace_report.specs.Events.{closing_rows, end_rows, ended_rows, frame_rows, rows_before};
+ghost use Rattle.trace_report.specs.Events.{closing_before, closing_rows, end_rows, ended_rows, frame_rows};
 ghost use Rattle.trace_report.specs.Roles.{role_of_step as role_by};
 ghost use Rattle.trace_report.specs.Rows.{message as tells_message};
 ghost use Rattle.trace_report.specs.proving.Following.{Follows, IsSilent, IsWaiting, MeetsMessage, dropped_rows, row_if, rows_in, unfinished_if};
@@ -99,7 +99,7 @@ impl Follower {
             → IsWaiting M self.old.waits → IsSilent M self.old.silent
             → MeetsMessage M (sent message.entry) here self.old.asked self.new }
         ensures closing { (M : List Message) → IsJudgedAfter M message.entry → IsWaiting M self.old.waits → IsSilent M self.old.silent
-            → row_if result.0 ≡ rows_before M (step_after M (sent message.entry)) }
+            → row_if result.0 ≡ closing_before M (step_after M (sent message.entry)) }
         ensures row { (M : List Message) → IsJudgedAfter M message.entry → message.entry.item_number ≡ number_after M (sent message.entry)
             → row_of result.1 ≡ tells_message (role_by self.old.asked (step_after M (sent message.entry)) message.entry.dir message.entry.bytes.now) message.entry.dir
             (record { item = number_after M (sent message.entry); first = extent.first; last = here; frames = extent.frames }) message.entry.bytes.now }

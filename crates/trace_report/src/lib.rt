@@ -78,7 +78,7 @@ pub use cells::{CellEnd, CellFront};
 pub use counts::{Counts, SortCounts};
 pub use data::{BytesApart, Data, MoreWords};
 pub use durations::Seconds;
-pub use front::{Identifiers, PageStart, Shapes};
+pub use front::{CutNotice, Identifiers, PageStart, Shapes};
 pub use help::{HelpHeading, Legend, Limits, Tail, TimesWords};
 pub use items::{PlacedItem, RowMessage};
 pub use keeper::keep_two;

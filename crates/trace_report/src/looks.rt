@@ -2,7 +2,7 @@
 
 ghost use Rattle.std.specs.Prelude.{◌≡◌, ◌++◌, ℕ, List, Some, map};
 ghost use Rattle.std.specs.List.{list_any};
-ghost use Rattle.trace_report.specs.Looks.{begins, has_at, has_more_decimals, is_dated, is_table, is_told, lacks_stamp, look_of, look_told, look_row, signs, text_look};
+ghost use Rattle.trace_report.specs.Looks.{has_at, has_front, has_more_decimals, is_dated, is_table, is_told, lacks_stamp, look_of, look_told, look_row, signs, text_look};
 
 /// What a log looks like that is refused in its first line, or by the bytes that it begins with. One that first bytes tell
 /// stands in [`TOLD`], too: that none is missing there no proof says, since the definitions take that list from here.
@@ -93,7 +93,7 @@ pub(crate) fn look_of(first: &[u8], line: u64, column: u32) -> Option<Look>
 pub(crate) fn lacks_stamp(first: &[u8], line: u64, column: u32) -> bool
     ensures { result ≡ lacks_stamp first.now line column }
 {
-    column == 1 && (line > 1 || begins(first, b"DROPCOUNT"))
+    column == 1 && (line > 1 || has_front(first, b"DROPCOUNT"))
 }
 
 /// Whether a stamp has more than six decimals, in the line that these bytes begin and that is refused in this column.
@@ -124,9 +124,9 @@ fn is_told(look: Look, first: &[u8]) -> bool
 
 /// Whether bytes begin with one of these.
 fn begins_with_one(bytes: &[u8], fronts: &[&[u8]]) -> bool
-    ensures { result ≡ list_any (λ front. begins bytes.now front.now) fronts.now }
+    ensures { result ≡ list_any (λ front. has_front bytes.now front.now) fronts.now }
 {
-    fronts.iter().any(|front| begins(bytes, *front))
+    fronts.iter().any(|front| has_front(bytes, *front))
 }
 
 /// The table of looks.
@@ -244,8 +244,8 @@ fn is_table(first: &[u8]) -> bool
 }
 
 /// Whether the bytes begin with these.
-fn begins(bytes: &[u8], front: &[u8]) -> bool
-    ensures { result ≡ begins bytes.now front.now }
+fn has_front(bytes: &[u8], front: &[u8]) -> bool
+    ensures { result ≡ has_front bytes.now front.now }
 {
     bytes.starts_with(front)
 }

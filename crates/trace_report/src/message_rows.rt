@@ -164,12 +164,8 @@ impl Part for NamedLines {
 
     fn say<S: TextSink>(self, out: &mut S) {
         let NamedLines(first, last) = self;
-        let several = (Number(first), "&#8211;", Number(last));
-        if first == last {
-            say(out, ("line ", Number(first)));
-        } else {
-            say(out, ("lines ", several));
-        }
+        let word = Either(first == last, "line ", "lines ");
+        say(out, (word, Lines(first, last)));
     }
 }
 
