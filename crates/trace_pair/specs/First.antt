@@ -49,7 +49,7 @@ chart_to item rows = rows_before (item + 3) rows
 abbrev pub chart_rows : ℕ → List RowValue → List RowValue
 chart_rows item rows = take (min most_rows (chart_to item rows - chart_from item rows)) (drop (chart_from item rows) rows)
 
--- how many rows between the start of a chart and its end are more than it has
+-- how many rows a chart leaves out of those that stand around the item of a place
 abbrev pub rows_more : ℕ → List RowValue → ℕ
 rows_more item rows = chart_to item rows - chart_from item rows - most_rows
 

@@ -57,7 +57,7 @@ loss_line log row = codes "<p class=\"lost\">" ++ letter_mark log ++ loss_words 
 abbrev pub told_losses : ℕ
 told_losses = 20
 
--- how many losses there are that are not told, where there are more
+-- how many losses of an item are not told, where it has more than are
 abbrev pub more_losses : Log → ℕ → List ℕ
 more_losses log count = if nat_le count told_losses then [] else codes "<p class=\"lost\">and " ++ decimal (count - told_losses) ++ codes " more in " ++ letter log ++ codes "</p>"
 

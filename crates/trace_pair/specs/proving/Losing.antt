@@ -14,7 +14,7 @@ abbrev pub lost_if : Option RowValue → ℕ
 lost_if None = 0
 lost_if (Some row) = if is_loss row then 1 else 0
 
--- the loss that a row tells, if it tells one, and fewer were told before than are told
+-- the loss that a row tells, if it tells one, and not as many as are told were told before
 abbrev pub loss_if : Log → ℕ → Option RowValue → List ℕ
 loss_if log told None = []
 loss_if log told (Some row) = if is_loss row && nat_lt told told_losses then loss_line log row else []
