@@ -6,7 +6,7 @@ use Rattle.trace_log.specs.declared.fault.Fault.{Fault}
 use Rattle.trace_log.specs.declared.fault.Fault.TheVariants.{BadLine, LogLimit, Oversize, OutputLimit, Read, Write, Memory}
 use Rattle.trace_report.specs.Causes.{cause_line, cause_of}
 use Rattle.trace_report.specs.Counts.{counts_text}
-use Rattle.trace_report.specs.Front.{identifiers_text, name_text, page_start, shapes_text}
+use Rattle.trace_report.specs.Front.{cut_notice, identifiers_text, name_text, page_start, shapes_text}
 use Rattle.trace_report.specs.Kept.{TwoValue}
 use Rattle.trace_report.specs.Session.{SessionValue}
 use Rattle.trace_report.specs.Sorts.{counts_in}
@@ -38,11 +38,6 @@ links count =
     ++ (if nat_le count 1 then [] else codes "<a href=\"#differences\">Differences</a> ")
     ++ (if count == 0 then [] else if count == 1 then codes "<a href=\"#difference\">The difference</a> " else codes "<a href=\"#difference\">The first</a> ")
     ++ codes "<a href=\"#items\">Items</a> <a href=\"#help\">How to read this page</a></p>\n"
-
--- the notice of a page that breaks off
-abbrev pub cut_notice : List ℕ
-cut_notice =
-    codes "<p id=\"cut\" role=\"status\" hidden>This page has no end. What wrote it was stopped, or the file was cut, or the page is still loading: it tells nothing of the rest of the session.</p>\n</header>\n"
 
 -- the front of a page, up to its verdict: the title, the style, both logs by their names, the identifiers, and the links
 abbrev pub front : TitleValue → ℕ → List ℕ

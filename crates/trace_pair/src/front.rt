@@ -3,7 +3,7 @@ use crate::log::{LetteredName, Log};
 use crate::title::Title;
 use text_parts::{Either, Part, say};
 use trace_io::TextSink;
-use trace_report::{Identifiers, Name, PageStart, Shapes};
+use trace_report::{CutNotice, Identifiers, Name, PageStart, Shapes};
 
 /// What stands before the verdict, where there are so many differences.
 #[derive(Clone, Copy)]
@@ -64,23 +64,6 @@ impl Part for Links {
                 Either(self.0 == 0, (), Either(self.0 == 1, one, first)),
                 "<a href=\"#items\">Items</a> <a href=\"#help\">How to read this page</a></p>\n",
             ),
-        );
-    }
-}
-
-/// The notice of a page that breaks off.
-#[derive(Clone, Copy)]
-struct CutNotice;
-
-impl Part for CutNotice {
-    ghost use Rattle.trace_pair.specs.Page.{cut_notice};
-
-    ghost text = { λ notice. cut_notice };
-
-    fn say<S: TextSink>(self, out: &mut S) {
-        say(
-            out,
-            "<p id=\"cut\" role=\"status\" hidden>This page has no end. What wrote it was stopped, or the file was cut, or the page is still loading: it tells nothing of the rest of the session.</p>\n</header>\n",
         );
     }
 }
