@@ -105,7 +105,7 @@ def read_functions(source):
 
 
 # The files with the records of runs.
-RUNS = ["trace_run/specs/Told.antt", *(f"trace_canon/specs/{name}.antt" for name in ("WrittenAtEnd", "ItemText", "Finding", "ReadOnly", "Sessions"))]
+RUNS = ["trace_run/specs/Ran.antt", *(f"trace_canon/specs/{name}.antt" for name in ("WrittenAtEnd", "ItemText", "Finding", "ReadOnly", "Sessions"))]
 OF_RUNS = ("trace_run", "trace_canon")
 RUN = "ran"
 

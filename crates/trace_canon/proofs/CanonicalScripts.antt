@@ -18,8 +18,8 @@ use Rattle.uds_exchange.specs.Meaning.{meaning, flattened}
 use Rattle.uds_exchange.proofs.Promises.{early_grows, early_then_held}
 use Rattle.trace_canon.specs.proving.CanonicalScript.{StandsCanonical, is_too_long, answers_canonical, CanonicalTellsTheSame, canonical_script, progress_behind, lines_due, text_of_early, CanonicalTellsEarly}
 use Rattle.trace_log.specs.Needing.{HasTextOf}
-use Rattle.trace_run.specs.Script.{tells_no_refusal, told_after, told, told_of_lines, whole_of_lines}
-use Rattle.trace_run.specs.Told.{AnswersTold, EndsWith, FailsToTell, WritesTold, WritesToldAndRefusal, WritesFrontOfWhole, TellsEagerly}
+use Rattle.trace_run.specs.Script.{says_no_refusal, said_after, said_of_frames, said_of_lines, whole_of_lines}
+use Rattle.trace_run.specs.Ran.{AnswersAndWrites, EndsWith, FailsToWrite, WritesSaid, WritesSaidAndRefusal, WritesFrontOfWhole, WritesSaidEagerly}
 use Rattle.trace_canon.specs.proving.Writing.{ProgressValue, start_of, text_from, progress_after}
 use Rattle.trace_canon.proofs.CanonicalWriting.{text_none, text_append, place_append}
 use Rattle.trace_canon.proofs.Answered.{answers_accepted, answers_output_limit}
@@ -60,17 +60,17 @@ module _ (settings : Settings) where
       ∙ ap (text_from settings begin) (sym (all_frames-append MESSAGE_LIMIT (early M) grows.0))
       ∙ ap (λ x. text_from settings begin (all_frames MESSAGE_LIMIT x)) (sym longer)
 
-  from_there : (past xs : List Entry) → text_of_early settings past ++ told_after ((canonical_script settings).of_frame) past xs ≡ text_of_early settings (past ++ xs)
+  from_there : (past xs : List Entry) → text_of_early settings past ++ said_after ((canonical_script settings).of_frame) past xs ≡ text_of_early settings (past ++ xs)
   from_there past [] = append-nil (text_of_early settings past) ∙ ap (text_of_early settings) (sym (append-nil past))
   from_there past (e ∷ rest) =
       let due = lines_due settings (messages MESSAGE_LIMIT past) (messages MESSAGE_LIMIT (past ++ e ∷ [])) in
-      let later = told_after ((canonical_script settings).of_frame) (past ++ e ∷ []) rest in
+      let later = said_after ((canonical_script settings).of_frame) (past ++ e ∷ []) rest in
       sym (append_assoc (text_of_early settings past) due later) ∙ ap (λ x. x ++ later) (one_more past e) ∙ from_there (past ++ e ∷ []) rest
       ∙ ap (text_of_early settings) (append_assoc past (e ∷ []) rest)
 
 pub canonical_tells_early : CanonicalTellsEarly
 canonical_tells_early settings T =
-    ap (λ x. x ++ told ((canonical_script settings).of_frame) T) (sym (text_none settings (start_of settings.max_bytes))) ∙ from_there settings [] T
+    ap (λ x. x ++ said_of_frames ((canonical_script settings).of_frame) T) (sym (text_none settings (start_of settings.max_bytes))) ∙ from_there settings [] T
 
 -- where the text stands at the end
 pub place_at_end : (settings : Settings) (M : List Message)
@@ -105,7 +105,7 @@ unfolding canonical_log log_of_frames
 whole_when settings put within = within_when settings (start_of settings.max_bytes) (all_frames MESSAGE_LIMIT put) refl within
 
 module _ (settings : Settings) where
-  early_is : (meanings : List (Option Stamped)) → told_of_lines (canonical_script settings) settings meanings ≡ early_text MESSAGE_LIMIT settings meanings
+  early_is : (meanings : List (Option Stamped)) → said_of_lines (canonical_script settings) settings meanings ≡ early_text MESSAGE_LIMIT settings meanings
   early_is meanings = canonical_tells_early settings (trace settings meanings) ∙ said_fits settings (early (messages MESSAGE_LIMIT (trace settings meanings)))
 
   whole_said : (log : List ℕ) (meanings : List (Option Stamped)) → whole_of_lines (canonical_script settings) MESSAGE_LIMIT settings log meanings
@@ -121,20 +121,20 @@ module _ (settings : Settings) where
   whole_is : (log : List ℕ) (meanings : List (Option Stamped)) → whole_of_lines (canonical_script settings) MESSAGE_LIMIT settings log meanings ≡ fitting settings (canonical_log_of_lines MESSAGE_LIMIT settings meanings)
   whole_is log meanings = whole_said log meanings ∙ said_fits settings (flattened (meaning (messages MESSAGE_LIMIT (trace settings meanings))))
 
-  texts : told_of_lines (canonical_script settings) settings ≡ early_text MESSAGE_LIMIT settings
+  texts : said_of_lines (canonical_script settings) settings ≡ early_text MESSAGE_LIMIT settings
   texts = λ i meanings. early_is meanings i
 
   module _ (log : List ℕ) (given : ℕ) (old new : List ℕ) where
-    writes_early : (why : Fault) → WritesTold (canonical_script settings) MESSAGE_LIMIT settings log given why old new
+    writes_early : (why : Fault) → WritesSaid (canonical_script settings) MESSAGE_LIMIT settings log given why old new
         → WritesTextOfRead (announces_within MESSAGE_LIMIT settings) (early_text MESSAGE_LIMIT settings) settings log given why old new
     writes_early why wrote = subst (λ text. WritesTextOfRead (announces_within MESSAGE_LIMIT settings) text settings log given why old new) texts wrote
 
-    writes_refused : (why : Fault) → WritesToldAndRefusal (canonical_script settings) tells_no_refusal MESSAGE_LIMIT settings log given why old new
+    writes_refused : (why : Fault) → WritesSaidAndRefusal (canonical_script settings) says_no_refusal MESSAGE_LIMIT settings log given why old new
         → WritesTextOfRead (announces_within MESSAGE_LIMIT settings) (early_text MESSAGE_LIMIT settings) settings log given why old new
     writes_refused why wrote = record {
       meanings = wrote.meanings;
       read = wrote.read;
-      wrote = wrote.wrote ∙ ap (λ text. old ++ text) (append-nil (told_of_lines (canonical_script settings) settings wrote.meanings) ∙ early_is wrote.meanings);
+      wrote = wrote.wrote ∙ ap (λ text. old ++ text) (append-nil (said_of_lines (canonical_script settings) settings wrote.meanings) ∙ early_is wrote.meanings);
     }
 
     writes_front : (why : Fault) → WritesFrontOfWhole (canonical_script settings) MESSAGE_LIMIT settings log given why old new → WritesFront MESSAGE_LIMIT settings log given why old new
@@ -150,11 +150,11 @@ module _ (settings : Settings) where
         }
 
     -- neither what is told of some lines nor all that is has more bytes than their canonical log
-    told_within : (meanings : List (Option Stamped)) → length (told_of_lines (canonical_script settings) settings meanings) ≤ length (canonical_log_of_lines MESSAGE_LIMIT settings meanings)
+    told_within : (meanings : List (Option Stamped)) → length (said_of_lines (canonical_script settings) settings meanings) ≤ length (canonical_log_of_lines MESSAGE_LIMIT settings meanings)
     told_within meanings =
         let script = canonical_script settings in
         let begins = fitting_log_begins MESSAGE_LIMIT settings (flattened (meaning (messages MESSAGE_LIMIT (trace settings meanings)))) in
-        no_longer (whole_of_lines script MESSAGE_LIMIT settings log meanings) (told_of_lines script settings meanings)
+        no_longer (whole_of_lines script MESSAGE_LIMIT settings log meanings) (said_of_lines script settings meanings)
         (script.at_the_end (trace settings meanings) (summary_of MESSAGE_LIMIT settings log meanings)) (canonical_log_of_lines MESSAGE_LIMIT settings meanings) _ begins.0 refl (whole_is log meanings) begins.1
 
     whole_within : (meanings : List (Option Stamped))
@@ -164,7 +164,7 @@ module _ (settings : Settings) where
         let begins = fitting_log_begins MESSAGE_LIMIT settings (flattened (meaning (messages MESSAGE_LIMIT (trace settings meanings)))) in
         no_longer whole whole [] (canonical_log_of_lines MESSAGE_LIMIT settings meanings) _ begins.0 (sym (append-nil whole)) (whole_is log meanings) begins.1
 
-    canonical_some : FailsToTell (canonical_script settings) tells_no_refusal MESSAGE_LIMIT settings log given old new → HasTextOf (canonical_log_of_lines MESSAGE_LIMIT settings) log
+    canonical_some : FailsToWrite (canonical_script settings) says_no_refusal MESSAGE_LIMIT settings log given old new → HasTextOf (canonical_log_of_lines MESSAGE_LIMIT settings) log
     canonical_some (inl (wrote, inl told)) = record {
       meanings = told.meanings;
       begins = record { lines = told.read.lines; later = told.read.later; parts = told.read.parts; means = told.read.means };
@@ -177,7 +177,7 @@ module _ (settings : Settings) where
     }
     canonical_some (inr refuses) = absurd (omega (arith, refuses.some))
 
-    pub writes_eagerly_told : TellsEagerly (canonical_script settings) MESSAGE_LIMIT settings log given old new → WritesEagerly MESSAGE_LIMIT settings log given old new
+    pub writes_eagerly_told : WritesSaidEagerly (canonical_script settings) MESSAGE_LIMIT settings log given old new → WritesEagerly MESSAGE_LIMIT settings log given old new
     writes_eagerly_told eager =
         record { meanings = eager.meanings; read = eager.read; more = eager.more; wrote = eager.wrote ∙ ap (λ text. old ++ (text ++ eager.more)) (early_is eager.meanings) }
 
@@ -213,10 +213,10 @@ module _ (settings : Settings) where
 
 -- writing fails only where the lines read have a canonical line
 pub unwritten_some : (settings : Settings) (log : List ℕ) (given : ℕ) (result : Result Summary Fault) (old new : List ℕ) → result ≡ Err Write
-    → AnswersTold (canonical_script settings) tells_no_refusal (answers_canonical settings) MESSAGE_LIMIT settings log given result old new → HasTextOf (canonical_log_of_lines MESSAGE_LIMIT settings) log
+    → AnswersAndWrites (canonical_script settings) says_no_refusal (answers_canonical settings) MESSAGE_LIMIT settings log given result old new → HasTextOf (canonical_log_of_lines MESSAGE_LIMIT settings) log
 unwritten_some settings log given result old new wrong told =
     canonical_some settings log given old new
-    (subst (λ (r : Result Summary Fault). AnswersTold (canonical_script settings) tells_no_refusal (answers_canonical settings) MESSAGE_LIMIT settings log given r old new) wrong told)
+    (subst (λ (r : Result Summary Fault). AnswersAndWrites (canonical_script settings) says_no_refusal (answers_canonical settings) MESSAGE_LIMIT settings log given r old new) wrong told)
 
 pub canonical_tells_the_same : CanonicalTellsTheSame
 canonical_tells_the_same settings log given (Ok summary) old new ends eager = ends_well settings log given old new summary ends

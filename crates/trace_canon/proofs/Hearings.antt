@@ -14,7 +14,7 @@ use Rattle.trace_canon.specs.Finding.{frames_in, GivesFound, IsFoundOf, NeedsMem
 use Rattle.trace_log.specs.Settings.{Settings}
 use Rattle.trace_log.specs.Feeding.{FeedsLog, FeedsSome, Took, Stopped, StopsWithin}
 use Rattle.trace_canon.specs.proving.Hearing.{HasHeard}
-use Rattle.trace_run.specs.Told.{IsUnreadFor}
+use Rattle.trace_run.specs.Ran.{IsUnreadFor}
 use Rattle.uds_find.specs.Credit.{HasCredit, IsFirstCredit}
 use Rattle.uds_find.specs.Finding.{FinderValue, StandsAfter}
 use Rattle.uds_find.proofs.Promises.{first_credit_is_credit}

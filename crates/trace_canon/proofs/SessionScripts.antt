@@ -9,12 +9,12 @@ use Rattle.trace_log.specs.CanonicalLog.{canonical_log_of_lines}
 use Rattle.trace_canon.specs.proving.SessionScript.{SessionIsTheSame, silent_script}
 use Rattle.trace_log.specs.Settings.{Settings}
 use Rattle.trace_log.specs.Summing.{summary_of}
-use Rattle.trace_run.specs.proving.Scripts.{TellsNothing}
+use Rattle.trace_run.specs.proving.Scripts.{SaysNothing}
 use Rattle.uds_exchange.specs.Meaning.{ItemValue}
 
 -- it tells nothing
-pub silent_tells_nothing : TellsNothing silent_script
-silent_tells_nothing = record { of_frame = λ T e. refl; at_the_end = λ T summary. refl }
+pub silent_says_nothing : SaysNothing silent_script
+silent_says_nothing = record { of_frame = λ T e. refl; at_the_end = λ T summary. refl }
 
 pub session_is_the_same : SessionIsTheSame
 session_is_the_same settings log given (Ok session) old new (all, meanings, read, answer, wrote) = record {

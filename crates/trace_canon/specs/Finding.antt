@@ -24,7 +24,7 @@ use Rattle.trace_io.specs.declared.device.Source.{Ghosts as SourceGhosts}
 use Rattle.trace_io.specs.declared.device.Target.{Ghosts as TargetGhosts}
 use Rattle.trace_log.specs.Settings.{Settings}
 use Rattle.trace_log.specs.Summing.{counted_in, ends_in_line_feed}
-use Rattle.trace_run.specs.Told.{IsUnreadFor, when_lenient}
+use Rattle.trace_run.specs.Ran.{IsUnreadFor, when_lenient}
 use Rattle.uds_find.specs.Credit.{HasCredit}
 use Rattle.uds_find.specs.Finding.{AreCreditLines}
 use Rattle.uds_find.specs.declared.pair.CreditLine.{CreditLine}

@@ -25,8 +25,8 @@ use Rattle.trace_log.specs.Outcome.{IsOutcome}
 use Rattle.trace_canon.specs.MessageLines.{placing_script}
 use Rattle.trace_log.specs.Settings.{Settings}
 use Rattle.trace_log.specs.Summing.{summary_of}
-use Rattle.trace_run.specs.Script.{Script, told_of_lines, whole_of_lines}
-use Rattle.trace_run.specs.Told.{IsUnreadFor, when_lenient}
+use Rattle.trace_run.specs.Script.{Script, said_of_lines, whole_of_lines}
+use Rattle.trace_run.specs.Ran.{IsUnreadFor, when_lenient}
 use Rattle.uds_find.specs.declared.pair.CreditLine.{CreditLine}
 
 -- The fault is not that of a device, and refused memory only where some is needed.
@@ -93,7 +93,7 @@ NeedsMemoryForList style limit settings log =
 -- Memory is needed to gather the lines of messages: to read the log, or since its first lines deliver one.
 abbrev pub NeedsMemoryForPlacing : Notation → ℕ → Settings → List ℕ → Type 0
 NeedsMemoryForPlacing notation limit settings log =
-    NeedsMemoryToReceive limit settings log ⊎ HasTextOf (told_of_lines (placing_script notation limit) settings) log
+    NeedsMemoryToReceive limit settings log ⊎ HasTextOf (said_of_lines (placing_script notation limit) settings) log
 
 -- Memory is needed to gather what explains a log, whichever it is, for each has its counts.
 abbrev pub NeedsMemoryForExplanation : ℕ → Settings → List ℕ → Type 0

@@ -5,8 +5,8 @@ ghost use Rattle.isotp_receive.specs.declared.TheConstants.{MESSAGE_LIMIT};
 ghost use Rattle.trace_canon.specs.ExplainScript.{dropped_text, end_text, ended_text, event_text, unfinished_line};
 ghost use Rattle.trace_canon.specs.ExplainScript.{explain_script};
 ghost use Rattle.trace_log.specs.Laws.{Certifies};
-ghost use Rattle.trace_run.specs.Script.{answers_counts, command, needs_none, tells_no_refusal};
-ghost use Rattle.trace_run.specs.Told.{RanLenient};
+ghost use Rattle.trace_run.specs.Script.{answers_counts, command, needs_none, says_no_refusal};
+ghost use Rattle.trace_run.specs.Ran.{RanLenient};
 ghost use Rattle.trace_io.specs.Counted.{IsLowCount};
 ghost use Rattle.trace_log.specs.Devices.{AgreesWith, HasLowCounts};
 
@@ -34,7 +34,7 @@ pub fn explain<R: Source, W: Target>(
 
     // What is answered and written; that it is written before more is read; and what was done with the devices.
     ensures ran { RanLenient R.Source W.Target
-        (command (explain_script notation MESSAGE_LIMIT) tells_no_refusal answers_counts needs_none)
+        (command (explain_script notation MESSAGE_LIMIT) says_no_refusal answers_counts needs_none)
         config.now reader.old writer.old result reader.new writer.new }
 
     // Where nothing was dropped, ended or left unfinished, the log is a recording.

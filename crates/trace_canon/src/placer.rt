@@ -1,8 +1,8 @@
 //! `messages`: a machine that says each message with its place in the log, as it is delivered.
 ghost use Rattle.isotp_receive.specs.declared.TheConstants.{MESSAGE_LIMIT};
 ghost use Rattle.trace_canon.specs.MessageLines.{judged_at, placed_line, placed_text, placing_script};
-ghost use Rattle.trace_run.specs.Script.{answers_counts, command, needs_none, tells_no_refusal};
-ghost use Rattle.trace_run.specs.Told.{RanLenient};
+ghost use Rattle.trace_run.specs.Script.{answers_counts, command, needs_none, says_no_refusal};
+ghost use Rattle.trace_run.specs.Ran.{RanLenient};
 ghost use Rattle.trace_io.specs.Counted.{IsLowCount};
 ghost use Rattle.trace_log.specs.Devices.{HasLowCounts};
 
@@ -35,7 +35,7 @@ pub fn messages<R: Source, W: Target>(
 
     // What is answered and written; that it is written before more is read; and what was done with the devices.
     ensures ran { RanLenient R.Source W.Target
-        (command (placing_script notation MESSAGE_LIMIT) tells_no_refusal answers_counts needs_none)
+        (command (placing_script notation MESSAGE_LIMIT) says_no_refusal answers_counts needs_none)
         config.now reader.old writer.old result reader.new writer.new }
 {
     let machine = Placer {

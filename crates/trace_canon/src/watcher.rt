@@ -6,8 +6,8 @@ ghost use Rattle.uds_exchange.specs.Judging.{IsJudgedAfter, sent};
 ghost use Rattle.uds_exchange.specs.Decided.{undecided};
 ghost use Rattle.uds_exchange.specs.Decider.{decider_after, IsKept};
 ghost use Rattle.trace_canon.specs.MemoryNeeded.{CompletesKept};
-ghost use Rattle.trace_run.specs.Script.{answers_counts, command, tells_no_refusal};
-ghost use Rattle.trace_run.specs.Told.{RanLenient};
+ghost use Rattle.trace_run.specs.Script.{answers_counts, command, says_no_refusal};
+ghost use Rattle.trace_run.specs.Ran.{RanLenient};
 ghost use Rattle.trace_canon.specs.WatchScript.{watching_script, WritesTheList};
 ghost use Rattle.trace_canon.specs.proving.Watching.{SaysDecided, SaysLines};
 ghost use Rattle.trace_io.specs.Counted.{IsLowCount};
@@ -37,7 +37,7 @@ pub fn watch<R: Source, W: Target>(
 
     // What is answered and written; that it is written before more is read; and what was done with the devices.
     ensures ran { RanLenient R.Source W.Target
-        (command (watching_script style MESSAGE_LIMIT) tells_no_refusal answers_counts (CompletesKept MESSAGE_LIMIT))
+        (command (watching_script style MESSAGE_LIMIT) says_no_refusal answers_counts (CompletesKept MESSAGE_LIMIT))
         config.now reader.old writer.old result reader.new writer.new }
 
     // At the end of the log that is the list of its meaning.

@@ -8,9 +8,9 @@ use Rattle.trace_log.proofs.Promises.{has_own_frame}
 use Rattle.trace_log.specs.Needing.{HasFrame}
 use Rattle.trace_log.specs.Settings.{Settings}
 use Rattle.trace_log.specs.Summing.{summary_of}
-use Rattle.trace_run.specs.Script.{tells_no_refusal}
-use Rattle.trace_run.specs.proving.Scripts.{TellsNothing}
-use Rattle.trace_run.specs.Told.{AnswersTold, IsUnreadFor}
+use Rattle.trace_run.specs.Script.{says_no_refusal}
+use Rattle.trace_run.specs.proving.Scripts.{SaysNothing}
+use Rattle.trace_run.specs.Ran.{AnswersAndWrites, IsUnreadFor}
 use Rattle.trace_log.specs.Trace.{trace}
 use Rattle.trace_log.specs.declared.fault.Fault.{Fault}
 use Rattle.trace_log.specs.declared.fault.Fault.TheVariants.{BadLine, Oversize, LogLimit, OutputLimit, Read, Write, Memory}
@@ -27,8 +27,8 @@ use Rattle.trace_report.specs.proving.Lending.{first_of_times, last_of_times}
 use Rattle.trace_report.proofs.Steps.{times_next}
 
 -- nothing is told
-pub quiet_tells_nothing : TellsNothing quiet_script
-quiet_tells_nothing = record { of_frame = λ T e. refl; at_the_end = λ T summary. refl }
+pub quiet_says_nothing : SaysNothing quiet_script
+quiet_says_nothing = record { of_frame = λ T e. refl; at_the_end = λ T summary. refl }
 
 -- the times with one more frame
 pub times_go_on : (T : List Entry) (e : Entry) (times : Times) (micros : ℕ) → Some times ≡ times_of T → e.micros ≡ micros
@@ -54,7 +54,7 @@ last_known (x ∷ T) times is = ap last_of_times is
 
 module _ (settings : Settings) (log : List ℕ) (given : ℕ) (old new : List ℕ) where
   -- what is answered of a log that can't be read
-  pub unread_so : (fault : Fault) → AnswersTold quiet_script tells_no_refusal answers_heard MESSAGE_LIMIT settings log given (Err fault) old new
+  pub unread_so : (fault : Fault) → AnswersAndWrites quiet_script says_no_refusal answers_heard MESSAGE_LIMIT settings log given (Err fault) old new
       → IsUnreadFor false MESSAGE_LIMIT settings log fault
   unread_so (BadLine line column) answered = answered.0
   unread_so (Oversize line announced) answered = answered.0
@@ -67,12 +67,12 @@ module _ (settings : Settings) (log : List ℕ) (given : ℕ) (old new : List �
   -- and of one that can, where this session is of what was heard
   pub read_so : (heard : Heard) (session : SessionValue)
       → ((T : List Entry) (summary : Summary) → IsHeardOf T summary heard → session ≡ session_of MESSAGE_LIMIT T summary)
-      → AnswersTold quiet_script tells_no_refusal answers_heard MESSAGE_LIMIT settings log given (Ok heard) old new → KeepsOne MESSAGE_LIMIT settings log (Ok session)
+      → AnswersAndWrites quiet_script says_no_refusal answers_heard MESSAGE_LIMIT settings log given (Ok heard) old new → KeepsOne MESSAGE_LIMIT settings log (Ok session)
   read_so heard session is (all, meanings, read, answer, wrote) =
       (meanings, read, is (trace settings meanings) (summary_of MESSAGE_LIMIT settings log meanings) answer)
 
   -- the log has a frame where a row of its end is there
-  pub has_own_where_held : (heard : Heard) → rows_in heard.last ≢ [] → AnswersTold quiet_script tells_no_refusal answers_heard MESSAGE_LIMIT settings log given (Ok heard) old new
+  pub has_own_where_held : (heard : Heard) → rows_in heard.last ≢ [] → AnswersAndWrites quiet_script says_no_refusal answers_heard MESSAGE_LIMIT settings log given (Ok heard) old new
       → HasOwnFrame settings log
   has_own_where_held heard some (all, meanings, read, answer, wrote) =
       has_own_frame settings log meanings read.1 (λ none. some (answer.last ∙ ap (λ (T : List Entry). end_rows MESSAGE_LIMIT T) none))

@@ -4,7 +4,7 @@ use Rattle.can_log.specs.declared.frame.Stamped.{Stamped}
 use Rattle.trace_log.specs.Needing.{HasFrame}
 use Rattle.trace_log.specs.Settings.{Settings}
 use Rattle.trace_log.specs.Summing.{summary_of}
-use Rattle.trace_run.specs.Told.{IsReadToEnd, IsUnreadFor, when_lenient}
+use Rattle.trace_run.specs.Ran.{IsReadToEnd, IsUnreadFor, when_lenient}
 use Rattle.trace_log.specs.Trace.{trace}
 use Rattle.trace_canon.specs.declared.comparing.Comparison.{Comparison}
 use Rattle.trace_canon.specs.declared.comparing.Comparison.TheVariants.{Same, Different}

@@ -16,12 +16,12 @@ use Rattle.trace_run.specs.declared.page.Page.{Page}
 use Rattle.trace_run.specs.declared.telling.Telling.{Telling}
 use Rattle.trace_run.specs.proving.Carrying.{Carries, Says, Settles, blank_page}
 use Rattle.trace_run.specs.proving.Telling.{HasTold}
-use Rattle.trace_run.specs.proving.Ending.{EndsSaying, EndsTelling}
+use Rattle.trace_run.specs.proving.Ending.{EndsAnswering, EndsSaying}
 use Rattle.trace_log.specs.Failing.{FailedIf}
 use Rattle.trace_log.specs.Settings.{Settings}
 use Rattle.trace_log.specs.Summing.{summary_of}
-use Rattle.trace_run.specs.Script.{Answering, Script, RefusalText, told, whole_of_lines}
-use Rattle.trace_run.specs.Told.{EndsWith, passing, AnswersTold}
+use Rattle.trace_run.specs.Script.{Answering, Script, RefusalText, said_of_frames, whole_of_lines}
+use Rattle.trace_run.specs.Ran.{EndsWith, passing, AnswersAndWrites}
 use Rattle.trace_log.specs.Trace.{trace}
 use Rattle.std.specs.List.{AllByRecursion}
 use Rattle.trace_log.specs.proving.Announcing.{AnnouncesWithin}
@@ -32,16 +32,16 @@ use Rattle.trace_run.proofs.StoppedLines.{all_pass, read_to_end}
 
 module _ {A W : Type 0} (target : Ghosts W) (script : Script) (answers : Answering A) (start new : W) (settings : Settings) where
   -- what it answers at the end of the log
-  pub told_at_the_end : (refusal : RefusalText) (log : List ℕ) (given : ℕ) (meanings : List (Option Stamped)) (result : Result A Fault) → length log ≤ settings.max_bytes
+  pub answers_at_the_end : (refusal : RefusalText) (log : List ℕ) (given : ℕ) (meanings : List (Option Stamped)) (result : Result A Fault) → length log ≤ settings.max_bytes
       → given ≡ length log → LogMeans log meanings → (script.strict ≡ true → AllByRecursion AnnouncesWithin (trace settings meanings))
-      → EndsTelling target script answers start settings log meanings result new
-      → AnswersTold script refusal answers MESSAGE_LIMIT settings log given result (target.taken start) (target.taken new)
-  told_at_the_end refusal log given meanings result short all means within = by result
+      → EndsSaying target script answers start settings log meanings result new
+      → AnswersAndWrites script refusal answers MESSAGE_LIMIT settings log given result (target.taken start) (target.taken new)
+  answers_at_the_end refusal log given meanings result short all means within = by result
     where
       each : EachPasses (passing script.strict MESSAGE_LIMIT settings) meanings
       each = all_pass script.strict settings meanings within
 
-      with_answer : (reply : Result A NoAnswer) → EndsSaying target script answers start settings log meanings reply new
+      with_answer : (reply : Result A NoAnswer) → EndsAnswering target script answers start settings log meanings reply new
           → EndsWith script answers MESSAGE_LIMIT settings log given reply (target.taken start) (target.taken new)
       with_answer reply ends = (
         omega (arith, all),
@@ -51,8 +51,8 @@ module _ {A W : Type 0} (target : Ghosts W) (script : Script) (answers : Answeri
         wrote_all target start new (whole_of_lines script MESSAGE_LIMIT settings log meanings) ends.1,
       )
 
-      by : (result : Result A Fault) → EndsTelling target script answers start settings log meanings result new
-          → AnswersTold script refusal answers MESSAGE_LIMIT settings log given result (target.taken start) (target.taken new)
+      by : (result : Result A Fault) → EndsSaying target script answers start settings log meanings result new
+          → AnswersAndWrites script refusal answers MESSAGE_LIMIT settings log given result (target.taken start) (target.taken new)
       by (Ok value) ends = with_answer (Ok value) ends
       by (Err fault.OutputLimit) ends = with_answer (Err no_answer.OutputLimit) ends
       by (Err fault.Write) ends =
@@ -69,7 +69,7 @@ module _ {A W : Type 0} (target : Ghosts W) (script : Script) (answers : Answeri
       by (Err (fault.Oversize line announced)) ends = absurd ends
 
   -- what is carried to the end: writing failed exactly where that is answered
-  pub known_then : (log : List ℕ) (meanings : List (Option Stamped)) (result : Result A Fault) → EndsTelling target script answers start settings log meanings result new
+  pub known_then : (log : List ℕ) (meanings : List (Option Stamped)) (result : Result A Fault) → EndsSaying target script answers start settings log meanings result new
       → (said : List ℕ) × (failed : Bool) × Carries target start said (blank_page failed) new × FailedIf fault.Write result (target.failures start) (target.failures new)
       × (result ≢ Err fault.Read)
   known_then log meanings (Ok value) ends = (_, false, ends.1, record { risen = λ is. absurd (cc is); same = λ _. ends.1.failures }, λ is. absurd (cc is))
@@ -83,7 +83,7 @@ module _ {A W : Type 0} (target : Ghosts W) (script : Script) (answers : Answeri
 
 -- memory is not refused at the end
 pub never_memory : {A W : Type 0} (target : Ghosts W) (script : Script) (answers : Answering A) (start new : W) (settings : Settings) (log : List ℕ) (meanings : List (Option Stamped)) (result : Result A Fault)
-    → EndsTelling target script answers start settings log meanings result new → result ≢ Err fault.Memory
+    → EndsSaying target script answers start settings log meanings result new → result ≢ Err fault.Memory
 never_memory target script answers start new settings log meanings (Ok value) ends = λ is. absurd (cc is)
 never_memory target script answers start new settings log meanings (Err fault.Memory) ends = absurd ends
 never_memory target script answers start new settings log meanings (Err fault.OutputLimit) ends = λ is. absurd (cc is)
@@ -106,6 +106,6 @@ pub carried_at_the_end : {M W : Type 0} (stands : M → List Entry → M → Typ
 carried_at_the_end stands scripts target target_start machine_start settings log meanings telling page_then old mid new settled summary so_far is speaks settles =
     let T = trace settings meanings in
     let script = scripts machine_start in
-    subst (λ s. Carries target target_start (told script.of_frame T ++ script.at_the_end T s) (blank_page (not settled)) new) is
-    (settles target_start (told script.of_frame T ++ script.at_the_end T summary)
-    (speaks target_start (told script.of_frame T) so_far.carried))
+    subst (λ s. Carries target target_start (said_of_frames script.of_frame T ++ script.at_the_end T s) (blank_page (not settled)) new) is
+    (settles target_start (said_of_frames script.of_frame T ++ script.at_the_end T summary)
+    (speaks target_start (said_of_frames script.of_frame T) so_far.carried))

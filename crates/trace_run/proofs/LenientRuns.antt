@@ -9,7 +9,7 @@ use Rattle.trace_log.specs.Settings.{Settings}
 use Rattle.trace_log.specs.Summing.{summary_of}
 use Rattle.trace_run.specs.Script.{Script, RefusalText, Answering, answers_counts}
 use Rattle.trace_run.specs.proving.Scripts.{lenient}
-use Rattle.trace_run.specs.Told.{AnswersTold, IsUnreadFor, StopsNothingWithin, when_lenient}
+use Rattle.trace_run.specs.Ran.{AnswersAndWrites, IsUnreadFor, StopsNothingWithin, when_lenient}
 use Rattle.trace_log.specs.Answers.{ReadsWhile}
 use Rattle.trace_log.specs.Refusal.{HasNoBadPlaceWithin}
 use Rattle.trace_log.specs.declared.fault.Fault.{Fault}
@@ -22,7 +22,7 @@ use Rattle.trace_log.proofs.Promises.{lines_certify}
 module _ (of_frame : List Entry → Entry → List ℕ) (at_the_end : List Entry → Summary → List ℕ) (refusal : RefusalText) where
   -- where a fault tells why the log can't be read, that is so
   pub unread_for : (limit : ℕ) (settings : Settings) (log : List ℕ) (given : ℕ) (fault : Fault) (old new : List ℕ)
-      → AnswersTold (lenient of_frame at_the_end) refusal answers_counts limit settings log given (Err fault) old new → IsUnreadFor when_lenient limit settings log fault
+      → AnswersAndWrites (lenient of_frame at_the_end) refusal answers_counts limit settings log given (Err fault) old new → IsUnreadFor when_lenient limit settings log fault
   unread_for limit settings log given (BadLine line column) old new (is, wrote) = is
   unread_for limit settings log given (Oversize line announced) old new (is, wrote) = is
   unread_for limit settings log given LogLimit old new (is, wrote) = is
@@ -33,7 +33,7 @@ module _ (of_frame : List Entry → Entry → List ℕ) (at_the_end : List Entry
 
   -- its counts certify what those of the lines do
   pub certifies : (settings : Settings) (log : List ℕ) (given : ℕ) (result : Result Summary Fault) (old new : List ℕ)
-      → AnswersTold (lenient of_frame at_the_end) refusal answers_counts MESSAGE_LIMIT settings log given result old new → IfOk result (Certifies MESSAGE_LIMIT settings log)
+      → AnswersAndWrites (lenient of_frame at_the_end) refusal answers_counts MESSAGE_LIMIT settings log given result old new → IfOk result (Certifies MESSAGE_LIMIT settings log)
   certifies settings log given (Ok summary) old new (all, meanings, is, counted, wrote) =
       let same : summary_of MESSAGE_LIMIT settings log meanings ≡ summary = cc counted in
       subst (Certifies MESSAGE_LIMIT settings log) same (lines_certify MESSAGE_LIMIT settings log meanings (omega arith) is.1)
@@ -45,7 +45,7 @@ module _ {A : Type 0} (script : Script) (refusal : RefusalText) (answers : Answe
     (has_answer : (T : List Entry) (summary : Summary) → answers T summary (Err no_answer.OutputLimit) → ⊥) where
   -- where a fault tells why the log can't be read, that is so
   unread : (settings : Settings) (log : List ℕ) (given : ℕ) (fault : Fault) (old new : List ℕ)
-      → AnswersTold script refusal answers MESSAGE_LIMIT settings log given (Err fault) old new → IsUnreadFor when_lenient MESSAGE_LIMIT settings log fault
+      → AnswersAndWrites script refusal answers MESSAGE_LIMIT settings log given (Err fault) old new → IsUnreadFor when_lenient MESSAGE_LIMIT settings log fault
   unread settings log given (BadLine line column) old new (is, wrote) = subst (λ strict. IsUnreadFor strict MESSAGE_LIMIT settings log (BadLine line column)) is_lenient is
   unread settings log given (Oversize line announced) old new (is, wrote) = subst (λ strict. IsUnreadFor strict MESSAGE_LIMIT settings log (Oversize line announced)) is_lenient is
   unread settings log given LogLimit old new (is, wrote) = subst (λ strict. IsUnreadFor strict MESSAGE_LIMIT settings log LogLimit) is_lenient is
@@ -56,14 +56,14 @@ module _ {A : Type 0} (script : Script) (refusal : RefusalText) (answers : Answe
 
   -- no announced length is the fault
   pub no_oversize : (settings : Settings) (log : List ℕ) (given : ℕ) (result : Result A Fault) (old new : List ℕ)
-      → AnswersTold script refusal answers MESSAGE_LIMIT settings log given result old new → IfErr result (λ why. (line announced : ℕ) → why ≢ Oversize line announced)
+      → AnswersAndWrites script refusal answers MESSAGE_LIMIT settings log given result old new → IfErr result (λ why. (line announced : ℕ) → why ≢ Oversize line announced)
   no_oversize settings log given (Ok value) old new told = tt
   no_oversize settings log given (Err why) old new told = λ line announced is.
       subst (IsUnreadFor when_lenient MESSAGE_LIMIT settings log) is (unread settings log given why old new told)
 
   -- nor is it the length of the output
   pub no_output_limit : (settings : Settings) (log : List ℕ) (given : ℕ) (result : Result A Fault) (old new : List ℕ)
-      → AnswersTold script refusal answers MESSAGE_LIMIT settings log given result old new → IfErr result (λ why. why ≢ OutputLimit)
+      → AnswersAndWrites script refusal answers MESSAGE_LIMIT settings log given result old new → IfErr result (λ why. why ≢ OutputLimit)
   no_output_limit settings log given (Ok value) old new told = tt
   no_output_limit settings log given (Err why) old new told = λ is.
       subst (IsUnreadFor when_lenient MESSAGE_LIMIT settings log) is (unread settings log given why old new told)

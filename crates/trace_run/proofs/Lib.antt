@@ -6,8 +6,8 @@ pub mod SeenMessages
 pub mod ToldFrames
 pub mod DeviceFaults
 pub mod StoppedLines
-pub mod ToldFronts
-pub mod ToldRuns
+pub mod SaidFronts
+pub mod FailedRuns
 pub mod EndedRuns
 pub mod LenientRuns
 pub mod Printings

@@ -1,4 +1,4 @@
--- A run over a script that tells nothing, nor of a refusal, writes nothing.
+-- A run over a script that says nothing, nor of a refusal, writes nothing.
 use Rattle.std.proofs.Common.{◌≡◌, ◌≢◌, ℕ, List, [], ◌∷◌, ◌++◌, length, arith, ap, refl, ◌∙◌, Result, Ok, Err, inl, inr}
 use Rattle.std.specs.Result.{IfErr}
 use Rattle.isotp_receive.specs.Trace.{Entry}
@@ -6,20 +6,20 @@ use Rattle.trace_log.specs.declared.fault.Fault.{Fault}
 use Rattle.trace_log.specs.declared.fault.Fault.TheVariants.{BadLine, Oversize, LogLimit, OutputLimit, Read, Write, Memory}
 use Rattle.trace_log.specs.Settings.{Settings}
 use Rattle.trace_log.specs.Summing.{summary_of}
-use Rattle.trace_run.specs.Script.{Script, Answering, tells_no_refusal, told_after}
-use Rattle.trace_run.specs.proving.Scripts.{TellsNothing}
-use Rattle.trace_run.specs.Told.{AnswersTold}
+use Rattle.trace_run.specs.Script.{Script, Answering, says_no_refusal, said_after}
+use Rattle.trace_run.specs.proving.Scripts.{SaysNothing}
+use Rattle.trace_run.specs.Ran.{AnswersAndWrites}
 use Rattle.trace_log.specs.Trace.{trace}
 
--- nothing is told of any frame
-told_nothing : (of_frame : List Entry → Entry → List ℕ) → ((T : List Entry) (e : Entry) → of_frame T e ≡ []) → (past xs : List Entry) → told_after of_frame past xs ≡ []
-told_nothing of_frame none past [] = refl
-told_nothing of_frame none past (e ∷ rest) =
-    ap (λ (text : List ℕ). text ++ told_after of_frame (past ++ e ∷ []) rest) (none past e) ∙ told_nothing of_frame none (past ++ e ∷ []) rest
+-- nothing is said of any frame
+said_nothing : (of_frame : List Entry → Entry → List ℕ) → ((T : List Entry) (e : Entry) → of_frame T e ≡ []) → (past xs : List Entry) → said_after of_frame past xs ≡ []
+said_nothing of_frame none past [] = refl
+said_nothing of_frame none past (e ∷ rest) =
+    ap (λ (text : List ℕ). text ++ said_after of_frame (past ++ e ∷ []) rest) (none past e) ∙ said_nothing of_frame none (past ++ e ∷ []) rest
 
-module _ {A : Type 0} (script : Script) (none : TellsNothing script) (answers : Answering A) (limit : ℕ) (settings : Settings) (log : List ℕ) (given : ℕ) (old new : List ℕ) where
+module _ {A : Type 0} (script : Script) (none : SaysNothing script) (answers : Answering A) (limit : ℕ) (settings : Settings) (log : List ℕ) (given : ℕ) (old new : List ℕ) where
   -- so writing does not fail
-  pub never_write : (result : Result A Fault) → AnswersTold script tells_no_refusal answers limit settings log given result old new → IfErr result (λ why. why ≢ Write)
+  pub never_write : (result : Result A Fault) → AnswersAndWrites script says_no_refusal answers limit settings log given result old new → IfErr result (λ why. why ≢ Write)
   never_write (Ok value) answered = tt
   never_write (Err (BadLine line column)) answered = λ is. absurd (cc is)
   never_write (Err (Oversize line announced)) answered = λ is. absurd (cc is)
@@ -28,14 +28,14 @@ module _ {A : Type 0} (script : Script) (none : TellsNothing script) (answers : 
   never_write (Err Read) answered = λ is. absurd (cc is)
   never_write (Err Memory) answered = λ is. absurd (cc is)
   never_write (Err Write) (inl (front, inl told)) =
-      absurd (omega (arith, told.some, ap length (told_nothing script.of_frame none.of_frame [] (trace settings told.meanings))))
+      absurd (omega (arith, told.some, ap length (said_nothing script.of_frame none.of_frame [] (trace settings told.meanings))))
   never_write (Err Write) (inl (front, inr ends)) =
       let T = trace settings ends.meanings in
       let last = none.at_the_end T (summary_of limit settings log ends.meanings) in
       absurd (omega (
         arith,
         ends.some,
-        ap (λ (t : List ℕ). length (t ++ script.at_the_end T (summary_of limit settings log ends.meanings))) (told_nothing script.of_frame none.of_frame [] T),
+        ap (λ (t : List ℕ). length (t ++ script.at_the_end T (summary_of limit settings log ends.meanings))) (said_nothing script.of_frame none.of_frame [] T),
         ap length last,
       ))
   never_write (Err Write) (inr refuses) =

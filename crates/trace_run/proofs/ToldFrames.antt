@@ -1,4 +1,4 @@
--- What is told of one more frame, and what is then known of a telling.
+-- What is said of one more frame that the machine is told, and what is then known of a telling.
 use Rattle.std.proofs.Common.{◌≡◌, ℕ, Bool, true, false, List, [], ◌∷◌, ◌++◌, ap, sym, subst, ◌∙◌, inr, append-nil, append_assoc}
 use Rattle.std.specs.Prelude.{not}
 use Rattle.direction.specs.declared.Dir.{Dir}
@@ -14,23 +14,23 @@ use Rattle.trace_run.specs.proving.Carrying.{Carries, Says, Settles}
 use Rattle.trace_run.proofs.Carryings.{is_blank}
 use Rattle.trace_run.specs.proving.Telling.{HasStopped, HasTold, HasToldAndWritten}
 use Rattle.uds_exchange.specs.Judging.{IsJudgeOf}
-use Rattle.trace_run.specs.Script.{Script, told_after, told}
+use Rattle.trace_run.specs.Script.{Script, said_after, said_of_frames}
 use Rattle.trace_log.specs.proving.Announcing.{AnnouncesWithin}
 use Rattle.trace_log.proofs.Promises.{each_more, messages_more}
 
--- ---- what is told of one more frame
+-- ---- what is said of one more frame
 
 -- of some frames and of more behind them
-pub told-append : (of_frame : List Entry → Entry → List ℕ) (past xs ys : List Entry) → told_after of_frame past (xs ++ ys) ≡ told_after of_frame past xs ++ told_after of_frame (past ++ xs) ys
-told-append of_frame past [] ys = ap (λ l. told_after of_frame l ys) (sym (append-nil past))
-told-append of_frame past (e ∷ xs) ys =
-    ap (λ l. of_frame past e ++ l) (told-append of_frame (past ++ e ∷ []) xs ys
-    ∙ ap (λ l. told_after of_frame (past ++ e ∷ []) xs ++ told_after of_frame l ys) (append_assoc past (e ∷ []) xs))
-    ∙ sym (append_assoc (of_frame past e) (told_after of_frame (past ++ e ∷ []) xs) (told_after of_frame (past ++ (e ∷ xs)) ys))
+pub said-append : (of_frame : List Entry → Entry → List ℕ) (past xs ys : List Entry) → said_after of_frame past (xs ++ ys) ≡ said_after of_frame past xs ++ said_after of_frame (past ++ xs) ys
+said-append of_frame past [] ys = ap (λ l. said_after of_frame l ys) (sym (append-nil past))
+said-append of_frame past (e ∷ xs) ys =
+    ap (λ l. of_frame past e ++ l) (said-append of_frame (past ++ e ∷ []) xs ys
+    ∙ ap (λ l. said_after of_frame (past ++ e ∷ []) xs ++ said_after of_frame l ys) (append_assoc past (e ∷ []) xs))
+    ∙ sym (append_assoc (of_frame past e) (said_after of_frame (past ++ e ∷ []) xs) (said_after of_frame (past ++ (e ∷ xs)) ys))
 
 -- and of one more
-pub one_more_told : (of_frame : List Entry → Entry → List ℕ) (T : List Entry) (e : Entry) → told of_frame (T ++ e ∷ []) ≡ told of_frame T ++ of_frame T e
-one_more_told of_frame T e = told-append of_frame [] T (e ∷ []) ∙ ap (λ l. told of_frame T ++ l) (append-nil (of_frame T e))
+pub one_more_said : (of_frame : List Entry → Entry → List ℕ) (T : List Entry) (e : Entry) → said_of_frames of_frame (T ++ e ∷ []) ≡ said_of_frames of_frame T ++ of_frame T e
+one_more_said of_frame T e = said-append of_frame [] T (e ∷ []) ∙ ap (λ l. said_of_frames of_frame T ++ l) (append-nil (of_frame T e))
 
 -- what one more frame's message counts
 pub counts_next : (T : List Entry) (e : Entry) (line : ℕ) (d : Dir) (event : EventValue) (judge : Judge) → e.dir ≡ d → event ≡ verdict MESSAGE_LIMIT T e
@@ -55,8 +55,8 @@ module _ {M W : Type 0} (stands : M → List Entry → M → Type 0) (scripts : 
       machine_stands = machine_stands;
       within = λ strict. each_more T e (so_far.within strict) (one strict);
       carried =
-          subst (λ text. Carries target target_start text telling_now.page new) (sym (one_more_told ((scripts machine_start).of_frame) T e))
-          (speaks target_start (told ((scripts machine_start).of_frame) T) so_far.carried);
+          subst (λ text. Carries target target_start text telling_now.page new) (sym (one_more_said ((scripts machine_start).of_frame) T e))
+          (speaks target_start (said_of_frames ((scripts machine_start).of_frame) T) so_far.carried);
     }
 
     -- nothing of it was said, and the run stopped
@@ -67,8 +67,8 @@ module _ {M W : Type 0} (stands : M → List Entry → M → Type 0) (scripts : 
       within = so_far.within;
       reason = (one, inr needed);
       carried =
-          subst (λ text. Carries target target_start text telling_now.page new) (append-nil (told ((scripts machine_start).of_frame) T))
-          (speaks target_start (told ((scripts machine_start).of_frame) T) so_far.carried);
+          subst (λ text. Carries target target_start text telling_now.page new) (append-nil (said_of_frames ((scripts machine_start).of_frame) T))
+          (speaks target_start (said_of_frames ((scripts machine_start).of_frame) T) so_far.carried);
     }
 
   -- what was due was written, or that failed
@@ -78,7 +78,7 @@ module _ {M W : Type 0} (stands : M → List Entry → M → Type 0) (scripts : 
     judged = so_far.judged;
     machine_stands = so_far.machine_stands;
     within = so_far.within;
-    carried = settles target_start (told ((scripts machine_start).of_frame) T) so_far.carried;
+    carried = settles target_start (said_of_frames ((scripts machine_start).of_frame) T) so_far.carried;
   }
 
   -- so it is of a telling with any such page

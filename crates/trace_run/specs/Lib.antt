@@ -1,5 +1,5 @@
 pub mod Script
-pub mod Told
+pub mod Ran
 pub mod Seen
 pub mod Printed
 pub mod proving

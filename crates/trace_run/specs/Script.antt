@@ -1,9 +1,9 @@
--- A command, as a run knows it: what it tells of each frame of a log as it comes, at the end and of a refusal, what it
+-- A command, as a run knows it: what it says of each frame of a log as it comes, at the end and of a refusal, what it
 -- may answer, and what memory it needs. Of lines that were read
---   `told_of_lines` is what is told of their frames,
---   `whole_of_lines` that, and what is told at the end,
---   `refusal_of_lines` what is told where behind them something refuses the log,
---   `told_and_refusal_of_lines` that, behind what is told of their frames.
+--   `said_of_lines` is what is said of their frames,
+--   `whole_of_lines` that, and what is said at the end,
+--   `refusal_of_lines` what is said where behind them something refuses the log,
+--   `said_and_refusal_of_lines` that, behind what is said of their frames.
 use Rattle.std.specs.Prelude.{◌≡◌, ℕ, List, [], ◌∷◌, ◌++◌, Option, Result, Ok, Bool}
 use Rattle.can_log.specs.declared.frame.Stamped.{Stamped}
 use Rattle.isotp_receive.specs.Trace.{Entry}
@@ -16,21 +16,21 @@ use Rattle.trace_log.specs.Summing.{summary_of}
 use Rattle.trace_run.specs.declared.machine.Glimpse.{Glimpse}
 use Rattle.trace_run.specs.declared.machine.NoAnswer.{NoAnswer}
 
--- What a command tells: of a frame, by the frames before it; and at the end, by all frames and the counts. A strict one
+-- What a command says: of a frame, by the frames before it; and at the end, by all frames and the counts. A strict one
 -- refuses a log for a first frame that announces a message above the limit.
 pub record Script : Type 0 where
   pub strict : Bool
   pub of_frame : List Entry → Entry → List ℕ
   pub at_the_end : List Entry → Summary → List ℕ
 
--- what a command tells where a line or the limit refuses the log: by the frames and the counts of the lines before, and
+-- what a command says where a line or the limit refuses the log: by the frames and the counts of the lines before, and
 -- by the reason
 abbrev pub RefusalText : Type 0
 RefusalText = List Entry → Summary → Fault → List ℕ
 
--- the text of a command that tells nothing of a refusal
-abbrev pub tells_no_refusal : RefusalText
-tells_no_refusal T summary why = []
+-- the text of a command that says nothing of a refusal
+abbrev pub says_no_refusal : RefusalText
+says_no_refusal T summary why = []
 
 -- What is seen of a source where a log is refused: its first bytes, as many as it keeps, and whether it is over.
 pub record GlimpseValue : Type 0 where
@@ -61,7 +61,7 @@ Needing = List Entry → Entry → Type 0
 abbrev pub needs_none : Needing
 needs_none T e = ⊥
 
--- What a run knows of a command: what it tells, of a refusal too, what it may answer, and for which frames it may be
+-- What a run knows of a command: what it says, of a refusal too, what it may answer, and for which frames it may be
 -- refused memory.
 pub record Command (A : Type 0) : Type 1 where
   pub script : Script
@@ -73,32 +73,32 @@ pub record Command (A : Type 0) : Type 1 where
 abbrev pub command : {A : Type 0} → Script → RefusalText → Answering A → Needing → Command A
 command script refusal answers needs = record { script = script; refusal = refusal; answers = answers; needs = needs }
 
--- what is told of these frames, where the frames `past` came before them
-abbrev pub told_after : (List Entry → Entry → List ℕ) → List Entry → List Entry → List ℕ
-told_after of_frame past [] = []
-told_after of_frame past (e ∷ rest) = of_frame past e ++ told_after of_frame (past ++ e ∷ []) rest
+-- what is said of these frames, where the frames `past` came before them
+abbrev pub said_after : (List Entry → Entry → List ℕ) → List Entry → List Entry → List ℕ
+said_after of_frame past [] = []
+said_after of_frame past (e ∷ rest) = of_frame past e ++ said_after of_frame (past ++ e ∷ []) rest
 
--- what is told of the frames of a trace
-abbrev pub told : (List Entry → Entry → List ℕ) → List Entry → List ℕ
-told of_frame T = told_after of_frame [] T
+-- what is said of the frames of a trace
+abbrev pub said_of_frames : (List Entry → Entry → List ℕ) → List Entry → List ℕ
+said_of_frames of_frame T = said_after of_frame [] T
 
--- what is told before the end of a log whose lines mean this
-abbrev pub told_of_lines : Script → Settings → List (Option Stamped) → List ℕ
-told_of_lines script settings meanings = told script.of_frame (trace settings meanings)
+-- what is said before the end of a log whose lines mean this
+abbrev pub said_of_lines : Script → Settings → List (Option Stamped) → List ℕ
+said_of_lines script settings meanings = said_of_frames script.of_frame (trace settings meanings)
 
--- all that is told of a log whose lines mean this, that at the end too
+-- all that is said of a log whose lines mean this, that at the end too
 abbrev pub whole_of_lines : Script → ℕ → Settings → List ℕ → List (Option Stamped) → List ℕ
 whole_of_lines script limit settings log meanings =
-    told script.of_frame (trace settings meanings)
+    said_of_frames script.of_frame (trace settings meanings)
     ++ script.at_the_end (trace settings meanings) (summary_of limit settings log meanings)
 
--- what is told of a refusal for this reason, after lines that mean this; the counts are those of a log without a last
+-- what is said of a refusal for this reason, after lines that mean this; the counts are those of a log without a last
 -- line feed
 abbrev pub refusal_of_lines : RefusalText → ℕ → Settings → Fault → List (Option Stamped) → List ℕ
 refusal_of_lines refusal limit settings why meanings =
     refusal (trace settings meanings) (summary_of limit settings [] meanings) why
 
--- all that is told of a log that is refused for this reason, after lines that mean this
-abbrev pub told_and_refusal_of_lines : Script → RefusalText → ℕ → Settings → Fault → List (Option Stamped) → List ℕ
-told_and_refusal_of_lines script refusal limit settings why meanings =
-    told_of_lines script settings meanings ++ refusal_of_lines refusal limit settings why meanings
+-- all that is said of a log that is refused for this reason, after lines that mean this
+abbrev pub said_and_refusal_of_lines : Script → RefusalText → ℕ → Settings → Fault → List (Option Stamped) → List ℕ
+said_and_refusal_of_lines script refusal limit settings why meanings =
+    said_of_lines script settings meanings ++ refusal_of_lines refusal limit settings why meanings

@@ -1,16 +1,16 @@
-//! A log told by a machine: where a run reads, writes and fails.
+//! A log that a machine is told: where a run reads, writes and fails.
 ghost use Rattle.std.specs.Prelude.{◌≡◌, ℕ, List, [], Err, Option, false};
 ghost use Rattle.can_log.specs.declared.frame.Stamped.{Stamped as StampedValue};
 ghost use Rattle.isotp_receive.specs.Trace.{Entry};
 ghost use Rattle.trace_io.specs.Counted.{IsLowCount};
 ghost use Rattle.trace_run.specs.proving.Carrying.{Carries};
-ghost use Rattle.trace_run.specs.proving.Ending.{Begins, SettlesAs, EndsTelling, GivesUp, RefusesTelling};
+ghost use Rattle.trace_run.specs.proving.Ending.{Begins, SettlesAs, EndsSaying, GivesUp, RefusesSaying};
 ghost use Rattle.trace_run.specs.proving.Telling.{HasTold};
 ghost use Rattle.trace_log.specs.proving.Receiving.{Receives};
 ghost use Rattle.trace_log.specs.Settings.{Settings};
 ghost use Rattle.trace_log.specs.Summing as Spec;
 ghost use Rattle.trace_run.specs.Script.{command, glimpse_of, glimpse_value};
-ghost use Rattle.trace_run.specs.Told.{Ran, RanLenient};
+ghost use Rattle.trace_run.specs.Ran.{Ran, RanLenient};
 ghost use Rattle.trace_log.specs.Trace.{trace};
 ghost use Rattle.trace_run.specs.declared.machine.NoAnswer.TheVariants.{OutputLimit};
 ghost use Rattle.trace_log.specs.declared.summary.Summary.{Summary as SummaryValue};
@@ -94,7 +94,8 @@ fn give_up<M: Machine + Drop, W: Target>(
     }
 }
 
-/// Writes what was said before a fault of which nothing is told, and answers that fault, or that of writing.
+/// Writes what was said before a fault of which the machine is told nothing, and answers that fault, or that of
+/// writing.
 fn end_untold<M: Machine + Drop, W: Target>(
     fault: Fault,
     receiver: Receiver<M, W>,
@@ -115,7 +116,7 @@ fn refuse<M: Machine, W: Target>(
     receiver: Receiver<M, W>,
     target: &mut W,
 ) -> Fault
-    ensures { RefusesTelling M.stands
+    ensures { RefusesSaying M.stands
         (λ machine_start. M.refusal machine_start (glimpse_value glimpse.entry))
         W.Target why receiver target.old result target.new }
 {
@@ -141,8 +142,8 @@ fn settle_before<W: Target>(fault: Fault, target: &mut W, page: &mut Page) -> Fa
     }
 }
 
-/// Writes what is said at the end, and answers. The log ended in a line feed, or not. By `ends` all is told that a run
-/// tells; by `more` the target has what it had at any time before, and more behind it.
+/// Writes what is said at the end, and answers. The log ended in a line feed, or not. By `ends` all that is said of the
+/// log is written, or writing failed; by `more` the target has what it had at any time before, and more behind it.
 fn finish<M: Machine, W: Target>(
     receiver: Receiver<M, W>,
     ends_in_line_feed: bool,
@@ -153,7 +154,7 @@ fn finish<M: Machine, W: Target>(
         → Receives settings meanings receiver.pair receiver.lines receiver.counts
         → ends_in_line_feed ≡ Spec.ends_in_line_feed log
         → HasTold M.stands M.script W.Target target_start machine_start (trace settings meanings) receiver.telling target.old
-        → EndsTelling W.Target (M.script machine_start) (M.answers machine_start) target_start
+        → EndsSaying W.Target (M.script machine_start) (M.answers machine_start) target_start
         settings log meanings result target.new }
     ensures more { (mid : W) (said : List ℕ) (machine_start : M)
         (settings : Settings) (meanings : List (Option StampedValue))

@@ -41,14 +41,13 @@
 //! The machine sees no device: [`run`] (`driver`) joins the two ends, and makes each fault of theirs one of
 //! [`Fault`](trace_log::Fault).
 //!
-//! Contracts keep these words apart: a machine is *told* what a frame did, and *says* text; what is *told of* frames is
-//! that text; a page *carries* what was said and is not written; and where a page is *settled*, that is written, or
-//! writing failed.
+//! Contracts keep these words apart: a machine is *told* what a frame did, and *says* text of it; a page *carries* what
+//! was said and is not written; and where a page is *settled*, that is written, or writing failed.
 //!
 //! | What | Files | Definitions |
 //! |---|---|---|
 //! | a command, and what it is handed: [`Machine`], [`Seen`], [`Glimpse`], [`NoAnswer`] | `machine` | `Script`, `Seen` |
-//! | a run of one over a log: [`run`], [`run_lenient`] | `driver` | `Told` |
+//! | a run of one over a log: [`run`], [`run_lenient`] | `driver` | `Ran` |
 //! | the frames received and counted | `receiver`, `summing` | those of `trace_log` |
 //! | the messages judged, and the machine told | `telling` | `Seen` |
 //! | its text gathered for few writes | `page`, `held_text` | |

@@ -5,7 +5,7 @@ ghost use Rattle.isotp_receive.specs.Capacities.{KeepsWithin};
 ghost use Rattle.isotp_receive.specs.StandingReception.{receptions_after};
 ghost use Rattle.isotp_receive.specs.Trace.{Entry};
 ghost use Rattle.trace_run.specs.Seen.{IsSeen};
-ghost use Rattle.trace_run.specs.Script.{GlimpseValue, RefusalText, Script, glimpse_value, tells_no_refusal};
+ghost use Rattle.trace_run.specs.Script.{GlimpseValue, RefusalText, Script, glimpse_value, says_no_refusal};
 ghost use Rattle.trace_run.specs.declared.machine.NoAnswer.{NoAnswer as NoAnswerValue};
 ghost use Rattle.trace_log.specs.declared.fault.Fault.TheVariants.{OutputLimit};
 ghost use Rattle.trace_log.specs.declared.summary.Summary.{Summary as SummaryValue};
@@ -30,7 +30,7 @@ pub trait Machine {
     ghost script: { Self → Script };
 
     /// What it says where the log is refused, by what it was at the start, and by what is then seen of the source.
-    ghost refusal: { Self → GlimpseValue → RefusalText } = { λ _ _. tells_no_refusal };
+    ghost refusal: { Self → GlimpseValue → RefusalText } = { λ _ _. says_no_refusal };
 
     /// What it may answer at the end of a trace with these counts, by what it was at the start.
     ghost answers: { Self → List Entry → SummaryValue → Result Self.Answer NoAnswerValue → Type 0 };
@@ -117,7 +117,7 @@ impl<'a> Glimpse<'a> {
 /// Why a machine has no answer at the end of a log.
 #[derive(Clone, Copy, Debug)]
 pub enum NoAnswer {
-    /// What it would tell is longer than the limit.
+    /// Its output would be longer than the limit.
     OutputLimit,
 }
 

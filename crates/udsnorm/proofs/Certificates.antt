@@ -15,8 +15,8 @@ use Rattle.trace_log.specs.declared.fault.Fault.{Fault}
 use Rattle.trace_run.specs.declared.machine.NoAnswer.{NoAnswer}
 use Rattle.trace_log.specs.declared.summary.Summary.{Summary}
 use Rattle.trace_log.proofs.Promises.{clean_log_is_recording, clean_summary_is_certificate, summary_certifies}
-use Rattle.trace_run.specs.Script.{GlimpseValue, RefusalText, Script, answers_counts, tells_no_refusal}
-use Rattle.trace_run.specs.Told.{AnswersTold, IsReadToEnd}
+use Rattle.trace_run.specs.Script.{GlimpseValue, RefusalText, Script, answers_counts, says_no_refusal}
+use Rattle.trace_run.specs.Ran.{AnswersAndWrites, IsReadToEnd}
 use Rattle.trace_report.specs.Kept as Keeps
 use Rattle.trace_report.specs.Session.{SessionValue}
 use Rattle.udsnorm.specs.Commands.{Engine, normalises, writes, finds, runs, runs_in_style, EngineAnswers, PairEngineAnswers, answers_of, engine_of}
@@ -57,7 +57,7 @@ of_read false settings log meanings read = read.1
 
 -- those of a log over which a machine ran, whatever it said
 of_script : (script : Script) (refusal : RefusalText) (settings : Settings) (log : List ℕ) (given : ℕ) (summary : Summary) (old new : List ℕ)
-    → AnswersTold script refusal answers_counts MESSAGE_LIMIT settings log given (Ok summary) old new → is_clean summary ≡ true → IsCertified MESSAGE_LIMIT settings log
+    → AnswersAndWrites script refusal answers_counts MESSAGE_LIMIT settings log given (Ok summary) old new → is_clean summary ≡ true → IsCertified MESSAGE_LIMIT settings log
 of_script script refusal settings log given summary old new (all, meanings, read, counted, wrote) =
     of_told settings log meanings summary (of_read script.strict settings log meanings read) counted
 
@@ -67,7 +67,7 @@ of_engine : (engine : Engine) (settings : Settings) (log : List ℕ) (given : �
 of_engine normalises settings log given summary old new (accepted, outcome, counted, wrote) = of_clean settings log summary (of_accepted settings log accepted summary outcome counted)
 of_engine (writes text) settings log given summary old new (items, is, wrote) = of_clean settings log summary (of_accepted settings log is.accepted summary is.outcome is.counted)
 of_engine (finds notation) settings log given summary old new (pairs, (meanings, read, found), wrote) = λ clean. absurd (true≢false (sym clean ∙ ap is_clean found.1))
-of_engine (runs script needs) settings log given summary old new told = of_script (script MESSAGE_LIMIT) tells_no_refusal settings log given summary old new told
+of_engine (runs script needs) settings log given summary old new told = of_script (script MESSAGE_LIMIT) says_no_refusal settings log given summary old new told
 of_engine (runs_in_style script refusal) settings log given summary old new (style, told) = of_script (script style settings MESSAGE_LIMIT) (refusal style settings MESSAGE_LIMIT) settings log given summary old new told
 
 -- whatever the job

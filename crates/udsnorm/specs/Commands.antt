@@ -21,8 +21,8 @@ use Rattle.trace_log.specs.Needing.{HasFrame, IsKeptForMessage, NeedsMemoryToRec
 use Rattle.trace_canon.specs.MemoryNeeded.{CompletesKept, NeedsMemoryToCollect, NeedsMemoryToOrder}
 use Rattle.trace_log.specs.Refusal.{HasNoBadPlaceWithin, IsNotRefusedWithin}
 use Rattle.trace_log.specs.Settings.{Settings}
-use Rattle.trace_run.specs.Script.{GlimpseValue, Script, RefusalText, answers_counts, command, needs_none, tells_no_refusal}
-use Rattle.trace_run.specs.Told.{AnswersTold, RanLenient, TellsEagerly}
+use Rattle.trace_run.specs.Script.{GlimpseValue, Script, RefusalText, answers_counts, command, needs_none, says_no_refusal}
+use Rattle.trace_run.specs.Ran.{AnswersAndWrites, RanLenient, WritesSaidEagerly}
 use Rattle.trace_canon.specs.WatchScript.{watching_script}
 use Rattle.trace_canon.specs.declared.comparing.Compared.{Compared}
 use Rattle.trace_log.specs.declared.fault.CompareFault.{CompareFault}
@@ -142,7 +142,7 @@ command_entries =
 -- What is known of the call that does a job over one log: it is `normalise`, or writes a text of the items of the
 -- meaning, or of the pairs of identifiers, at the end; or it is the run of a machine, of which all is known by its
 -- script and by the frames for which the machine needs memory. A page's script is in some style, and so is what it
--- tells of a refusal, of which the others tell nothing.
+-- says of a refusal, of which the others say nothing.
 pub data Engine : Type 1 where
   normalises : Engine
   writes : TextOfItems → Engine
@@ -155,20 +155,20 @@ abbrev pub answers_of : Engine → ℕ → Settings → List ℕ → ℕ → Res
 answers_of normalises limit settings log given result old new = Answers limit settings log given result old new
 answers_of (writes text) limit settings log given result old new = WritesItems text limit settings log result old new
 answers_of (finds notation) limit settings log given result old new = Finds notation settings log result old new
-answers_of (runs script needs) limit settings log given result old new = AnswersTold (script limit) tells_no_refusal answers_counts limit settings log given result old new
+answers_of (runs script needs) limit settings log given result old new = AnswersAndWrites (script limit) says_no_refusal answers_counts limit settings log given result old new
 answers_of (runs_in_style script refusal) limit settings log given result old new =
-    (style : List ℕ) × AnswersTold (script style settings limit) (refusal style settings limit) answers_counts limit settings log given result old new
+    (style : List ℕ) × AnswersAndWrites (script style settings limit) (refusal style settings limit) answers_counts limit settings log given result old new
 
--- What it has written of a log of which so many bytes were given: at least all that is told of the lines that had ended
+-- What it has written of a log of which so many bytes were given: at least all that is said of the lines that had ended
 -- among all of these but the last 4,096, as many as one read may bring. So whoever follows a session sees its messages
 -- while it runs. A text of items or of pairs is written at the end alone.
-abbrev pub tells_eagerly_of : Engine → ℕ → Settings → List ℕ → ℕ → List ℕ → List ℕ → Type 0
-tells_eagerly_of normalises limit settings log given old new = WritesEagerly limit settings log given old new
-tells_eagerly_of (writes text) limit settings log given old new = ⊤
-tells_eagerly_of (finds notation) limit settings log given old new = ⊤
-tells_eagerly_of (runs script needs) limit settings log given old new = TellsEagerly (script limit) limit settings log given old new
-tells_eagerly_of (runs_in_style script refusal) limit settings log given old new =
-    (style : List ℕ) × TellsEagerly (script style settings limit) limit settings log given old new
+abbrev pub writes_eagerly_of : Engine → ℕ → Settings → List ℕ → ℕ → List ℕ → List ℕ → Type 0
+writes_eagerly_of normalises limit settings log given old new = WritesEagerly limit settings log given old new
+writes_eagerly_of (writes text) limit settings log given old new = ⊤
+writes_eagerly_of (finds notation) limit settings log given old new = ⊤
+writes_eagerly_of (runs script needs) limit settings log given old new = WritesSaidEagerly (script limit) limit settings log given old new
+writes_eagerly_of (runs_in_style script refusal) limit settings log given old new =
+    (style : List ℕ) × WritesSaidEagerly (script style settings limit) limit settings log given old new
 
 -- nothing refuses the log for it among so many of its bytes; no length that is announced does this for one that is
 -- known by its script, nor for `find`
@@ -194,7 +194,7 @@ pub record RanAny {R W : Type 0} (source : SourceGhosts R) (target : TargetGhost
   pub answer : (log : List ℕ) → AgreesWith source before after log
       → answers_of engine limit settings log (bytes_given source before after) result (target.taken old) (target.taken new)
   pub eager : (log : List ℕ) → AgreesWith source before after log
-      → tells_eagerly_of engine limit settings log (bytes_given source before after) (target.taken old) (target.taken new)
+      → writes_eagerly_of engine limit settings log (bytes_given source before after) (target.taken old) (target.taken new)
   pub memory : (log : List ℕ) → AgreesWith source before after log → result ≡ Err Memory → needs_of engine limit settings log
   pub near : (log : List ℕ) → AgreesWith source before after log
       → ReadsWhile (unrefused_of engine limit settings log) (bytes_given source before after) (source.failures before) (source.failures after)
@@ -206,7 +206,7 @@ abbrev pub RanBy : {R W : Type 0} → SourceGhosts R → TargetGhosts W → Engi
 RanBy source target normalises settings = RanAny source target normalises MESSAGE_LIMIT settings
 RanBy source target (writes text) settings = RanOverItems source target text MESSAGE_LIMIT settings
 RanBy source target (finds notation) settings = RanToFind source target notation settings
-RanBy source target (runs script needs) settings = RanLenient source target (command (script MESSAGE_LIMIT) tells_no_refusal answers_counts (needs MESSAGE_LIMIT)) settings
+RanBy source target (runs script needs) settings = RanLenient source target (command (script MESSAGE_LIMIT) says_no_refusal answers_counts (needs MESSAGE_LIMIT)) settings
 RanBy source target (runs_in_style script refusal) settings = RanAny source target (runs_in_style script refusal) MESSAGE_LIMIT settings
 
 -- the engine that does this job over one log, which has this name on a page, and of whose source this is seen where it is
@@ -227,8 +227,8 @@ abbrev pub EngineAnswers : Job → List ℕ → GlimpseValue → ℕ → Setting
 EngineAnswers job name seen = answers_of (engine_of job name seen)
 
 -- what it has written before more is read
-abbrev pub EngineTellsEagerly : Job → List ℕ → GlimpseValue → ℕ → Settings → List ℕ → ℕ → List ℕ → List ℕ → Type 0
-EngineTellsEagerly job name seen = tells_eagerly_of (engine_of job name seen)
+abbrev pub EngineWritesEagerly : Job → List ℕ → GlimpseValue → ℕ → Settings → List ℕ → ℕ → List ℕ → List ℕ → Type 0
+EngineWritesEagerly job name seen = writes_eagerly_of (engine_of job name seen)
 
 -- for which logs it may be refused memory
 abbrev pub EngineNeeds : Job → List ℕ → GlimpseValue → ℕ → Settings → List ℕ → Type 0

@@ -12,7 +12,7 @@ use Rattle.trace_io.specs.Stream.{Took}
 use Rattle.trace_run.specs.Script.{glimpse_of}
 use Rattle.trace_io.specs.declared.device.Source.{Ghosts as SourceGhosts}
 use Rattle.trace_io.specs.declared.device.Target.{Ghosts as TargetGhosts}
-use Rattle.udsnorm.specs.Commands.{EngineAnswers, EngineNeeds, EngineReads, EngineTellsEagerly, PairEngineAnswers, PairEngineNeedsForLeft, PairEngineNeedsForRight, PairEngineReads, has_text}
+use Rattle.udsnorm.specs.Commands.{EngineAnswers, EngineNeeds, EngineReads, EngineWritesEagerly, PairEngineAnswers, PairEngineNeedsForLeft, PairEngineNeedsForRight, PairEngineReads, has_text}
 use Rattle.udsnorm.specs.Ending.{ComesTo, answer_written, flushes, status_of_run, status_of_run_of_two}
 use Rattle.udsnorm.specs.FaultLines.{run_text, run_two_text}
 use Rattle.udsnorm.specs.Telling.{TookText, WroteText}
@@ -30,7 +30,7 @@ pub record RanOne {R W E : Type 0} (source : SourceGhosts R) (output : TargetGho
       → EngineAnswers job name (glimpse_of source after) limit settings log (bytes_given source before after) answer (output.taken old) (output.taken new)
   -- before each read all was written that the lines so far decide
   pub eager : (log : List ℕ) → AgreesWith source before after log
-      → EngineTellsEagerly job name (glimpse_of source after) limit settings log (bytes_given source before after) (output.taken old) (output.taken new)
+      → EngineWritesEagerly job name (glimpse_of source after) limit settings log (bytes_given source before after) (output.taken old) (output.taken new)
   -- memory was refused, with status 5, only for a log that needs it
   pub memory : (log : List ℕ) → AgreesWith source before after log → status ≡ 5 → EngineNeeds job name (glimpse_of source after) limit settings log
   -- reading stopped within one piece of what refuses the log

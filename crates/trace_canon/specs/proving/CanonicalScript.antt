@@ -8,8 +8,8 @@ use Rattle.isotp_segment.specs.Timed.{all_frames}
 use Rattle.uds_exchange.specs.Order.{early, held}
 use Rattle.uds_exchange.specs.Orderer.{JudgedOrdererValue, judged_orderer_after}
 use Rattle.trace_log.specs.Settings.{Settings}
-use Rattle.trace_run.specs.Script.{Script, Answering, tells_no_refusal, told}
-use Rattle.trace_run.specs.Told.{AnswersTold, TellsEagerly}
+use Rattle.trace_run.specs.Script.{Script, Answering, says_no_refusal, said_of_frames}
+use Rattle.trace_run.specs.Ran.{AnswersAndWrites, WritesSaidEagerly}
 use Rattle.trace_log.specs.Answers.{Answers}
 use Rattle.trace_log.specs.declared.fault.Fault.{Fault}
 use Rattle.trace_run.specs.declared.machine.NoAnswer.TheVariants as no_answer
@@ -51,10 +51,10 @@ abbrev pub text_of_early : Settings → List Entry → List ℕ
 text_of_early settings T =
     text_from settings (start_of settings.max_bytes) (all_frames MESSAGE_LIMIT (early (messages MESSAGE_LIMIT T)))
 
--- what this script tells of a trace are the lines of its early messages
+-- what this script says of a trace are the lines of its early messages
 abbrev pub CanonicalTellsEarly : Type 0
 CanonicalTellsEarly = (settings : Settings) (T : List Entry)
-    → told ((canonical_script settings).of_frame) T ≡ text_of_early settings T
+    → said_of_frames ((canonical_script settings).of_frame) T ≡ text_of_early settings T
 
 -- the canonical log of the trace is longer than the limit
 abbrev pub is_too_long : Settings → List Entry → Bool
@@ -68,7 +68,7 @@ answers_canonical settings T summary result =
 -- what a run by this script answers and writes is the canonical log
 abbrev pub CanonicalTellsTheSame : Type 0
 CanonicalTellsTheSame = (settings : Settings) (log : List ℕ) (given : ℕ) (result : Result Summary Fault) (old new : List ℕ)
-    → AnswersTold (canonical_script settings) tells_no_refusal (answers_canonical settings) MESSAGE_LIMIT settings log
+    → AnswersAndWrites (canonical_script settings) says_no_refusal (answers_canonical settings) MESSAGE_LIMIT settings log
     given result old new
-    → TellsEagerly (canonical_script settings) MESSAGE_LIMIT settings log given old new
+    → WritesSaidEagerly (canonical_script settings) MESSAGE_LIMIT settings log given old new
     → Answers MESSAGE_LIMIT settings log given result old new

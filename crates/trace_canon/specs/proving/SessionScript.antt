@@ -8,8 +8,8 @@ use Rattle.uds_exchange.specs.declared.step.Step.TheVariants as step
 use Rattle.trace_canon.specs.Sessions.{GivesSession, items_of_trace}
 use Rattle.trace_log.specs.CanonicalLog.{canonical_log}
 use Rattle.trace_log.specs.Settings.{Settings}
-use Rattle.trace_run.specs.Script.{Script, Answering, tells_no_refusal}
-use Rattle.trace_run.specs.Told.{AnswersTold}
+use Rattle.trace_run.specs.Script.{Script, Answering, says_no_refusal}
+use Rattle.trace_run.specs.Ran.{AnswersAndWrites}
 use Rattle.trace_canon.specs.declared.collector.Session.{Session}
 use Rattle.trace_log.specs.declared.fault.Fault.{Fault}
 use Rattle.trace_run.specs.declared.machine.NoAnswer.TheVariants.{OutputLimit}
@@ -38,7 +38,7 @@ pub record Collects (settings : Settings) (M : List Message) (items : List ItemV
   pub none : settings.max_bytes < size → (items ≡ []) × (settings.max_bytes < known)
   pub held : fits_within settings items ≡ true
 
--- the script of a machine that tells nothing of a log
+-- the script of a machine that says nothing of a log
 abbrev pub silent_script : Script
 silent_script = record { strict = true; of_frame = λ T e. []; at_the_end = λ T summary. [] }
 
@@ -52,5 +52,5 @@ answers_session settings T summary (Err OutputLimit) = fits_within settings (ite
 -- a run with this script and these answers gives the session, or why there is none
 abbrev pub SessionIsTheSame : Type 0
 SessionIsTheSame = (settings : Settings) (log : List ℕ) (given : ℕ) (result : Result Session Fault) (old new : List ℕ)
-    → AnswersTold silent_script tells_no_refusal (answers_session settings) MESSAGE_LIMIT settings log given result old new
+    → AnswersAndWrites silent_script says_no_refusal (answers_session settings) MESSAGE_LIMIT settings log given result old new
     → GivesSession MESSAGE_LIMIT settings log result

@@ -1,4 +1,4 @@
--- Devices of proof: the frames of a trace were told, and one more is.
+-- Devices of proof: the machine was told the frames of a trace, and is told one more.
 use Rattle.std.specs.Prelude.{◌≡◌, ℕ, ◌^◌, ◌≤◌, ◌⊎◌, Bool, true, false, List, [], ◌++◌, Option, Some, None, Result, ◌∷◌, OnOk, IfErr}
 use Rattle.can_log.specs.declared.frame.Stamped.{Stamped}
 use Rattle.isotp_receive.specs.declared.TheConstants.{MESSAGE_LIMIT}
@@ -17,7 +17,7 @@ use Rattle.trace_log.specs.Settings.{direction_of}
 use Rattle.trace_log.specs.Trace.{trace}
 use Rattle.direction.specs.declared.Dir.{Dir}
 use Rattle.trace_log.specs.Needing.{IsKeptForMessage}
-use Rattle.trace_run.specs.Script.{Script, told}
+use Rattle.trace_run.specs.Script.{Script, said_of_frames}
 use Rattle.trace_run.specs.Seen.{IsEventOf}
 use Rattle.trace_run.specs.declared.telling.FrameEvent.{FrameEvent}
 use Rattle.trace_run.specs.declared.telling.Telling.{Telling}
@@ -53,20 +53,20 @@ pub record HasTold {M W : Type 0} (stands : M → List Entry → M → Type 0) (
   pub judged : IsJudgeOf (messages MESSAGE_LIMIT T) telling.judge
   pub machine_stands : stands machine_start T telling.machine
   pub within : (scripts machine_start).strict ≡ true → AllByRecursion AnnouncesWithin T
-  pub carried : Carries target target_start (told ((scripts machine_start).of_frame) T) telling.page now
+  pub carried : Carries target target_start (said_of_frames ((scripts machine_start).of_frame) T) telling.page now
 
--- the frames of the trace were told, and all that was told of them is written, or writing failed
+-- the frames of the trace were told, and all that was said of them is written, or writing failed
 abbrev pub HasToldAndWritten : {M W : Type 0} → (M → List Entry → M → Type 0) → (M → Script) → Ghosts W → W → M → List Entry → Telling M W → Bool → W → Type 0
 HasToldAndWritten stands scripts target target_start machine_start T telling failed now =
     HasTold stands scripts target target_start machine_start T (record telling { page = blank_page failed }) now
 
--- Since the target was this, at least what is told of this trace was written; and after it, what was said to the page.
+-- Since the target was this, at least what is said of this trace was written; and after it, what was said to the page.
 pub record HasWrittenAtLeast {M W : Type 0} (scripts : M → Script) (target : Ghosts W) (target_start : W) (machine_start : M) (T : List Entry)
     (telling : Telling M W) (now : W) : Type 0 where
   pub within : (scripts machine_start).strict ≡ true → AllByRecursion AnnouncesWithin T
   pub mid : W
   pub said : List ℕ
-  pub wrote : target.taken mid ≡ target.taken target_start ++ told ((scripts machine_start).of_frame) T
+  pub wrote : target.taken mid ≡ target.taken target_start ++ said_of_frames ((scripts machine_start).of_frame) T
   pub carried : Carries target mid said telling.page now
 
 -- The frames of the trace were told, and the run stopped at the frame e, of which nothing was said.
@@ -74,7 +74,7 @@ pub record HasStopped {M W : Type 0} (scripts : M → Script) (needs : M → Lis
     (T : List Entry) (e : Entry) (why : Fault) (telling : Telling M W) (now : W) : Type 0 where
   pub within : (scripts machine_start).strict ≡ true → AllByRecursion AnnouncesWithin T
   pub reason : StopsFor (scripts machine_start).strict (needs machine_start) T e why
-  pub carried : Carries target target_start (told ((scripts machine_start).of_frame) T) telling.page now
+  pub carried : Carries target target_start (said_of_frames ((scripts machine_start).of_frame) T) telling.page now
 
 -- this is what the frame e did after the frames T: `IsEventOf` of an event with its line, time and direction beside it
 abbrev pub IsFrameEvent : List Entry → Entry → FrameEvent → Type 0
@@ -106,7 +106,7 @@ module _ {M W : Type 0} (stands : M → List Entry → M → Type 0) (scripts : 
       (HasTold stands scripts target before.1 before.0.telling.machine (trace before.0.config meanings)
       now.0.telling now.1)
 
-  -- the same, and all that was told of them is written
+  -- the same, and all that was said of them is written
   abbrev pub HasRested : Receiver M W × W → List (Option Stamped) → Receiver M W × W → Type 0
   HasRested before meanings now =
       HasReceived stands target before.0 before.1 meanings now.0
@@ -120,7 +120,7 @@ module _ {M W : Type 0} (stands : M → List Entry → M → Type 0) (scripts : 
       (HasToldAndWritten stands scripts target before.1 before.0.telling.machine (trace before.0.config meanings)
       now.0.telling true now.1)
 
-  -- at least what is told of these lines, the first that were taken, is written
+  -- at least what is said of these lines, the first that were taken, is written
   abbrev pub IsSureOf : Receiver M W × W → List (Option Stamped) → Receiver M W × W → Type 0
   IsSureOf before earlier now =
       IsStart before.0.pair before.0.lines before.0.counts → HasToldNothing stands before.0.telling

@@ -4,7 +4,7 @@ use Rattle.isotp_receive.specs.declared.TheConstants.{MESSAGE_LIMIT}
 use Rattle.trace_canon.specs.proving.SessionScript.{answers_session, silent_script}
 use Rattle.trace_canon.proofs.Collecting.{collects_none}
 use Rattle.trace_run.proofs.Promises.{never_write}
-use Rattle.trace_canon.proofs.SessionScripts.{session_is_the_same, silent_tells_nothing}
+use Rattle.trace_canon.proofs.SessionScripts.{session_is_the_same, silent_says_nothing}
 use Rattle.trace_log.proofs.Promises.{given_agrees}
 use Rattle.trace_canon.proofs.collector.session_of.Goals as goal
 
@@ -20,7 +20,7 @@ returns g c =
         near = search rules;
         memory = search rules;
         read = search rules;
-        never_write = never_write silent_script silent_tells_nothing (answers_session c.args.config.now) MESSAGE_LIMIT c.args.config.now ran.read.gave.bytes _ _ _ c.run.result
+        never_write = never_write silent_script silent_says_nothing (answers_session c.args.config.now) MESSAGE_LIMIT c.args.config.now ran.read.gave.bytes _ _ _ c.run.result
             (ran.answer ran.read.gave.bytes (given_agrees ran.read.gave));
       };
       configured = ran.configured;

@@ -2,7 +2,7 @@
 use Rattle.std.proofs.Common.{false, ap, sym, ◌∙◌}
 use Rattle.isotp_receive.specs.declared.TheConstants.{MESSAGE_LIMIT}
 use Rattle.trace_canon.specs.Finding.{NeedsMemoryToFind}
-use Rattle.trace_run.specs.Told.{IsUnreadFor}
+use Rattle.trace_run.specs.Ran.{IsUnreadFor}
 use Rattle.trace_canon.proofs.InMemories.{agrees_in_memory, gathered, taken_is_held, written_in_memory}
 use Rattle.trace_canon.proofs.in_memory.credit_lines.Goals as goal
 

@@ -2,7 +2,7 @@
 use Rattle.std.proofs.Common.{◌≡◌, subst}
 use Rattle.isotp_receive.specs.declared.TheConstants.{MESSAGE_LIMIT}
 use Rattle.trace_run.specs.Script.{answers_counts, command, glimpse_of, needs_none}
-use Rattle.trace_run.specs.Told.{RanLenient}
+use Rattle.trace_run.specs.Ran.{RanLenient}
 use Rattle.trace_report.specs.Front.{PageTitleValue, page_title}
 use Rattle.trace_report.specs.Page.{refused_text, report_script}
 use Rattle.trace_report.proofs.reporter.report.Goals as goal

@@ -7,7 +7,7 @@ use Rattle.trace_run.specs.Script.{whole_of_lines}
 use Rattle.trace_log.specs.Trace.{trace}
 use Rattle.trace_log.proofs.Promises.{handed_on}
 use Rattle.trace_run.proofs.EndedRuns.{carried_at_the_end, only_output_limit}
-use Rattle.trace_run.proofs.ToldFronts.{only_more}
+use Rattle.trace_run.proofs.SaidFronts.{only_more}
 use Rattle.trace_run.proofs.driver.finish.Goals as goal
 
 pub returns-then-not-settle-clause-ends : goal.returns-then-not-settle-clause-ends

@@ -1,4 +1,4 @@
--- The refusal is told with the counts of the lines before, and settled behind what was said.
+-- The machine is told the refusal with the counts of the lines before, and settled behind what was said.
 use Rattle.std.proofs.Common.{◌++◌, [], refl, subst}
 use Rattle.trace_run.specs.proving.Ending.{EndsAs}
 use Rattle.trace_log.specs.Trace.{trace}

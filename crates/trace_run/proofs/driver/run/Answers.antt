@@ -1,4 +1,4 @@
--- A run is what its lines told, and how it ended: each part of `Ran` is read off one of the two.
+-- A run is what was said of its lines, and how it ended: each part of `Ran` is read off one of the two.
 use Rattle.std.proofs.Common.{◌⊎◌, ◌≡◌, ◌-◌, List, length, arith, ap, subst, ◌∙◌, Option, Err, ℕ, Bool, true}
 use Rattle.can_log.specs.declared.frame.Stamped.{Stamped}
 use Rattle.std.specs.List.{AllByRecursion}
@@ -9,15 +9,15 @@ use Rattle.trace_log.specs.Needing.{HasFrame, IsKeptForMessage}
 use Rattle.isotp_receive.specs.declared.TheConstants.{MESSAGE_LIMIT}
 use Rattle.trace_run.specs.declared.telling.Telling.{Telling}
 use Rattle.trace_run.specs.declared.receiver.Receiver.{Receiver}
-use Rattle.trace_run.specs.proving.Ending.{EndsTelling, GivesUp}
+use Rattle.trace_run.specs.proving.Ending.{EndsSaying, GivesUp}
 use Rattle.trace_run.specs.proving.Telling.{HasToldNothing}
 use Rattle.trace_run.specs.Script.{GlimpseValue, Script, glimpse_of}
-use Rattle.trace_run.specs.Told.{StopsNothingWithin, AnswersTold, TellsEagerly}
+use Rattle.trace_run.specs.Ran.{StopsNothingWithin, AnswersAndWrites, WritesSaidEagerly}
 use Rattle.trace_log.specs.Answers.{ReadsWhile}
 use Rattle.trace_log.specs.Feeding.{TakesFront}
 use Rattle.trace_run.proofs.Runs.{TookLines, IsRunStart, starts_run, has_received}
-use Rattle.trace_run.proofs.ToldRuns.{needed, eagerly, more_given_up, wrote_no_line, ToldEvents, told_none, takes_nothing, gives, told_of_fault, known}
-use Rattle.trace_run.proofs.EndedRuns.{never_memory, known_then, told_at_the_end}
+use Rattle.trace_run.proofs.FailedRuns.{needed, eagerly, more_given_up, wrote_no_line, ToldEvents, told_none, takes_nothing, gives, answers_on_fault, known}
+use Rattle.trace_run.proofs.EndedRuns.{never_memory, known_then, answers_at_the_end}
 use Rattle.trace_run.proofs.DeviceFaults.{fails_so, left_alone_so, reads_so}
 use Rattle.trace_run.proofs.StoppedLines.{reads_near}
 use Rattle.trace_log.proofs.Promises.{some_log, when_ok}
@@ -79,13 +79,13 @@ returns-in-Err g c =
     record {
       ran = record {
         answer = λ log agrees.
-            subst (λ m. AnswersTold (M.script m) (M.refusal m glimpse) (M.answers m) MESSAGE_LIMIT settings log (length (g.R.Source.given c.feed_lines.new.reader) - length (g.R.Source.given c.args.source.now)) (Err c.give_up.result)
+            subst (λ m. AnswersAndWrites (M.script m) (M.refusal m glimpse) (M.answers m) MESSAGE_LIMIT settings log (length (g.R.Source.given c.feed_lines.new.reader) - length (g.R.Source.given c.args.source.now)) (Err c.give_up.result)
             (W.taken c.args.target.now) (W.taken c.give_up.new.target)) (same_machine g at)
-            (told_of_fault M.stands M.script M.needs W settings (start g at) now (begun g at) c.requires.target refusals c.give_up.new.target (M.answers c.start-receiver.result.telling.machine) log
+            (answers_on_fault M.stands M.script M.needs W settings (start g at) now (begun g at) c.requires.target refusals c.give_up.new.target (M.answers c.start-receiver.result.telling.machine) log
             (length (g.R.Source.given c.feed_lines.new.reader) - length (g.R.Source.given c.args.source.now)) c.in-Err.fault c.give_up.result c.max_bytes.result c.max_bytes.ensures.value
             (c.in-Err.ensures.lines log agrees (start g at) none) given_up);
         eager = λ log agrees.
-            subst (λ (script : Script). TellsEagerly script MESSAGE_LIMIT settings log (length (g.R.Source.given c.feed_lines.new.reader) - length (g.R.Source.given c.args.source.now))
+            subst (λ (script : Script). WritesSaidEagerly script MESSAGE_LIMIT settings log (length (g.R.Source.given c.feed_lines.new.reader) - length (g.R.Source.given c.args.source.now))
             (W.taken c.args.target.now) (W.taken c.give_up.new.target)) (same_script g at)
             (eagerly M.stands M.script M.needs W settings (start g at) now (begun g at) c.requires.target log (length (g.R.Source.given c.feed_lines.new.reader) - length (g.R.Source.given c.args.source.now))
             (c.in-Err.ensures.eager log agrees (start g at) none (wrote_no_line M.stands M.script M.needs W (start g at))) c.give_up.new.target
@@ -121,14 +121,14 @@ returns-in-Err g c =
 -- how the run ends, after lines that mean this
 ends : (g : Over) (c : After-finish g) (log : List ℕ) (meanings : List (Option Stamped)) → c.in-Ok.ends_in_line_feed ≡ ends_in_line_feed log
     → TookLines (ToldEvents g.M.Machine.stands g.M.Machine.script g.M.Machine.needs g.W.Target) (c.start-receiver.result, c.args.target.now) meanings (c.feed_lines.new.taker, c.feed_lines.new.device)
-    → EndsTelling g.W.Target (g.M.Machine.script c.args.machine) (g.M.Machine.answers c.args.machine) c.args.target.now c.args.config.now log meanings c.finish.result c.finish.new.target
+    → EndsSaying g.W.Target (g.M.Machine.script c.args.machine) (g.M.Machine.answers c.args.machine) c.args.target.now c.args.config.now log meanings c.finish.result c.finish.new.target
 ends g c log meanings feed lines =
     let M = g.M.Machine in
     let W = g.W.Target in
     let settings = c.args.config.now in
     let at = (goal.at.returns-in-Ok g c).After-start-receiver in
     let now : Receiver g.row.M.Denot g.row.W.Denot × g.row.W.Denot = (c.feed_lines.new.taker, c.feed_lines.new.device) in
-    subst (λ m. EndsTelling W (M.script m) (M.answers m) c.args.target.now settings log meanings c.finish.result c.finish.new.target) (same_machine g at)
+    subst (λ m. EndsSaying W (M.script m) (M.answers m) c.args.target.now settings log meanings c.finish.result c.finish.new.target) (same_machine g at)
     (c.finish.ensures.ends c.args.target.now c.start-receiver.result.telling.machine settings log meanings
     (has_received (ToldEvents M.stands M.script M.needs W) settings (start g at) now (begun g at) meanings lines) feed
     (gives M.stands M.script M.needs W settings (start g at) now (begun g at) c.requires.target meanings lines))
@@ -161,13 +161,13 @@ returns-in-Ok g c =
       ran = record {
         answer = λ log agrees.
             let read = c.in-Ok.ensures.lines log agrees (start g at) none in
-            told_at_the_end W script (M.answers c.args.machine) c.args.target.now c.finish.new.target settings refusal log (length (g.R.Source.given c.feed_lines.new.reader) - length (g.R.Source.given c.args.source.now)) read.0 c.finish.result
+            answers_at_the_end W script (M.answers c.args.machine) c.args.target.now c.finish.new.target settings refusal log (length (g.R.Source.given c.feed_lines.new.reader) - length (g.R.Source.given c.args.source.now)) read.0 c.finish.result
             (omega (arith, read.1, c.max_bytes.ensures.value)) read.2 read.3 (within g c read.0 read.5)
             (ends g c log read.0 read.6 read.5);
         eager = λ log agrees.
             let lines = c.in-Ok.ensures.lines log agrees (start g at) none in
             let now : Receiver g.row.M.Denot g.row.W.Denot × g.row.W.Denot = (c.feed_lines.new.taker, c.feed_lines.new.device) in
-            subst (λ (script : Script). TellsEagerly script MESSAGE_LIMIT settings log (length (g.R.Source.given c.feed_lines.new.reader) - length (g.R.Source.given c.args.source.now))
+            subst (λ (script : Script). WritesSaidEagerly script MESSAGE_LIMIT settings log (length (g.R.Source.given c.feed_lines.new.reader) - length (g.R.Source.given c.args.source.now))
             (W.taken c.args.target.now) (W.taken c.finish.new.target)) (same_script g at)
             (eagerly M.stands M.script M.needs W settings (start g at) now (begun g at) c.requires.target log (length (g.R.Source.given c.feed_lines.new.reader) - length (g.R.Source.given c.args.source.now))
             (c.in-Ok.ensures.eager log agrees (start g at) none (wrote_no_line M.stands M.script M.needs W (start g at))) c.finish.new.target

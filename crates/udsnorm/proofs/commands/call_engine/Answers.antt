@@ -1,7 +1,7 @@
 use Rattle.std.proofs.Common.{◌-◌, ℕ, List, length, subst}
 use Rattle.isotp_receive.specs.declared.TheConstants.{MESSAGE_LIMIT}
 use Rattle.trace_run.specs.Script.{answers_counts}
-use Rattle.trace_run.specs.Told.{AnswersTold, TellsEagerly}
+use Rattle.trace_run.specs.Ran.{AnswersAndWrites, WritesSaidEagerly}
 use Rattle.trace_report.specs.Front.{page_title}
 use Rattle.trace_report.specs.Page.{refused_text, report_script}
 use Rattle.trace_run.specs.Script.{glimpse_of}
@@ -33,12 +33,12 @@ returns-in-Report g c =
       ran = rw c.in-Report.is (record {
         answer = λ log agrees. (
           c.report_style.result.now,
-          subst (λ (name : List ℕ). AnswersTold (report_script (page_title c.report_style.result.now name settings) MESSAGE_LIMIT) (refused_text (page_title c.report_style.result.now name settings) MESSAGE_LIMIT seen) answers_counts MESSAGE_LIMIT settings log (length (g.R.Source.given c.report.new.reader) - length (g.R.Source.given c.args.input.now)) c.report.result (g.W.Target.taken c.args.out.now) (g.W.Target.taken c.report.new.writer)) c.as_bytes.ensures.value
+          subst (λ (name : List ℕ). AnswersAndWrites (report_script (page_title c.report_style.result.now name settings) MESSAGE_LIMIT) (refused_text (page_title c.report_style.result.now name settings) MESSAGE_LIMIT seen) answers_counts MESSAGE_LIMIT settings log (length (g.R.Source.given c.report.new.reader) - length (g.R.Source.given c.args.input.now)) c.report.result (g.W.Target.taken c.args.out.now) (g.W.Target.taken c.report.new.writer)) c.as_bytes.ensures.value
               (ran.answer log agrees),
         );
         eager = λ log agrees. (
           c.report_style.result.now,
-          subst (λ (name : List ℕ). TellsEagerly (report_script (page_title c.report_style.result.now name settings) MESSAGE_LIMIT) MESSAGE_LIMIT settings log (length (g.R.Source.given c.report.new.reader) - length (g.R.Source.given c.args.input.now)) (g.W.Target.taken c.args.out.now) (g.W.Target.taken c.report.new.writer)) c.as_bytes.ensures.value
+          subst (λ (name : List ℕ). WritesSaidEagerly (report_script (page_title c.report_style.result.now name settings) MESSAGE_LIMIT) MESSAGE_LIMIT settings log (length (g.R.Source.given c.report.new.reader) - length (g.R.Source.given c.args.input.now)) (g.W.Target.taken c.args.out.now) (g.W.Target.taken c.report.new.writer)) c.as_bytes.ensures.value
               (ran.eager log agrees),
         );
         memory = c.report.ensures.ran.memory (λ T e none. none);

@@ -1,4 +1,4 @@
--- What was told of the lines is settled, or that failed.
+-- What was said of the lines is settled, or that failed.
 use Rattle.trace_log.specs.Trace.{trace}
 use Rattle.trace_run.proofs.receiver.ReceiverLineTaker.rest.Goals as goal
 

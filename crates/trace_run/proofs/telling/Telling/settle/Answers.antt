@@ -1,9 +1,9 @@
--- What is on the page is settled: so all that was told is written, or writing failed.
+-- What is on the page is settled: so all that was said is written, or writing failed.
 use Rattle.std.proofs.Common.{[], arith, false, subst}
 use Rattle.std.specs.Prelude.{not}
 use Rattle.trace_run.specs.proving.Carrying.{Carries, blank_page}
 use Rattle.trace_run.specs.proving.Telling.{HasToldAndWritten}
-use Rattle.trace_run.specs.Script.{told}
+use Rattle.trace_run.specs.Script.{said_of_frames}
 use Rattle.trace_run.proofs.Carryings.{nothing_said, wrote_all}
 use Rattle.trace_run.proofs.ToldFrames.{settled_as, same_page}
 use Rattle.trace_run.proofs.telling.Telling.settle.Goals as goal
@@ -30,7 +30,7 @@ pub returns-clause-sure : goal.returns-clause-sure
 returns-clause-sure g c = λ is start first T tells.
     let M = g.M.Machine in
     let W = g.W.Target in
-    let text = told ((M.script first).of_frame) T in
+    let text = said_of_frames ((M.script first).of_frame) T in
     let written : Carries W start text (blank_page false) c.settle.new.target =
     subst (λ b. Carries W start text (blank_page (not b)) c.settle.new.target) is (c.settle.ensures.settled start text tells.carried) in
     record {

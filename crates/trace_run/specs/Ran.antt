@@ -24,11 +24,11 @@ use Rattle.trace_log.specs.Devices.{AgreesWith, bytes_given, ReadFrom, WroteTo}
 use Rattle.trace_log.specs.Needing.{HasFrame, IsKeptForMessage, NeedsMemoryToReceive}
 use Rattle.trace_log.specs.Refusal.{announces_within, HasNoBadPlaceWithin, IsNotRefusedWithin}
 use Rattle.trace_run.specs.Script.{Answering, Command, RefusalText, Script}
-use Rattle.trace_run.specs.Script.{refusal_of_lines, told_and_refusal_of_lines, told_of_lines, whole_of_lines}
+use Rattle.trace_run.specs.Script.{refusal_of_lines, said_and_refusal_of_lines, said_of_lines, whole_of_lines}
 use Rattle.trace_run.specs.declared.machine.NoAnswer.{NoAnswer}
 use Rattle.trace_run.specs.declared.machine.NoAnswer.TheVariants as no_answer
 
--- whether the fault is a refusal that is told: for a line, or for the limit of the log
+-- whether the machine is told of the fault, as a refusal: for a line, or for the limit of the log
 abbrev pub is_told : Fault → Bool
 is_told (BadLine line column) = true
 is_told LogLimit = true
@@ -70,37 +70,37 @@ StopsNothingWithin true limit settings log = IsNotRefusedWithin limit settings l
 StopsNothingWithin false limit settings log = HasNoBadPlaceWithin log
 
 module _ (script : Script) (limit : ℕ) (settings : Settings) (log : List ℕ) (given : ℕ) where
-  -- exactly what is told of the lines read before the fault was written
-  abbrev pub WritesTold : Fault → List ℕ → List ℕ → Type 0
-  WritesTold =
-      WritesTextOfRead (passing script.strict limit settings) (told_of_lines script settings) settings log given
+  -- exactly what is said of the lines read before the fault was written
+  abbrev pub WritesSaid : Fault → List ℕ → List ℕ → Type 0
+  WritesSaid =
+      WritesTextOfRead (passing script.strict limit settings) (said_of_lines script settings) settings log given
 
-  -- a front of what is told of the lines read before the fault was written
-  abbrev pub WritesFrontOfTold : Fault → List ℕ → List ℕ → Type 0
-  WritesFrontOfTold =
-      WritesFrontOfRead (passing script.strict limit settings) (told_of_lines script settings) settings log given
+  -- a front of what is said of the lines read before the fault was written
+  abbrev pub WritesFrontOfSaid : Fault → List ℕ → List ℕ → Type 0
+  WritesFrontOfSaid =
+      WritesFrontOfRead (passing script.strict limit settings) (said_of_lines script settings) settings log given
 
-  -- a front of all that is told of the lines read before the fault, as of a log that ends there, was written
+  -- a front of all that is said of the lines read before the fault, as of a log that ends there, was written
   abbrev pub WritesFrontOfWhole : Fault → List ℕ → List ℕ → Type 0
   WritesFrontOfWhole =
       WritesFrontOfRead (passing script.strict limit settings)
       (whole_of_lines script limit settings log) settings log given
 
-  -- What is told of the lines that were read before a write failed is something.
-  pub record HasSomeToTell : Type 0 where
+  -- What is said of the lines that were read before a write failed is something.
+  pub record HasSomeToSay : Type 0 where
     pub meanings : List (Option Stamped)
     pub read : AreReadBefore (passing script.strict limit settings) settings log given Write meanings
-    pub some : 0 < length (told_of_lines script settings meanings)
+    pub some : 0 < length (said_of_lines script settings meanings)
 
-  -- What was written begins with what is told of the lines that had ended among all bytes given but the last 4,096.
-  pub record TellsEagerly (old new : List ℕ) : Type 0 where
+  -- What was written begins with what is said of the lines that had ended among all bytes given but the last 4,096.
+  pub record WritesSaidEagerly (old new : List ℕ) : Type 0 where
     pub meanings : List (Option Stamped)
     pub read : AreReadBefore (passing script.strict limit settings) settings log (given - piece_length) Read meanings
     pub more : List ℕ
-    pub wrote : new ≡ old ++ (told_of_lines script settings meanings ++ more)
+    pub wrote : new ≡ old ++ (said_of_lines script settings meanings ++ more)
 
 module _ (script : Script) (limit : ℕ) (settings : Settings) (log : List ℕ) where
-  -- The log can be read to its end, and a front of all that is told of it, which is something, was written.
+  -- The log can be read to its end, and a front of all that is said of it, which is something, was written.
   pub record EndsUnwritten (old new : List ℕ) : Type 0 where
     pub meanings : List (Option Stamped)
     pub read : IsReadToEnd script.strict limit settings log meanings
@@ -108,32 +108,33 @@ module _ (script : Script) (limit : ℕ) (settings : Settings) (log : List ℕ) 
     pub front : HasFront old (whole_of_lines script limit settings log meanings) new
 
 module _ (script : Script) (refusal : RefusalText) (limit : ℕ) (settings : Settings) (log : List ℕ) (given : ℕ) where
-  -- exactly what is told of the lines read before the fault, and of the refusal behind them, was written
-  abbrev pub WritesToldAndRefusal : Fault → List ℕ → List ℕ → Type 0
-  WritesToldAndRefusal why =
+  -- exactly what is said of the lines read before the fault, and of the refusal behind them, was written
+  abbrev pub WritesSaidAndRefusal : Fault → List ℕ → List ℕ → Type 0
+  WritesSaidAndRefusal why =
       WritesTextOfRead (passing script.strict limit settings)
-      (told_and_refusal_of_lines script refusal limit settings why) settings log given why
+      (said_and_refusal_of_lines script refusal limit settings why) settings log given why
 
-  -- A refusal that is told refuses the log, and something is told of it: of all that is told then, a front was written.
+  -- A refusal that the machine is told refuses the log, and something is said of it: of all that is said then, a front
+  -- was written.
   pub record RefusesUnwritten (old new : List ℕ) : Type 0 where
     pub why : Fault
-    pub tells : is_told why ≡ true
+    pub told : is_told why ≡ true
     pub refused : IsUnreadFor script.strict limit settings log why
     pub meanings : List (Option Stamped)
     pub read : AreReadBefore (passing script.strict limit settings) settings log given why meanings
     pub some : 0 < length (refusal_of_lines refusal limit settings why meanings)
-    pub front : HasFront old (told_and_refusal_of_lines script refusal limit settings why meanings) new
+    pub front : HasFront old (said_and_refusal_of_lines script refusal limit settings why meanings) new
 
-  -- writing failed: while the log was read, where something was told of it, or at its end; or where it is refused
-  abbrev pub FailsToTell : List ℕ → List ℕ → Type 0
-  FailsToTell old new =
+  -- writing failed: while the log was read, where something was said of it, or at its end; or where it is refused
+  abbrev pub FailsToWrite : List ℕ → List ℕ → Type 0
+  FailsToWrite old new =
       (WritesFrontOfWhole script limit settings log given Write old new
-      × (HasSomeToTell script limit settings log given ⊎ EndsUnwritten script limit settings log old new))
+      × (HasSomeToSay script limit settings log given ⊎ EndsUnwritten script limit settings log old new))
       ⊎ RefusesUnwritten old new
 
 module _ {A : Type 0} (script : Script) (answers : Answering A)
     (limit : ℕ) (settings : Settings) (log : List ℕ) (given : ℕ) where
-  -- the log can be read to its end, this is answered there, and all that is told of it was written
+  -- the log can be read to its end, this is answered there, and all that is said of it was written
   abbrev pub EndsWith : Result A NoAnswer → List ℕ → List ℕ → Type 0
   EndsWith result old new =
       (length log ≤ given) × (meanings : List (Option Stamped)) × IsReadToEnd script.strict limit settings log meanings
@@ -146,40 +147,40 @@ module _ {A : Type 0} (script : Script) (refusal : RefusalText) (answers : Answe
   abbrev Ends : Result A NoAnswer → List ℕ → List ℕ → Type 0
   Ends = EndsWith script answers limit settings log given
 
-  -- the log is refused for this, what is told of the lines before was written, and behind it what is of the refusal
-  abbrev RefusesTold : Fault → List ℕ → List ℕ → Type 0
-  RefusesTold why old new =
+  -- the log is refused for this, what is said of the lines before was written, and behind it what is of the refusal
+  abbrev RefusesAndSays : Fault → List ℕ → List ℕ → Type 0
+  RefusesAndSays why old new =
       IsUnreadFor script.strict limit settings log why
-      × WritesToldAndRefusal script refusal limit settings log given why old new
+      × WritesSaidAndRefusal script refusal limit settings log given why old new
 
-  -- the log is refused for this, and what is told of the lines before was written
+  -- the log is refused for this, and what is said of the lines before was written
   abbrev Refuses : Fault → List ℕ → List ℕ → Type 0
   Refuses why old new =
-      IsUnreadFor script.strict limit settings log why × WritesTold script limit settings log given why old new
+      IsUnreadFor script.strict limit settings log why × WritesSaid script limit settings log given why old new
 
   -- What is answered on a log, of which `given` bytes were given, and what is then written where `old` was before: all
-  -- that is told of one that can be read, and an answer or that it is too long; what is told of the lines read before,
-  -- where it can't be, or reading failed, and behind it what is told of a refusal for a line or the limit; and a front
-  -- of what is told where writing failed or memory was refused.
-  abbrev pub AnswersTold : Result A Fault → List ℕ → List ℕ → Type 0
-  AnswersTold (Ok value) old new = Ends (Ok value) old new
-  AnswersTold (Err OutputLimit) old new = Ends (Err no_answer.OutputLimit) old new
-  AnswersTold (Err (BadLine line column)) old new = RefusesTold (BadLine line column) old new
-  AnswersTold (Err LogLimit) old new = RefusesTold LogLimit old new
-  AnswersTold (Err (Oversize line announced)) old new = Refuses (Oversize line announced) old new
-  AnswersTold (Err Read) old new = WritesTold script limit settings log given Read old new
-  AnswersTold (Err Write) old new = FailsToTell script refusal limit settings log given old new
-  AnswersTold (Err Memory) old new = WritesFrontOfTold script limit settings log given Memory old new
+  -- that is said of one that can be read, and an answer or that it is too long; what is said of the lines read before,
+  -- where it can't be, or reading failed, and behind it what is said of a refusal for a line or the limit; and a front
+  -- of what is said where writing failed or memory was refused.
+  abbrev pub AnswersAndWrites : Result A Fault → List ℕ → List ℕ → Type 0
+  AnswersAndWrites (Ok value) old new = Ends (Ok value) old new
+  AnswersAndWrites (Err OutputLimit) old new = Ends (Err no_answer.OutputLimit) old new
+  AnswersAndWrites (Err (BadLine line column)) old new = RefusesAndSays (BadLine line column) old new
+  AnswersAndWrites (Err LogLimit) old new = RefusesAndSays LogLimit old new
+  AnswersAndWrites (Err (Oversize line announced)) old new = Refuses (Oversize line announced) old new
+  AnswersAndWrites (Err Read) old new = WritesSaid script limit settings log given Read old new
+  AnswersAndWrites (Err Write) old new = FailsToWrite script refusal limit settings log given old new
+  AnswersAndWrites (Err Memory) old new = WritesFrontOfSaid script limit settings log given Memory old new
 
 -- A run of a command from a source to a target: all that a caller knows of it.
 pub record Ran {R W A : Type 0} (source : SourceGhosts R) (target : TargetGhosts W) (of : Command A)
     (settings : Settings) (before : R) (old : W) (result : Result A Fault) (after : R) (new : W) : Type 0 where
   -- what is answered and written, for each log with which the bytes that were read agree
   pub answer : (log : List ℕ) → AgreesWith source before after log
-      → AnswersTold of.script of.refusal of.answers MESSAGE_LIMIT settings log (bytes_given source before after) result
+      → AnswersAndWrites of.script of.refusal of.answers MESSAGE_LIMIT settings log (bytes_given source before after) result
       (target.taken old) (target.taken new)
-  -- before each read what was told was written
-  pub eager : (log : List ℕ) → AgreesWith source before after log → TellsEagerly of.script MESSAGE_LIMIT settings log
+  -- before each read what was said was written
+  pub eager : (log : List ℕ) → AgreesWith source before after log → WritesSaidEagerly of.script MESSAGE_LIMIT settings log
       (bytes_given source before after) (target.taken old) (target.taken new)
   -- memory is refused only for a log that needs it: for a message of several frames, or for a frame for which the
   -- command needs some
@@ -203,7 +204,7 @@ pub record RanLenient {R W A : Type 0} (source : SourceGhosts R) (target : Targe
   pub near : (log : List ℕ) → AgreesWith source before after log
       → ReadsWhile (HasNoBadPlaceWithin log) (bytes_given source before after)
       (source.failures before) (source.failures after)
-  -- no log is refused for an announced length, nor for the length of what would be told of it
+  -- no log is refused for an announced length, nor for the length of what would be said of it
   pub never_oversize : IfErr result (λ fault. (line announced : ℕ) → fault ≢ Oversize line announced)
   pub never_output_limit : IfErr result (λ fault. fault ≢ OutputLimit)
   -- where the command needs no memory, it is refused only for a message of several frames

@@ -1,4 +1,4 @@
--- What a run that tells a log answers on a fault, from what its parts have promised.
+-- What a run answers on a fault, from what its parts have promised.
 use Rattle.std.proofs.Common.{Some, ◌≡◌, ◌≢◌, ◌⊎◌, ℕ, ◌<◌, ◌≤◌, ◌^◌, Bool, true, false, List, [], ◌∷◌, ◌++◌, length, take, drop, arith, refl, ap, sym, subst, ◌∙◌, Option, Result, Err, inl, inr, append-nil, length-append}
 use Rattle.std.specs.Prelude.{min}
 use Rattle.std.proofs.lemmas.List.{take-append-drop, length-take-le}
@@ -13,13 +13,13 @@ use Rattle.trace_log.specs.declared.fault.Fault.TheVariants as fault
 use Rattle.trace_run.specs.declared.receiver.Receiver.{Receiver}
 use Rattle.trace_run.specs.proving.Carrying.{Carries, blank_page}
 use Rattle.trace_run.specs.proving.Telling.{HasTold, HasToldNothing, HasStopped, HasToldAndWritten, HasWrittenAtLeast}
-use Rattle.trace_run.specs.proving.Ending.{EndsAs, SettlesAs, SettlesWith, RefusesTelling, GivesUp}
+use Rattle.trace_run.specs.proving.Ending.{EndsAs, SettlesAs, SettlesWith, RefusesSaying, GivesUp}
 use Rattle.trace_log.specs.Feeding.{FeedsLog, FeedsSome, WroteBefore, StopsWithin}
 use Rattle.uds_exchange.specs.Judging.{IsJudgeOf}
 use Rattle.trace_log.specs.LinesRead.{counts_last, AreLinesRead, AreReadBefore}
 use Rattle.trace_log.specs.Settings.{Settings}
-use Rattle.trace_run.specs.Script.{Answering, Script, RefusalText, told, told_of_lines, refusal_of_lines, told_and_refusal_of_lines}
-use Rattle.trace_run.specs.Told.{WritesFrontOfTold, HasSomeToTell, passing, IsUnreadFor, is_told, WritesToldAndRefusal, AnswersTold, TellsEagerly}
+use Rattle.trace_run.specs.Script.{Answering, Script, RefusalText, said_of_frames, said_of_lines, refusal_of_lines, said_and_refusal_of_lines}
+use Rattle.trace_run.specs.Ran.{WritesFrontOfSaid, HasSomeToSay, passing, IsUnreadFor, is_told, WritesSaidAndRefusal, AnswersAndWrites, WritesSaidEagerly}
 use Rattle.trace_log.specs.Trace.{trace, trace_from}
 use Rattle.std.specs.List.{AllByRecursion}
 use Rattle.trace_log.specs.proving.Announcing.{AnnouncesWithin}
@@ -30,17 +30,17 @@ use Rattle.trace_log.specs.Refusal.{EachPasses}
 use Rattle.trace_run.proofs.Carryings.{nothing_said, wrote_all, wrote_front}
 use Rattle.trace_run.proofs.Runs.{TookEvents, StoppedOnEvent, StopsOn, IsRunStart, TookLines, StoppedOnLine, took_nothing, has_received, has_taken, has_stopped}
 use Rattle.trace_run.proofs.WrittenFronts.{front_longer}
-use Rattle.trace_run.proofs.ToldFrames.{one_more_told}
+use Rattle.trace_run.proofs.ToldFrames.{one_more_said}
 use Rattle.trace_run.proofs.DeviceFaults.{IsOutcomeOf, IsReadOnly}
 use Rattle.trace_run.proofs.StoppedLines.{all_pass, unread_for_place, unread_for_limit}
-use Rattle.trace_run.proofs.ToldFronts.{front_of_whole, writes_front_of_told, told_some, front_of_read, front_of_refused, only_more, more_at_fault, tells_eagerly}
+use Rattle.trace_run.proofs.SaidFronts.{front_of_whole, writes_front_of_said, said_some, front_of_read, front_of_refused, only_more, more_at_fault, writes_said_eagerly}
 
 module _ {M W : Type 0} (stands : M → List Entry → M → Type 0) (scripts : M → Script) (needs : M → List Entry → Entry → Type 0) (target : Ghosts W) where
-  -- events were told
+  -- the machine was told events
   abbrev pub ToldEvents : TookEvents M W
   ToldEvents s T t = HasToldNothing stands s.0 → target.failures s.1 ≤ 2 ^ 62 → HasTold stands scripts target s.1 s.0.machine T t.0 t.1
 
-  -- events were told and all of it is written, or writing failed
+  -- the machine was told events, and all that was said of them is written, or writing failed
   abbrev pub SettledEvents : Bool → TookEvents M W
   SettledEvents failed s T t = HasToldNothing stands s.0 → target.failures s.1 ≤ 2 ^ 62 → HasToldAndWritten stands scripts target s.1 s.0.machine T t.0 failed t.1
 
@@ -48,7 +48,7 @@ module _ {M W : Type 0} (stands : M → List Entry → M → Type 0) (scripts : 
   abbrev pub StoppedTelling : StoppedOnEvent M W
   StoppedTelling s T e why t = HasToldNothing stands s.0 → target.failures s.1 ≤ 2 ^ 62 → HasStopped scripts needs target s.1 s.0.machine T e why t.0 t.1
 
-  -- of no frame nothing is told
+  -- of no frame the machine is told nothing
   told_nothing : (start : Telling M W × W) → ToldEvents start [] start
   told_nothing start fresh low = record {
     judged = fresh.judged;
@@ -57,7 +57,7 @@ module _ {M W : Type 0} (stands : M → List Entry → M → Type 0) (scripts : 
     carried = nothing_said target start.1 start.0.page low fresh.well fresh.blank;
   }
 
-  -- nothing was told of a machine that stands at its start
+  -- a machine that stands at its start was told nothing
   pub told_none : (machine : M) (telling : Telling M W) → telling.machine ≡ machine → stands machine [] machine → IsJudgeOf [] telling.judge → telling.page.failed ≡ false
       → telling.page.held ≡ [] → HasToldNothing stands telling
   told_none machine telling same at_start removed well blank =
@@ -67,15 +67,15 @@ module _ {M W : Type 0} (stands : M → List Entry → M → Type 0) (scripts : 
   pub takes_nothing : (start : Receiver M W × W) → TookLines ToldEvents start [] start
   takes_nothing start = took_nothing ToldEvents start (told_nothing (start.0.telling, start.1))
 
-  -- what was told of events was written
+  -- what was said of events was written
   abbrev pub WroteEvents : TookEvents M W
   WroteEvents s T t = HasToldNothing stands s.0 → target.failures s.1 ≤ 2 ^ 62 → HasWrittenAtLeast scripts target s.1 s.0.machine T t.0 t.1
 
-  -- what was told of lines was written
+  -- what was said of lines was written
   abbrev pub WroteLines : Receiver M W × W → List (Option Stamped) → Receiver M W × W → Type 0
   WroteLines s meanings t = IsStart s.0.pair s.0.lines s.0.counts → WroteEvents (s.0.telling, s.1) (trace s.0.config meanings) (t.0.telling, t.1)
 
-  -- of no line nothing is told
+  -- of no line nothing is said
   pub wrote_no_line : (start : Receiver M W × W) → WroteLines start [] start
   unfolding trace_from
   wrote_no_line start none fresh low = record {
@@ -98,7 +98,7 @@ module _ {M W : Type 0} (stands : M → List Entry → M → Type 0) (scripts : 
 
   -- from such a start on
   module _ (settings : Settings) (start now : Receiver M W × W) (begun : IsRunStart (HasToldNothing stands) settings start) (low : target.failures start.1 ≤ 2 ^ 62) where
-    -- the frames of the lines were told
+    -- the machine was told the frames of the lines
     pub gives : (meanings : List (Option Stamped)) → TookLines ToldEvents start meanings now
         → HasTold stands scripts target start.1 start.0.telling.machine (trace settings meanings) now.0.telling now.1
     gives meanings lines = has_taken ToldEvents settings start now begun meanings lines begun.fresh low
@@ -106,15 +106,15 @@ module _ {M W : Type 0} (stands : M → List Entry → M → Type 0) (scripts : 
     -- what was written before the last piece, and what came after it
     pub eagerly : (log : List ℕ) (given : ℕ) (before : WroteBefore WroteLines start log given now) (new : W)
         → ((mid : W) (said : List ℕ) → Carries target mid said now.0.telling.page now.1 → Begins (target.taken mid) (target.taken new))
-        → TellsEagerly (scripts start.0.telling.machine) MESSAGE_LIMIT settings log given (target.taken start.1) (target.taken new)
+        → WritesSaidEagerly (scripts start.0.telling.machine) MESSAGE_LIMIT settings log given (target.taken start.1) (target.taken new)
     eagerly log given before new more =
         let wrote = before.written begun.nothing begun.fresh low in
         let of_settings : trace start.0.config before.meanings ≡ trace settings before.meanings = ap (λ s. trace s before.meanings) begun.config in
-        tells_eagerly (scripts start.0.telling.machine) settings log given before.front before.rest before.meanings before.standing (target.taken start.1) (target.taken wrote.mid) (target.taken new)
+        writes_said_eagerly (scripts start.0.telling.machine) settings log given before.front before.rest before.meanings before.standing (target.taken start.1) (target.taken wrote.mid) (target.taken new)
         before.stands before.parts before.near (subst (λ T. (scripts start.0.telling.machine).strict ≡ true → AllByRecursion AnnouncesWithin T) of_settings wrote.within)
-        (wrote.wrote ∙ ap (λ T. target.taken start.1 ++ told ((scripts start.0.telling.machine).of_frame) T) of_settings) (more wrote.mid wrote.said wrote.carried)
+        (wrote.wrote ∙ ap (λ T. target.taken start.1 ++ said_of_frames ((scripts start.0.telling.machine).of_frame) T) of_settings) (more wrote.mid wrote.said wrote.carried)
 
-    -- and what was told of them is written, or writing failed
+    -- and what was said of them is written, or writing failed
     settled : (failed : Bool) (meanings : List (Option Stamped)) → TookLines (SettledEvents failed) start meanings now
         → HasToldAndWritten stands scripts target start.1 start.0.telling.machine (trace settings meanings) now.0.telling failed now.1
     settled failed meanings lines = has_taken (SettledEvents failed) settings start now begun meanings lines begun.fresh low
@@ -126,20 +126,20 @@ module _ {M W : Type 0} (stands : M → List Entry → M → Type 0) (scripts : 
         let stops = has_stopped StoppedTelling settings start now begun meanings what why line in
         (stops.0, stops.1, stops.2, stops.3, stops.4 begun.fresh low)
 
-    -- where a refusal is told so
+    -- where this is said of a refusal
     module _ (refusals : M → RefusalText) (new : W) where
-      -- how the run ends on a refusal that is told, after these lines
-      refuses : (why answer : Fault) (meanings : List (Option Stamped)) → TookLines ToldEvents start meanings now → RefusesTelling stands refusals target why now.0 now.1 answer new
+      -- how the run ends on a refusal that the machine is told, after these lines
+      refuses : (why answer : Fault) (meanings : List (Option Stamped)) → TookLines ToldEvents start meanings now → RefusesSaying stands refusals target why now.0 now.1 answer new
           → SettlesWith (refusal_of_lines (refusals start.0.telling.machine) MESSAGE_LIMIT settings why meanings) why target now.0.telling.page now.1 answer new
       refuses why answer meanings taken up =
           let told_so = gives meanings taken in
           up start.0.telling.machine settings meanings (has_received ToldEvents settings start now begun meanings taken) told_so.judged told_so.machine_stands
 
-      -- and so what is told of all lines and of the refusal was said, and is written, or writing failed
-      refuses_all : (why answer : Fault) (meanings : List (Option Stamped)) → TookLines ToldEvents start meanings now → RefusesTelling stands refusals target why now.0 now.1 answer new
-          → EndsAs why target start.1 (told_and_refusal_of_lines (scripts start.0.telling.machine) (refusals start.0.telling.machine) MESSAGE_LIMIT settings why meanings) answer new
+      -- and so what is said of all lines and of the refusal is written, or writing failed
+      refuses_all : (why answer : Fault) (meanings : List (Option Stamped)) → TookLines ToldEvents start meanings now → RefusesSaying stands refusals target why now.0 now.1 answer new
+          → EndsAs why target start.1 (said_and_refusal_of_lines (scripts start.0.telling.machine) (refusals start.0.telling.machine) MESSAGE_LIMIT settings why meanings) answer new
       refuses_all why answer meanings taken up =
-          refuses why answer meanings taken up start.1 (told_of_lines (scripts start.0.telling.machine) settings meanings) (gives meanings taken).carried
+          refuses why answer meanings taken up start.1 (said_of_lines (scripts start.0.telling.machine) settings meanings) (gives meanings taken).carried
 
       -- only more is written
       pub more_given_up : (B : Type 0) (why answer : Fault) → FedSome start {A = B} (Err why) now → GivesUp stands refusals target why now.0 now.1 answer new
@@ -155,10 +155,10 @@ module _ {M W : Type 0} (stands : M → List Entry → M → Type 0) (scripts : 
       more_given_up B fault.Write answer takes up mid said carries = subst (λ w. Begins (target.taken mid) (target.taken w)) (sym up.1) (only_more carries)
 
       -- what is answered on a fault of the lines
-      pub told_of_fault : {B : Type 0} (replies : Answering B) (log : List ℕ) (given : ℕ) (why : Fault) (answer : Fault) (m : ℕ) → m ≡ settings.max_bytes
+      pub answers_on_fault : {B : Type 0} (replies : Answering B) (log : List ℕ) (given : ℕ) (why : Fault) (answer : Fault) (m : ℕ) → m ≡ settings.max_bytes
           → Fed start m log given (Err why) now → GivesUp stands refusals target why now.0 now.1 answer new
-          → AnswersTold (scripts start.0.telling.machine) (refusals start.0.telling.machine) replies MESSAGE_LIMIT settings log given (Err answer) (target.taken start.1) (target.taken new)
-      told_of_fault replies log given why answer m is read up = by why (subst (λ k. Fed start k log given (Err why) now) is read) up
+          → AnswersAndWrites (scripts start.0.telling.machine) (refusals start.0.telling.machine) replies MESSAGE_LIMIT settings log given (Err answer) (target.taken start.1) (target.taken new)
+      answers_on_fault replies log given why answer m is read up = by why (subst (λ k. Fed start k log given (Err why) now) is read) up
         where
           script : Script
           script = scripts start.0.telling.machine
@@ -167,13 +167,13 @@ module _ {M W : Type 0} (stands : M → List Entry → M → Type 0) (scripts : 
           refusal = refusals start.0.telling.machine
 
           text : List (Option Stamped) → List ℕ
-          text = told_of_lines script settings
+          text = said_of_lines script settings
 
           old : List ℕ
           old = target.taken start.1
 
           Answers : Fault → Type 0
-          Answers f = AnswersTold script refusal replies MESSAGE_LIMIT settings log given (Err f) old (target.taken new)
+          Answers f = AnswersAndWrites script refusal replies MESSAGE_LIMIT settings log given (Err f) old (target.taken new)
 
           passes : Option Stamped → Bool
           passes = passing script.strict MESSAGE_LIMIT settings
@@ -190,10 +190,10 @@ module _ {M W : Type 0} (stands : M → List Entry → M → Type 0) (scripts : 
           -- a line or the limit refuses the log
           refused : (why : Fault) (meanings : List (Option Stamped)) → is_told why ≡ true → TookLines ToldEvents start meanings now
               → IsUnreadFor script.strict MESSAGE_LIMIT settings log why → AreReadBefore passes settings log given why meanings
-              → RefusesTelling stands refusals target why now.0 now.1 answer new
-              → (WritesToldAndRefusal script refusal MESSAGE_LIMIT settings log given why old (target.taken new) → Answers why) → Answers answer
+              → RefusesSaying stands refusals target why now.0 now.1 answer new
+              → (WritesSaidAndRefusal script refusal MESSAGE_LIMIT settings log given why old (target.taken new) → Answers why) → Answers answer
           refused why meanings tells taken unread read up answers =
-              let all = told_and_refusal_of_lines script refusal MESSAGE_LIMIT settings why meanings in
+              let all = said_and_refusal_of_lines script refusal MESSAGE_LIMIT settings why meanings in
               elim (refuses_all why answer meanings taken up) [
                 | inl well ↦ subst Answers (sym well.0) (answers (record { meanings = meanings; read = read; wrote = wrote all well.1 }))
                 | inr wrong ↦ subst Answers (sym wrong.0)
@@ -202,7 +202,7 @@ module _ {M W : Type 0} (stands : M → List Entry → M → Type 0) (scripts : 
 
           -- a line is bad
           bad : (line column bytes : ℕ) (meanings : List (Option Stamped)) → IsBadBehind log line column meanings bytes → bytes ≤ settings.max_bytes → bytes ≤ given
-              → TookLines ToldEvents start meanings now → RefusesTelling stands refusals target (fault.BadLine line column) now.0 now.1 answer new → Answers answer
+              → TookLines ToldEvents start meanings now → RefusesSaying stands refusals target (fault.BadLine line column) now.0 now.1 answer new → Answers answer
           bad line column bytes meanings place few come taken up =
               let passed = each meanings (gives meanings taken).within in
               let unread = unread_for_place settings log script.strict line column meanings bytes place few passed in
@@ -231,14 +231,14 @@ module _ {M W : Type 0} (stands : M → List Entry → M → Type 0) (scripts : 
                     (record { meanings = meanings; read = read; wrote = refl }) (front true (text meanings) wrong.1) (wrong.1.spoke refl))
               ]
 
-          -- what is told of the lines up to the one on which memory was refused goes on with that line
+          -- what is said of the lines up to the one on which memory was refused goes on with that line
           longer : (meanings : List (Option Stamped)) (what : Option Stamped) (line : StoppedOnLine StoppedTelling start meanings what fault.Memory now)
               → (more : List ℕ) × (text (meanings ++ what ∷ []) ≡ text meanings ++ more)
           longer meanings what line =
               let halted = halts meanings what fault.Memory line in
               let e = entry_in meanings halted.0 halted.1 in (
                 script.of_frame (trace settings meanings) e,
-                ap (told script.of_frame) (trace_next settings meanings what halted.0 halted.1 halted.2 halted.3) ∙ one_more_told script.of_frame (trace settings meanings) e,
+                ap (said_of_frames script.of_frame) (trace_next settings meanings what halted.0 halted.1 halted.2 halted.3) ∙ one_more_said script.of_frame (trace settings meanings) e,
               )
 
           -- and these lines had come
@@ -251,22 +251,22 @@ module _ {M W : Type 0} (stands : M → List Entry → M → Type 0) (scripts : 
               (each (meanings ++ what ∷ []) (λ strict. subst (AllByRecursion AnnouncesWithin) (sym next)
               (each_more (trace settings meanings) (entry_in meanings halted.0 halted.1) (halted.4.within strict) (halted.4.reason.0 strict))))
 
-          -- so a front of what is told of them was written
+          -- so a front of what is said of them was written
           stopped : (meanings : List (Option Stamped)) (what : Option Stamped) (line : StoppedOnLine StoppedTelling start meanings what fault.Memory now)
               → StopsWithin settings.max_bytes log given meanings what → (failed : Bool) (why : Fault) → counts_last why ≡ true → Carries target start.1 (text meanings) (blank_page failed) new
-              → WritesFrontOfTold script MESSAGE_LIMIT settings log given why old (target.taken new)
+              → WritesFrontOfSaid script MESSAGE_LIMIT settings log given why old (target.taken new)
           stopped meanings what line place failed why last carries =
               let more = longer meanings what line in
-              writes_front_of_told script MESSAGE_LIMIT settings log given why (meanings ++ what ∷ []) old (target.taken new) last (came meanings what line place)
+              writes_front_of_said script MESSAGE_LIMIT settings log given why (meanings ++ what ∷ []) old (target.taken new) last (came meanings what line place)
               (subst (λ said. HasFront old said (target.taken new)) (sym more.1) (front_longer old (text meanings) more.0 (target.taken new) (front failed (text meanings) carries)))
 
-          -- and that is something, where what is told of the lines before it is
+          -- and that is something, where what is said of the lines before it is
           some_told : (meanings : List (Option Stamped)) (what : Option Stamped) (line : StoppedOnLine StoppedTelling start meanings what fault.Memory now)
-              → StopsWithin settings.max_bytes log given meanings what → 0 < length (text meanings) → HasSomeToTell script MESSAGE_LIMIT settings log given
+              → StopsWithin settings.max_bytes log given meanings what → 0 < length (text meanings) → HasSomeToSay script MESSAGE_LIMIT settings log given
           some_told meanings what line place some =
               let more = longer meanings what line in
               let long = ap length more.1 ∙ length-append (text meanings) more.0 in
-              told_some script MESSAGE_LIMIT settings log given (meanings ++ what ∷ []) (came meanings what line place) (omega arith)
+              said_some script MESSAGE_LIMIT settings log given (meanings ++ what ∷ []) (came meanings what line place) (omega arith)
 
           by : (why : Fault) → Fed start settings.max_bytes log given (Err why) now
               → GivesUp stands refusals target why now.0 now.1 answer new → Answers answer
@@ -327,7 +327,7 @@ module _ {M W : Type 0} (stands : M → List Entry → M → Type 0) (scripts : 
               has_frame (λ T e. IsKeptForMessage MESSAGE_LIMIT T e ⊎ needs start.0.telling.machine T e) settings log given meanings what halted.0 halted.1 place halted.2 halted.3 halted.4.reason.1
           by (fault.Oversize line announced) (meanings, what, line_stopped, place) up =
               let halted = halts meanings what (fault.Oversize line announced) line_stopped in
-              other (fault.Oversize line announced) (told_of_lines (scripts start.0.telling.machine) settings meanings) (λ same. absurd (cc same)) (up start.1 _ halted.4.carried)
+              other (fault.Oversize line announced) (said_of_lines (scripts start.0.telling.machine) settings meanings) (λ same. absurd (cc same)) (up start.1 _ halted.4.carried)
           by (fault.BadLine line column) (meanings, taken, place) up =
               other (fault.BadLine line column) _ (λ same. absurd (cc same)) (refuses_all (fault.BadLine line column) answer meanings taken up)
           by fault.LogLimit (meanings, taken, long, come, stood) up =
@@ -358,7 +358,7 @@ module _ {M W : Type 0} (stands : M → List Entry → M → Type 0) (scripts : 
               on fault.LogLimit _ (λ is. absurd (cc is)) (λ is. absurd (cc is)) (refuses_all fault.LogLimit answer meanings taken up)
           by fault.OutputLimit takes up = absurd takes
           by fault.Read (meanings, taken) up =
-              let text = told_of_lines (scripts start.0.telling.machine) settings meanings in (
+              let text = said_of_lines (scripts start.0.telling.machine) settings meanings in (
                 text,
                 false,
                 subst (λ w. Carries target start.1 text (blank_page false) w) (sym up.1) (settled false meanings taken).carried,
@@ -366,7 +366,7 @@ module _ {M W : Type 0} (stands : M → List Entry → M → Type 0) (scripts : 
                 up.0,
               )
           by fault.Write (meanings, taken) up =
-              let text = told_of_lines (scripts start.0.telling.machine) settings meanings in (
+              let text = said_of_lines (scripts start.0.telling.machine) settings meanings in (
                 text,
                 true,
                 subst (λ w. Carries target start.1 text (blank_page true) w) (sym up.1) (settled true meanings taken).carried,
@@ -374,7 +374,7 @@ module _ {M W : Type 0} (stands : M → List Entry → M → Type 0) (scripts : 
                 subst (λ f. f ≢ fault.Read) (sym up.0) (λ is. absurd (cc is)),
               )
           by (fault.Oversize place announced) (meanings, what, line) up =
-              on (fault.Oversize place announced) (told_of_lines (scripts start.0.telling.machine) settings meanings) (λ is. absurd (cc is)) (λ is. absurd (cc is))
+              on (fault.Oversize place announced) (said_of_lines (scripts start.0.telling.machine) settings meanings) (λ is. absurd (cc is)) (λ is. absurd (cc is))
               (up start.1 _ (halts meanings what (fault.Oversize place announced) line).4.carried)
           by fault.Memory (meanings, what, line) up =
-              on fault.Memory (told_of_lines (scripts start.0.telling.machine) settings meanings) (λ is. absurd (cc is)) (λ is. absurd (cc is)) (up start.1 _ (halts meanings what fault.Memory line).4.carried)
+              on fault.Memory (said_of_lines (scripts start.0.telling.machine) settings meanings) (λ is. absurd (cc is)) (λ is. absurd (cc is)) (up start.1 _ (halts meanings what fault.Memory line).4.carried)

@@ -1,4 +1,4 @@
--- A front of what is told of the lines that were read, or more than was told before.
+-- A front of what is said of the lines that were read, or more than was said before.
 use Rattle.std.proofs.Common.{◌-◌, ◌≡◌, ℕ, ◌+◌, ◌<◌, ◌≤◌, Bool, true, false, List, [], ◌∷◌, ◌++◌, length, arith, refl, ap, sym, subst, ◌∙◌, Option, inl, inr, append-nil, append_assoc, length-append}
 use Rattle.std.specs.Prelude.{min}
 use Rattle.std.proofs.Math.Nat.{min-le_left}
@@ -14,8 +14,8 @@ use Rattle.trace_run.specs.proving.Ending.{EndsAs}
 use Rattle.trace_log.specs.LinesRead.{counts_last, AreGiven, AreLinesRead, AreReadBefore, WritesTextOfRead}
 use Rattle.trace_log.specs.Settings.{Settings}
 use Rattle.trace_log.specs.Summing.{summary_of}
-use Rattle.trace_run.specs.Script.{Script, RefusalText, told_after, told, told_of_lines, refusal_of_lines, told_and_refusal_of_lines}
-use Rattle.trace_run.specs.Told.{WritesFrontOfTold, HasSomeToTell, FailsToTell, passing, IsUnreadFor, WritesFrontOfWhole, is_told, TellsEagerly}
+use Rattle.trace_run.specs.Script.{Script, RefusalText, said_after, said_of_frames, said_of_lines, refusal_of_lines, said_and_refusal_of_lines}
+use Rattle.trace_run.specs.Ran.{WritesFrontOfSaid, HasSomeToSay, FailsToWrite, passing, IsUnreadFor, WritesFrontOfWhole, is_told, WritesSaidEagerly}
 use Rattle.trace_log.specs.Trace.{trace, trace_from}
 use Rattle.std.specs.List.{AllByRecursion}
 use Rattle.can_log.specs.Scanning.{Standing}
@@ -23,20 +23,20 @@ use Rattle.can_log.specs.WholeLog.{StandsAfter}
 use Rattle.trace_log.specs.Answers.{piece_length}
 use Rattle.trace_log.specs.proving.Announcing.{AnnouncesWithin}
 use Rattle.trace_log.proofs.Promises.{read_begins, lines_read_are_there, stands_read, read_more, HaveCome, writes_front, Begins, begins_again, trace_from-append}
-use Rattle.trace_run.proofs.ToldFrames.{told-append}
+use Rattle.trace_run.proofs.ToldFrames.{said-append}
 use Rattle.trace_run.proofs.StoppedLines.{all_pass}
 
--- what is told of some lines begins what is told of more
-told_grows : (script : Script) (settings : Settings) (meanings more : List (Option Stamped)) → Begins (told_of_lines script settings meanings) (told_of_lines script settings (meanings ++ more))
+-- what is said of some lines begins what is said of more
+said_grows : (script : Script) (settings : Settings) (meanings more : List (Option Stamped)) → Begins (said_of_lines script settings meanings) (said_of_lines script settings (meanings ++ more))
 unfolding trace_from
-told_grows script settings meanings more =
+said_grows script settings meanings more =
     let T = trace settings meanings in
     let rest = trace_from settings (1 + length meanings) more in
-    (told_after script.of_frame T rest, ap (told script.of_frame) (trace_from-append settings 1 meanings more) ∙ told-append script.of_frame [] T rest)
+    (said_after script.of_frame T rest, ap (said_of_frames script.of_frame) (trace_from-append settings 1 meanings more) ∙ said-append script.of_frame [] T rest)
 
--- a front of what is told of frames is one of all that is told
+-- a front of what is said of frames is one of all that is said
 pub front_of_whole : (script : Script) (limit : ℕ) (settings : Settings) (log : List ℕ) (given : ℕ) (why : Fault) (old new : List ℕ)
-    → WritesFrontOfTold script limit settings log given why old new → WritesFrontOfWhole script limit settings log given why old new
+    → WritesFrontOfSaid script limit settings log given why old new → WritesFrontOfWhole script limit settings log given why old new
 front_of_whole script limit settings log given why old new wrote =
     let end = script.at_the_end (trace settings wrote.meanings) (summary_of limit settings log wrote.meanings) in
     record {
@@ -48,15 +48,15 @@ front_of_whole script limit settings log given why old new wrote =
       front = ap (λ x. x ++ end) wrote.front ∙ append_assoc wrote.written wrote.missing end;
     }
 
--- a front of what is told of lines that had come was written
-pub writes_front_of_told : (script : Script) (limit : ℕ) (settings : Settings) (log : List ℕ) (given : ℕ) (why : Fault) (meanings : List (Option Stamped)) (old new : List ℕ)
-    → counts_last why ≡ true → HaveCome (passing script.strict limit settings) true (min given settings.max_bytes) log meanings → HasFront old (told_of_lines script settings meanings) new
-    → WritesFrontOfTold script limit settings log given why old new
-writes_front_of_told script limit settings log given why meanings old new last come front =
-    writes_front (passing script.strict limit settings) (told_of_lines script settings) settings log given meanings old new why front.front
+-- a front of what is said of lines that had come was written
+pub writes_front_of_said : (script : Script) (limit : ℕ) (settings : Settings) (log : List ℕ) (given : ℕ) (why : Fault) (meanings : List (Option Stamped)) (old new : List ℕ)
+    → counts_last why ≡ true → HaveCome (passing script.strict limit settings) true (min given settings.max_bytes) log meanings → HasFront old (said_of_lines script settings meanings) new
+    → WritesFrontOfSaid script limit settings log given why old new
+writes_front_of_said script limit settings log given why meanings old new last come front =
+    writes_front (passing script.strict limit settings) (said_of_lines script settings) settings log given meanings old new why front.front
     (subst (λ b. HaveCome (passing script.strict limit settings) b (min given settings.max_bytes) log meanings) (sym last) come) front.wrote
-    (λ more. begins_again front.front (told_of_lines script settings meanings) (told_of_lines script settings (meanings ++ more)) (front.rest, front.parts)
-    (told_grows script settings meanings more))
+    (λ more. begins_again front.front (said_of_lines script settings meanings) (said_of_lines script settings (meanings ++ more)) (front.rest, front.parts)
+    (said_grows script settings meanings more))
 
 -- ---- what had come when the run ended
 
@@ -70,50 +70,50 @@ had_come passes b count log meanings read =
     either (inl few) = inl few
     either (inr all) = inr (refl, all.1)
 
--- what is told of the lines read before a failed write is something, where what is told of lines that had come is
-pub told_some : (script : Script) (limit : ℕ) (settings : Settings) (log : List ℕ) (given : ℕ) (meanings : List (Option Stamped))
-    → HaveCome (passing script.strict limit settings) true (min given settings.max_bytes) log meanings → 0 < length (told_of_lines script settings meanings)
-    → HasSomeToTell script limit settings log given
-told_some script limit settings log given meanings come some =
+-- what is said of the lines read before a failed write is something, where what is said of lines that had come is
+pub said_some : (script : Script) (limit : ℕ) (settings : Settings) (log : List ℕ) (given : ℕ) (meanings : List (Option Stamped))
+    → HaveCome (passing script.strict limit settings) true (min given settings.max_bytes) log meanings → 0 < length (said_of_lines script settings meanings)
+    → HasSomeToSay script limit settings log given
+said_some script limit settings log given meanings come some =
     let count = min given settings.max_bytes in
     let passes = passing script.strict limit settings in
     let read = lines_read_are_there passes true count log in
     let longer = read_begins passes true count log read.0 meanings come.lines come.later read.1 come.parts come.means come.each come.given in
-    let grows = told_grows script settings meanings longer.0 in
-    let all = ap (told_of_lines script settings) longer.1 ∙ grows.1 in
-    let long = ap length all ∙ length-append (told_of_lines script settings meanings) grows.0 in
+    let grows = said_grows script settings meanings longer.0 in
+    let all = ap (said_of_lines script settings) longer.1 ∙ grows.1 in
+    let long = ap length all ∙ length-append (said_of_lines script settings meanings) grows.0 in
     record { meanings = read.0; read = read.1; some = omega arith }
 
 -- only a front of the text of the lines that were read was written
 pub front_of_read : (script : Script) (refusal : RefusalText) (limit : ℕ) (settings : Settings) (log : List ℕ) (given : ℕ) (why : Fault) (meanings : List (Option Stamped)) (old new : List ℕ)
-    → WritesTextOfRead (passing script.strict limit settings) (told_of_lines script settings) settings log given why [] (told_of_lines script settings meanings)
-    → HasFront old (told_of_lines script settings meanings) new → 0 < length (told_of_lines script settings meanings)
-    → FailsToTell script refusal limit settings log given old new
+    → WritesTextOfRead (passing script.strict limit settings) (said_of_lines script settings) settings log given why [] (said_of_lines script settings meanings)
+    → HasFront old (said_of_lines script settings meanings) new → 0 < length (said_of_lines script settings meanings)
+    → FailsToWrite script refusal limit settings log given old new
 front_of_read script refusal limit settings log given why meanings old new read front some =
     let come = had_come (passing script.strict limit settings) (counts_last why) (min given settings.max_bytes) log read.meanings read.read in
     inl (
       front_of_whole script limit settings log given fault.Write old new
-          (writes_front_of_told script limit settings log given fault.Write read.meanings old new refl come (subst (λ text. HasFront old text new) read.wrote front)),
-      inl (told_some script limit settings log given read.meanings come (subst (λ (text : List ℕ). 0 < length text) read.wrote some)),
+          (writes_front_of_said script limit settings log given fault.Write read.meanings old new refl come (subst (λ text. HasFront old text new) read.wrote front)),
+      inl (said_some script limit settings log given read.meanings come (subst (λ (text : List ℕ). 0 < length text) read.wrote some)),
     )
 
--- only a front of what is told of a log that is refused was written
+-- only a front of what is said of a log that is refused was written
 pub front_of_refused : (script : Script) (refusal : RefusalText) (limit : ℕ) (settings : Settings) (log : List ℕ) (given : ℕ) (why : Fault) (meanings : List (Option Stamped)) (old new : List ℕ)
     → is_told why ≡ true → IsUnreadFor script.strict limit settings log why → AreReadBefore (passing script.strict limit settings) settings log given why meanings
-    → HasFront old (told_and_refusal_of_lines script refusal limit settings why meanings) new
-    → 0 < length (told_and_refusal_of_lines script refusal limit settings why meanings)
-    → FailsToTell script refusal limit settings log given old new
+    → HasFront old (said_and_refusal_of_lines script refusal limit settings why meanings) new
+    → 0 < length (said_and_refusal_of_lines script refusal limit settings why meanings)
+    → FailsToWrite script refusal limit settings log given old new
 front_of_refused script refusal limit settings log given why meanings old new tells unread read front some = by (refusal_of_lines refusal limit settings why meanings) refl
   where
-    by : (text : List ℕ) → refusal_of_lines refusal limit settings why meanings ≡ text → FailsToTell script refusal limit settings log given old new
+    by : (text : List ℕ) → refusal_of_lines refusal limit settings why meanings ≡ text → FailsToWrite script refusal limit settings log given old new
     by [] none =
-        let lines = told_of_lines script settings meanings in
-        let same : told_and_refusal_of_lines script refusal limit settings why meanings ≡ lines = ap (λ x. lines ++ x) none ∙ append-nil lines in
+        let lines = said_of_lines script settings meanings in
+        let same : said_and_refusal_of_lines script refusal limit settings why meanings ≡ lines = ap (λ x. lines ++ x) none ∙ append-nil lines in
         front_of_read script refusal limit settings log given why meanings old new (record { meanings = meanings; read = read; wrote = refl }) (subst (λ text. HasFront old text new) same front)
         (subst (λ (text : List ℕ). 0 < length text) same some)
     by (b ∷ rest) is = inr (record {
       why = why;
-      tells = tells;
+      told = tells;
       refused = unread;
       meanings = meanings;
       read = read;
@@ -134,23 +134,23 @@ pub more_at_fault : {W : Type 0} {target : Ghosts W} (name answer : Fault) (star
 more_at_fault name answer start said new (inl well) = only_more well.1
 more_at_fault name answer start said new (inr wrong) = only_more wrong.1
 
--- what was told of the lines that had ended before the last piece begins what was written
-pub tells_eagerly : (script : Script) (settings : Settings) (log : List ℕ) (given : ℕ) (front rest : List ℕ) (meanings : List (Option Stamped)) (standing : Standing) (old mid new : List ℕ)
+-- what was said of the lines that had ended before the last piece begins what was written
+pub writes_said_eagerly : (script : Script) (settings : Settings) (log : List ℕ) (given : ℕ) (front rest : List ℕ) (meanings : List (Option Stamped)) (standing : Standing) (old mid new : List ℕ)
     → StandsAfter front meanings standing → log ≡ front ++ rest → given ≤ length front + piece_length → (script.strict ≡ true → AllByRecursion AnnouncesWithin (trace settings meanings))
-    → mid ≡ old ++ told_of_lines script settings meanings → Begins mid new → TellsEagerly script MESSAGE_LIMIT settings log given old new
-tells_eagerly script settings log given front rest meanings standing old mid new stands parts few within wrote more =
+    → mid ≡ old ++ said_of_lines script settings meanings → Begins mid new → WritesSaidEagerly script MESSAGE_LIMIT settings log given old new
+writes_said_eagerly script settings log given front rest meanings standing old mid new stands parts few within wrote more =
     let passes = passing script.strict MESSAGE_LIMIT settings in
     let count = min (given - piece_length) settings.max_bytes in
     let read = lines_read_are_there passes false count log in
     let low = min-le_left (given - piece_length) settings.max_bytes in
     let all = stands_read passes false (length front) log front rest meanings standing stands parts refl (all_pass script.strict settings meanings within) (λ yes short. absurd (cc)) in
     let later = read_more passes false count (length front) log read.0 meanings (omega arith) read.1 all in
-    let grows = told_grows script settings read.0 later.0 in
+    let grows = said_grows script settings read.0 later.0 in
     record {
       meanings = read.0;
       read = read.1;
       more = grows.0 ++ more.0;
-      wrote = more.1 ∙ ap (λ x. x ++ more.0) (wrote ∙ ap (λ m. old ++ told_of_lines script settings m) later.1 ∙ ap (λ x. old ++ x) grows.1)
-          ∙ append_assoc old (told_of_lines script settings read.0 ++ grows.0) more.0
-          ∙ ap (λ x. old ++ x) (append_assoc (told_of_lines script settings read.0) grows.0 more.0);
+      wrote = more.1 ∙ ap (λ x. x ++ more.0) (wrote ∙ ap (λ m. old ++ said_of_lines script settings m) later.1 ∙ ap (λ x. old ++ x) grows.1)
+          ∙ append_assoc old (said_of_lines script settings read.0 ++ grows.0) more.0
+          ∙ ap (λ x. old ++ x) (append_assoc (said_of_lines script settings read.0) grows.0 more.0);
     }
