@@ -16,9 +16,9 @@ use Rattle.uds_exchange.specs.Order.{early, held}
 use Rattle.uds_exchange.specs.Orderer.{JudgedOrdererValue}
 use Rattle.uds_exchange.specs.Meaning.{meaning, flattened}
 use Rattle.uds_exchange.proofs.Promises.{early_grows, early_then_held}
-use Rattle.trace_canon.specs.proving.CanonicalScript.{StandsCanonical, is_too_long, answers_canonical, CanonicalTellsTheSame, canonical_script, progress_behind, lines_due, text_of_early, CanonicalTellsEarly}
+use Rattle.trace_canon.specs.proving.CanonicalScript.{StandsCanonical, is_too_long, CanonicalTellsTheSame, canonical_command, canonical_script, progress_behind, lines_due, text_of_early, CanonicalTellsEarly}
 use Rattle.trace_log.specs.Needing.{HasTextOf}
-use Rattle.trace_run.specs.Script.{says_no_refusal, said_after, said_of_frames, said_of_lines, whole_of_lines}
+use Rattle.trace_run.specs.Script.{said_after, said_of_frames, said_of_lines, whole_of_lines}
 use Rattle.trace_run.specs.Ran.{AnswersAndWrites, EndsWith, FailsToWrite, WritesSaid, WritesSaidAndRefusal, WritesFrontOfWhole, WritesSaidEagerly}
 use Rattle.trace_canon.specs.proving.Writing.{ProgressValue, start_of, text_from, progress_after}
 use Rattle.trace_canon.proofs.CanonicalWriting.{text_none, text_append, place_append}
@@ -129,7 +129,7 @@ module _ (settings : Settings) where
         → WritesTextOfRead (announces_within MESSAGE_LIMIT settings) (early_text MESSAGE_LIMIT settings) settings log given why old new
     writes_early why wrote = subst (λ text. WritesTextOfRead (announces_within MESSAGE_LIMIT settings) text settings log given why old new) texts wrote
 
-    writes_refused : (why : Fault) → WritesSaidAndRefusal (canonical_script settings) says_no_refusal MESSAGE_LIMIT settings log given why old new
+    writes_refused : (why : Fault) → WritesSaidAndRefusal (canonical_command settings) MESSAGE_LIMIT settings log given why old new
         → WritesTextOfRead (announces_within MESSAGE_LIMIT settings) (early_text MESSAGE_LIMIT settings) settings log given why old new
     writes_refused why wrote = record {
       meanings = wrote.meanings;
@@ -164,7 +164,7 @@ module _ (settings : Settings) where
         let begins = fitting_log_begins MESSAGE_LIMIT settings (flattened (meaning (messages MESSAGE_LIMIT (trace settings meanings)))) in
         no_longer whole whole [] (canonical_log_of_lines MESSAGE_LIMIT settings meanings) _ begins.0 (sym (append-nil whole)) (whole_is log meanings) begins.1
 
-    canonical_some : FailsToWrite (canonical_script settings) says_no_refusal MESSAGE_LIMIT settings log given old new → HasTextOf (canonical_log_of_lines MESSAGE_LIMIT settings) log
+    canonical_some : FailsToWrite (canonical_command settings) MESSAGE_LIMIT settings log given old new → HasTextOf (canonical_log_of_lines MESSAGE_LIMIT settings) log
     canonical_some (inl (wrote, inl told)) = record {
       meanings = told.meanings;
       begins = record { lines = told.read.lines; later = told.read.later; parts = told.read.parts; means = told.read.means };
@@ -181,7 +181,7 @@ module _ (settings : Settings) where
     writes_eagerly_told eager =
         record { meanings = eager.meanings; read = eager.read; more = eager.more; wrote = eager.wrote ∙ ap (λ text. old ++ (text ++ eager.more)) (early_is eager.meanings) }
 
-    ends_well : (summary : Summary) → EndsWith (canonical_script settings) (answers_canonical settings) MESSAGE_LIMIT settings log given (Ok summary) old new
+    ends_well : (summary : Summary) → EndsWith (canonical_command settings) MESSAGE_LIMIT settings log given (Ok summary) old new
         → Answers MESSAGE_LIMIT settings log given (Ok summary) old new
     ends_well summary (all, meanings, read, answer, wrote) = by (is_too_long settings (trace settings meanings)) refl
       where
@@ -198,7 +198,7 @@ module _ (settings : Settings) where
             subst (λ s. Answers MESSAGE_LIMIT settings log given (Ok s) old new) (sym counted)
             (answers_accepted MESSAGE_LIMIT settings log given meanings old new read fits.0 (wrote ∙ ap (λ x. old ++ x) (whole_said log meanings ∙ fits.1)))
 
-    ends_over : EndsWith (canonical_script settings) (answers_canonical settings) MESSAGE_LIMIT settings log given (Err no_answer.OutputLimit) old new
+    ends_over : EndsWith (canonical_command settings) MESSAGE_LIMIT settings log given (Err no_answer.OutputLimit) old new
         → Answers MESSAGE_LIMIT settings log given (Err OutputLimit) old new
     ends_over (all, meanings, read, answer, wrote) = by (is_too_long settings (trace settings meanings)) refl
       where
@@ -213,10 +213,10 @@ module _ (settings : Settings) where
 
 -- writing fails only where the lines read have a canonical line
 pub unwritten_some : (settings : Settings) (log : List ℕ) (given : ℕ) (result : Result Summary Fault) (old new : List ℕ) → result ≡ Err Write
-    → AnswersAndWrites (canonical_script settings) says_no_refusal (answers_canonical settings) MESSAGE_LIMIT settings log given result old new → HasTextOf (canonical_log_of_lines MESSAGE_LIMIT settings) log
+    → AnswersAndWrites (canonical_command settings) MESSAGE_LIMIT settings log given result old new → HasTextOf (canonical_log_of_lines MESSAGE_LIMIT settings) log
 unwritten_some settings log given result old new wrong told =
     canonical_some settings log given old new
-    (subst (λ (r : Result Summary Fault). AnswersAndWrites (canonical_script settings) says_no_refusal (answers_canonical settings) MESSAGE_LIMIT settings log given r old new) wrong told)
+    (subst (λ (r : Result Summary Fault). AnswersAndWrites (canonical_command settings) MESSAGE_LIMIT settings log given r old new) wrong told)
 
 pub canonical_tells_the_same : CanonicalTellsTheSame
 canonical_tells_the_same settings log given (Ok summary) old new ends eager = ends_well settings log given old new summary ends

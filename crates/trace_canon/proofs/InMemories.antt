@@ -26,7 +26,7 @@ use Rattle.trace_canon.specs.MemoryNeeded.{NeedsMemoryToCollect, NeedsMemoryToOr
 use Rattle.trace_canon.specs.MessageLines.{placing_script}
 use Rattle.trace_canon.specs.WrittenAtEnd.{LeavesOnce, WritesOnce}
 use Rattle.trace_log.specs.Settings.{Settings}
-use Rattle.trace_run.specs.Script.{RefusalText, answers_counts, says_no_refusal, said_of_lines, whole_of_lines}
+use Rattle.trace_run.specs.Script.{Needing, RefusalText, answers_counts, command, needs_none, says_no_refusal, said_of_lines, whole_of_lines}
 use Rattle.trace_run.specs.proving.Scripts.{lenient}
 use Rattle.trace_run.specs.Ran.{IsUnreadFor, AnswersAndWrites, FailsToWrite}
 use Rattle.trace_run.proofs.Promises.{unread_for}
@@ -120,7 +120,7 @@ tells_no_end T summary = []
 
 -- a write failed only where something is told of the first lines, if nothing is told at the end
 told_some : (of_frame : List Entry → Entry → List ℕ) (limit : ℕ) (settings : Settings) (log : List ℕ) (given : ℕ) (old new : List ℕ)
-    → FailsToWrite (lenient of_frame tells_no_end) says_no_refusal limit settings log given old new → HasTextOf (said_of_lines (lenient of_frame tells_no_end) settings) log
+    → FailsToWrite (command (lenient of_frame tells_no_end) says_no_refusal answers_counts needs_none) limit settings log given old new → HasTextOf (said_of_lines (lenient of_frame tells_no_end) settings) log
 told_some of_frame limit settings log given old new (inl (wrote, inl told)) = record {
   meanings = told.meanings;
   begins = record { lines = told.read.lines; later = told.read.later; parts = told.read.parts; means = told.read.means };
@@ -134,21 +134,21 @@ told_some of_frame limit settings log given old new (inl (wrote, inr ends)) = re
 told_some of_frame limit settings log given old new (inr refuses) = absurd (omega (arith, refuses.some))
 
 -- a text that is told as the log comes, by a script that is not strict
-pub told_in_memory : (of_frame : List Entry → Entry → List ℕ) (at_the_end : List Entry → Summary → List ℕ) (refusal : RefusalText) (NeedsMemory : ℕ → Settings → List ℕ → Type 0) (limit : ℕ) (settings : Settings) (log : List ℕ) (given : ℕ)
+pub told_in_memory : (of_frame : List Entry → Entry → List ℕ) (at_the_end : List Entry → Summary → List ℕ) (refusal : RefusalText) (needs : Needing) (NeedsMemory : ℕ → Settings → List ℕ → Type 0) (limit : ℕ) (settings : Settings) (log : List ℕ) (given : ℕ)
     (answer : Result Summary Fault) (old taken held : List ℕ) → old ≡ [] → taken ≡ held → FailedIf Read answer 0 0 → (answer ≡ Err Memory → NeedsMemory limit settings log)
-    → (FailsToWrite (lenient of_frame at_the_end) refusal limit settings log given old taken → NeedsMemory limit settings log)
-    → AnswersAndWrites (lenient of_frame at_the_end) refusal answers_counts limit settings log given answer old taken
+    → (FailsToWrite (command (lenient of_frame at_the_end) refusal answers_counts needs) limit settings log given old taken → NeedsMemory limit settings log)
+    → AnswersAndWrites (command (lenient of_frame at_the_end) refusal answers_counts needs) limit settings log given answer old taken
     → MatchResult answer (λ summary. IsToldWith (lenient of_frame at_the_end) limit settings log held summary) (λ fault. IsUnread NeedsMemory limit settings log (fault_in_memory fault))
-told_in_memory of_frame at_the_end refusal NeedsMemory limit settings log given (Ok summary) old taken held old_is held_is failed refused unwritten (whole, meanings, read, counted, wrote) =
+told_in_memory of_frame at_the_end refusal needs NeedsMemory limit settings log given (Ok summary) old taken held old_is held_is failed refused unwritten (whole, meanings, read, counted, wrote) =
     (meanings, read, cc counted, sym held_is ∙ wrote ∙ ap (λ xs. xs ++ whole_of_lines (lenient of_frame at_the_end) limit settings log meanings) old_is)
-told_in_memory of_frame at_the_end refusal NeedsMemory limit settings log given (Err fault) old taken held old_is held_is failed refused unwritten is =
-    known (IsUnreadFor false limit settings log) (NeedsMemory limit settings log) fault tt (unread_for of_frame at_the_end refusal limit settings log given fault old taken is)
+told_in_memory of_frame at_the_end refusal needs NeedsMemory limit settings log given (Err fault) old taken held old_is held_is failed refused unwritten is =
+    known (IsUnreadFor false limit settings log) (NeedsMemory limit settings log) fault tt (unread_for (command (lenient of_frame at_the_end) refusal answers_counts needs) refl (λ T summary none. absurd (cc none)) limit settings log given fault old taken is)
     (λ read. reads_well failed (ap Err read)) (λ why. refused (ap Err why))
-    (λ why. unwritten (subst (λ (f : Fault). AnswersAndWrites (lenient of_frame at_the_end) refusal answers_counts limit settings log given (Err f) old taken) why is))
+    (λ why. unwritten (subst (λ (f : Fault). AnswersAndWrites (command (lenient of_frame at_the_end) refusal answers_counts needs) limit settings log given (Err f) old taken) why is))
 
 -- the lines of messages
 pub placed_in_memory : (notation : Notation) (limit : ℕ) (settings : Settings) (log : List ℕ) (given : ℕ) (old new : List ℕ)
-    → FailsToWrite (placing_script notation limit) says_no_refusal limit settings log given old new → NeedsMemoryForPlacing notation limit settings log
+    → FailsToWrite (command (placing_script notation limit) says_no_refusal answers_counts needs_none) limit settings log given old new → NeedsMemoryForPlacing notation limit settings log
 placed_in_memory notation limit settings log given old new fails = inr (told_some ((placing_script notation limit).of_frame) limit settings log given old new fails)
 
 pub meaning_in_memory : (limit : ℕ) (settings : Settings) (log : List ℕ) (answer : Result (List ItemValue) Fault) → FailedIf Read answer 0 0

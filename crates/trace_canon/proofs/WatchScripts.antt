@@ -20,7 +20,7 @@ use Rattle.trace_log.specs.Messages.{meaning_of_lines}
 use Rattle.trace_canon.specs.MemoryNeeded.{CompletesKept}
 use Rattle.trace_log.specs.Settings.{Settings}
 use Rattle.trace_log.specs.Summing.{summary_of}
-use Rattle.trace_run.specs.Script.{answers_counts, says_no_refusal, said_after}
+use Rattle.trace_run.specs.Script.{answers_counts, command, says_no_refusal, said_after}
 use Rattle.trace_run.specs.Ran.{AnswersAndWrites}
 use Rattle.trace_log.specs.Trace.{trace}
 use Rattle.trace_canon.specs.WatchScript.{decided_of, newly_decided, text_behind, watching_script, WritesTheList}
@@ -177,7 +177,7 @@ watch_tells_the_list style limit T summary =
 
 -- so where a run comes to the end of the log, that was written
 pub writes_the_list : (style : ItemStyle) (settings : Settings) (log : List ℕ) (given : ℕ) (result : Result Summary Fault) (old new : List ℕ)
-    → AnswersAndWrites (watching_script style MESSAGE_LIMIT) says_no_refusal answers_counts MESSAGE_LIMIT settings log given result old new
+    → AnswersAndWrites (command (watching_script style MESSAGE_LIMIT) says_no_refusal answers_counts (CompletesKept MESSAGE_LIMIT)) MESSAGE_LIMIT settings log given result old new
     → OnOk result (WritesTheList style MESSAGE_LIMIT settings log old new)
 writes_the_list style settings log given (Ok summary) old new (all, meanings, is, counted, wrote) = (
   meaning_of_lines MESSAGE_LIMIT settings meanings,

@@ -8,7 +8,6 @@ use Rattle.trace_log.proofs.Promises.{has_own_frame}
 use Rattle.trace_log.specs.Needing.{HasFrame}
 use Rattle.trace_log.specs.Settings.{Settings}
 use Rattle.trace_log.specs.Summing.{summary_of}
-use Rattle.trace_run.specs.Script.{says_no_refusal}
 use Rattle.trace_run.specs.proving.Scripts.{SaysNothing}
 use Rattle.trace_run.specs.Ran.{AnswersAndWrites, IsUnreadFor}
 use Rattle.trace_log.specs.Trace.{trace}
@@ -22,7 +21,7 @@ use Rattle.trace_report.specs.Session.{SessionValue, session_of}
 use Rattle.trace_report.specs.declared.keeper.Heard.{Heard}
 use Rattle.trace_report.specs.declared.times.Times.{Times}
 use Rattle.trace_report.specs.proving.Following.{rows_in, times_of}
-use Rattle.trace_report.specs.proving.Heard.{IsHeardOf, answers_heard, quiet_script}
+use Rattle.trace_report.specs.proving.Heard.{IsHeardOf, quiet_command, quiet_script}
 use Rattle.trace_report.specs.proving.Lending.{first_of_times, last_of_times}
 use Rattle.trace_report.proofs.Steps.{times_next}
 
@@ -54,7 +53,7 @@ last_known (x ∷ T) times is = ap last_of_times is
 
 module _ (settings : Settings) (log : List ℕ) (given : ℕ) (old new : List ℕ) where
   -- what is answered of a log that can't be read
-  pub unread_so : (fault : Fault) → AnswersAndWrites quiet_script says_no_refusal answers_heard MESSAGE_LIMIT settings log given (Err fault) old new
+  pub unread_so : (fault : Fault) → AnswersAndWrites quiet_command MESSAGE_LIMIT settings log given (Err fault) old new
       → IsUnreadFor false MESSAGE_LIMIT settings log fault
   unread_so (BadLine line column) answered = answered.0
   unread_so (Oversize line announced) answered = answered.0
@@ -67,12 +66,12 @@ module _ (settings : Settings) (log : List ℕ) (given : ℕ) (old new : List �
   -- and of one that can, where this session is of what was heard
   pub read_so : (heard : Heard) (session : SessionValue)
       → ((T : List Entry) (summary : Summary) → IsHeardOf T summary heard → session ≡ session_of MESSAGE_LIMIT T summary)
-      → AnswersAndWrites quiet_script says_no_refusal answers_heard MESSAGE_LIMIT settings log given (Ok heard) old new → KeepsOne MESSAGE_LIMIT settings log (Ok session)
+      → AnswersAndWrites quiet_command MESSAGE_LIMIT settings log given (Ok heard) old new → KeepsOne MESSAGE_LIMIT settings log (Ok session)
   read_so heard session is (all, meanings, read, answer, wrote) =
       (meanings, read, is (trace settings meanings) (summary_of MESSAGE_LIMIT settings log meanings) answer)
 
   -- the log has a frame where a row of its end is there
-  pub has_own_where_held : (heard : Heard) → rows_in heard.last ≢ [] → AnswersAndWrites quiet_script says_no_refusal answers_heard MESSAGE_LIMIT settings log given (Ok heard) old new
+  pub has_own_where_held : (heard : Heard) → rows_in heard.last ≢ [] → AnswersAndWrites quiet_command MESSAGE_LIMIT settings log given (Ok heard) old new
       → HasOwnFrame settings log
   has_own_where_held heard some (all, meanings, read, answer, wrote) =
       has_own_frame settings log meanings read.1 (λ none. some (answer.last ∙ ap (λ (T : List Entry). end_rows MESSAGE_LIMIT T) none))

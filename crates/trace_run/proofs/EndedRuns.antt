@@ -20,7 +20,7 @@ use Rattle.trace_run.specs.proving.Ending.{EndsAnswering, EndsSaying}
 use Rattle.trace_log.specs.Failing.{FailedIf}
 use Rattle.trace_log.specs.Settings.{Settings}
 use Rattle.trace_log.specs.Summing.{summary_of}
-use Rattle.trace_run.specs.Script.{Answering, Script, RefusalText, said_of_frames, whole_of_lines}
+use Rattle.trace_run.specs.Script.{Answering, Command, Script, said_of_frames, whole_of_lines}
 use Rattle.trace_run.specs.Ran.{EndsWith, passing, AnswersAndWrites}
 use Rattle.trace_log.specs.Trace.{trace}
 use Rattle.std.specs.List.{AllByRecursion}
@@ -30,19 +30,22 @@ use Rattle.trace_log.specs.Refusal.{EachPasses}
 use Rattle.trace_run.proofs.Carryings.{wrote_all, wrote_front}
 use Rattle.trace_run.proofs.StoppedLines.{all_pass, read_to_end}
 
-module _ {A W : Type 0} (target : Ghosts W) (script : Script) (answers : Answering A) (start new : W) (settings : Settings) where
+module _ {A W : Type 0} (target : Ghosts W) (of : Command A) (start new : W) (settings : Settings) where
   -- what it answers at the end of the log
-  pub answers_at_the_end : (refusal : RefusalText) (log : List ℕ) (given : ℕ) (meanings : List (Option Stamped)) (result : Result A Fault) → length log ≤ settings.max_bytes
-      → given ≡ length log → LogMeans log meanings → (script.strict ≡ true → AllByRecursion AnnouncesWithin (trace settings meanings))
-      → EndsSaying target script answers start settings log meanings result new
-      → AnswersAndWrites script refusal answers MESSAGE_LIMIT settings log given result (target.taken start) (target.taken new)
-  answers_at_the_end refusal log given meanings result short all means within = by result
+  pub answers_at_the_end : (log : List ℕ) (given : ℕ) (meanings : List (Option Stamped)) (result : Result A Fault) → length log ≤ settings.max_bytes
+      → given ≡ length log → LogMeans log meanings → (of.script.strict ≡ true → AllByRecursion AnnouncesWithin (trace settings meanings))
+      → EndsSaying target of.script of.answers start settings log meanings result new
+      → AnswersAndWrites of MESSAGE_LIMIT settings log given result (target.taken start) (target.taken new)
+  answers_at_the_end log given meanings result short all means within = by result
     where
+      script : Script
+      script = of.script
+
       each : EachPasses (passing script.strict MESSAGE_LIMIT settings) meanings
       each = all_pass script.strict settings meanings within
 
-      with_answer : (reply : Result A NoAnswer) → EndsAnswering target script answers start settings log meanings reply new
-          → EndsWith script answers MESSAGE_LIMIT settings log given reply (target.taken start) (target.taken new)
+      with_answer : (reply : Result A NoAnswer) → EndsAnswering target script of.answers start settings log meanings reply new
+          → EndsWith of MESSAGE_LIMIT settings log given reply (target.taken start) (target.taken new)
       with_answer reply ends = (
         omega (arith, all),
         meanings,
@@ -51,8 +54,8 @@ module _ {A W : Type 0} (target : Ghosts W) (script : Script) (answers : Answeri
         wrote_all target start new (whole_of_lines script MESSAGE_LIMIT settings log meanings) ends.1,
       )
 
-      by : (result : Result A Fault) → EndsSaying target script answers start settings log meanings result new
-          → AnswersAndWrites script refusal answers MESSAGE_LIMIT settings log given result (target.taken start) (target.taken new)
+      by : (result : Result A Fault) → EndsSaying target script of.answers start settings log meanings result new
+          → AnswersAndWrites of MESSAGE_LIMIT settings log given result (target.taken start) (target.taken new)
       by (Ok value) ends = with_answer (Ok value) ends
       by (Err fault.OutputLimit) ends = with_answer (Err no_answer.OutputLimit) ends
       by (Err fault.Write) ends =
@@ -68,6 +71,7 @@ module _ {A W : Type 0} (target : Ghosts W) (script : Script) (answers : Answeri
       by (Err (fault.BadLine line column)) ends = absurd ends
       by (Err (fault.Oversize line announced)) ends = absurd ends
 
+module _ {A W : Type 0} (target : Ghosts W) (script : Script) (answers : Answering A) (start new : W) (settings : Settings) where
   -- what is carried to the end: writing failed exactly where that is answered
   pub known_then : (log : List ℕ) (meanings : List (Option Stamped)) (result : Result A Fault) → EndsSaying target script answers start settings log meanings result new
       → (said : List ℕ) × (failed : Bool) × Carries target start said (blank_page failed) new × FailedIf fault.Write result (target.failures start) (target.failures new)

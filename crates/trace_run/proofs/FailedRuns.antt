@@ -18,7 +18,7 @@ use Rattle.trace_log.specs.Feeding.{FeedsLog, FeedsSome, WroteBefore, StopsWithi
 use Rattle.uds_exchange.specs.Judging.{IsJudgeOf}
 use Rattle.trace_log.specs.LinesRead.{counts_last, AreLinesRead, AreReadBefore}
 use Rattle.trace_log.specs.Settings.{Settings}
-use Rattle.trace_run.specs.Script.{Answering, Script, RefusalText, said_of_frames, said_of_lines, refusal_of_lines, said_and_refusal_of_lines}
+use Rattle.trace_run.specs.Script.{Answering, Command, Script, RefusalText, command, said_of_frames, said_of_lines, refusal_of_lines, said_and_refusal_of_lines}
 use Rattle.trace_run.specs.Ran.{WritesFrontOfSaid, HasSomeToSay, passing, IsUnreadFor, is_told, WritesSaidAndRefusal, AnswersAndWrites, WritesSaidEagerly}
 use Rattle.trace_log.specs.Trace.{trace, trace_from}
 use Rattle.std.specs.List.{AllByRecursion}
@@ -157,14 +157,18 @@ module _ {M W : Type 0} (stands : M → List Entry → M → Type 0) (scripts : 
       -- what is answered on a fault of the lines
       pub answers_on_fault : {B : Type 0} (replies : Answering B) (log : List ℕ) (given : ℕ) (why : Fault) (answer : Fault) (m : ℕ) → m ≡ settings.max_bytes
           → Fed start m log given (Err why) now → GivesUp stands refusals target why now.0 now.1 answer new
-          → AnswersAndWrites (scripts start.0.telling.machine) (refusals start.0.telling.machine) replies MESSAGE_LIMIT settings log given (Err answer) (target.taken start.1) (target.taken new)
-      answers_on_fault replies log given why answer m is read up = by why (subst (λ k. Fed start k log given (Err why) now) is read) up
+          → AnswersAndWrites (command (scripts start.0.telling.machine) (refusals start.0.telling.machine) replies (needs start.0.telling.machine)) MESSAGE_LIMIT settings log given (Err answer)
+          (target.taken start.1) (target.taken new)
+      answers_on_fault {B = B} replies log given why answer m is read up = by why (subst (λ k. Fed start k log given (Err why) now) is read) up
         where
           script : Script
           script = scripts start.0.telling.machine
 
           refusal : RefusalText
           refusal = refusals start.0.telling.machine
+
+          of : Command B
+          of = command script refusal replies (needs start.0.telling.machine)
 
           text : List (Option Stamped) → List ℕ
           text = said_of_lines script settings
@@ -173,7 +177,7 @@ module _ {M W : Type 0} (stands : M → List Entry → M → Type 0) (scripts : 
           old = target.taken start.1
 
           Answers : Fault → Type 0
-          Answers f = AnswersAndWrites script refusal replies MESSAGE_LIMIT settings log given (Err f) old (target.taken new)
+          Answers f = AnswersAndWrites of MESSAGE_LIMIT settings log given (Err f) old (target.taken new)
 
           passes : Option Stamped → Bool
           passes = passing script.strict MESSAGE_LIMIT settings
@@ -191,13 +195,13 @@ module _ {M W : Type 0} (stands : M → List Entry → M → Type 0) (scripts : 
           refused : (why : Fault) (meanings : List (Option Stamped)) → is_told why ≡ true → TookLines ToldEvents start meanings now
               → IsUnreadFor script.strict MESSAGE_LIMIT settings log why → AreReadBefore passes settings log given why meanings
               → RefusesSaying stands refusals target why now.0 now.1 answer new
-              → (WritesSaidAndRefusal script refusal MESSAGE_LIMIT settings log given why old (target.taken new) → Answers why) → Answers answer
+              → (WritesSaidAndRefusal of MESSAGE_LIMIT settings log given why old (target.taken new) → Answers why) → Answers answer
           refused why meanings tells taken unread read up answers =
               let all = said_and_refusal_of_lines script refusal MESSAGE_LIMIT settings why meanings in
               elim (refuses_all why answer meanings taken up) [
                 | inl well ↦ subst Answers (sym well.0) (answers (record { meanings = meanings; read = read; wrote = wrote all well.1 }))
                 | inr wrong ↦ subst Answers (sym wrong.0)
-                    (front_of_refused script refusal MESSAGE_LIMIT settings log given why meanings old (target.taken new) tells unread read (front true all wrong.1) (wrong.1.spoke refl))
+                    (front_of_refused of MESSAGE_LIMIT settings log given why meanings old (target.taken new) tells unread read (front true all wrong.1) (wrong.1.spoke refl))
               ]
 
           -- a line is bad
@@ -227,7 +231,7 @@ module _ {M W : Type 0} (stands : M → List Entry → M → Type 0) (scripts : 
                   record { meanings = meanings; read = read; wrote = wrote (text meanings) well.1 },
                 )
                 | inr wrong ↦ subst Answers (sym wrong.0)
-                    (front_of_read script refusal MESSAGE_LIMIT settings log given (fault.Oversize line announced) meanings old (target.taken new)
+                    (front_of_read of MESSAGE_LIMIT settings log given (fault.Oversize line announced) meanings old (target.taken new)
                     (record { meanings = meanings; read = read; wrote = refl }) (front true (text meanings) wrong.1) (wrong.1.spoke refl))
               ]
 
@@ -293,7 +297,7 @@ module _ {M W : Type 0} (stands : M → List Entry → M → Type 0) (scripts : 
               let told_so = settled true meanings taken in
               let carries = subst (λ w. Carries target start.1 (text meanings) (blank_page true) w) (sym up.1) told_so.carried in
               subst Answers (sym up.0)
-              (front_of_read script refusal MESSAGE_LIMIT settings log given fault.Read meanings old (target.taken new)
+              (front_of_read of MESSAGE_LIMIT settings log given fault.Read meanings old (target.taken new)
               (writes_to_failed_read passes text settings log given meanings [] (text meanings) (take given log) (drop given log) standing stood
               (sym (take-append-drop given log)) (each meanings told_so.within) refl (length-take-le given log inside) few) (front true (text meanings) carries) (carries.spoke refl))
           by fault.OutputLimit read up = absurd read

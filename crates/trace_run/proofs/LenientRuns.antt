@@ -7,66 +7,55 @@ use Rattle.trace_log.specs.Laws.{Certifies}
 use Rattle.trace_log.specs.Needing.{HasFrame, IsKeptForMessage, NeedsMemoryToReceive}
 use Rattle.trace_log.specs.Settings.{Settings}
 use Rattle.trace_log.specs.Summing.{summary_of}
-use Rattle.trace_run.specs.Script.{Script, RefusalText, Answering, answers_counts}
-use Rattle.trace_run.specs.proving.Scripts.{lenient}
-use Rattle.trace_run.specs.Ran.{AnswersAndWrites, IsUnreadFor, StopsNothingWithin, when_lenient}
+use Rattle.trace_run.specs.Script.{Command}
+use Rattle.trace_run.specs.Ran.{AnswersAndWrites, IsReadToEnd, IsUnreadFor, StopsNothingWithin, when_lenient}
 use Rattle.trace_log.specs.Answers.{ReadsWhile}
 use Rattle.trace_log.specs.Refusal.{HasNoBadPlaceWithin}
 use Rattle.trace_log.specs.declared.fault.Fault.{Fault}
 use Rattle.trace_log.specs.declared.fault.Fault.TheVariants.{BadLine, Oversize, LogLimit, OutputLimit, Read, Write, Memory}
+use Rattle.trace_run.specs.declared.machine.NoAnswer.{NoAnswer}
 use Rattle.trace_run.specs.declared.machine.NoAnswer.TheVariants as no_answer
 use Rattle.trace_log.specs.declared.summary.Summary.{Summary}
 use Rattle.trace_log.specs.Trace.{trace}
 use Rattle.trace_log.proofs.Promises.{lines_certify}
 
-module _ (of_frame : List Entry → Entry → List ℕ) (at_the_end : List Entry → Summary → List ℕ) (refusal : RefusalText) where
+module _ {A : Type 0} (of : Command A) (is_lenient : of.script.strict ≡ false)
+    (has_answer : (T : List Entry) (summary : Summary) → of.answers T summary (Err no_answer.OutputLimit) → ⊥) where
   -- where a fault tells why the log can't be read, that is so
   pub unread_for : (limit : ℕ) (settings : Settings) (log : List ℕ) (given : ℕ) (fault : Fault) (old new : List ℕ)
-      → AnswersAndWrites (lenient of_frame at_the_end) refusal answers_counts limit settings log given (Err fault) old new → IsUnreadFor when_lenient limit settings log fault
-  unread_for limit settings log given (BadLine line column) old new (is, wrote) = is
-  unread_for limit settings log given (Oversize line announced) old new (is, wrote) = is
-  unread_for limit settings log given LogLimit old new (is, wrote) = is
-  unread_for limit settings log given OutputLimit old new (whole, meanings, read, counted, wrote) = absurd (cc counted)
+      → AnswersAndWrites of limit settings log given (Err fault) old new → IsUnreadFor when_lenient limit settings log fault
+  unread_for limit settings log given (BadLine line column) old new (is, wrote) = subst (λ strict. IsUnreadFor strict limit settings log (BadLine line column)) is_lenient is
+  unread_for limit settings log given (Oversize line announced) old new (is, wrote) = subst (λ strict. IsUnreadFor strict limit settings log (Oversize line announced)) is_lenient is
+  unread_for limit settings log given LogLimit old new (is, wrote) = subst (λ strict. IsUnreadFor strict limit settings log LogLimit) is_lenient is
+  unread_for limit settings log given OutputLimit old new (whole, meanings, read, answered, wrote) = absurd (has_answer (trace settings meanings) (summary_of limit settings log meanings) answered)
   unread_for limit settings log given Read old new is = tt
   unread_for limit settings log given Write old new is = tt
   unread_for limit settings log given Memory old new is = tt
 
-  -- its counts certify what those of the lines do
-  pub certifies : (settings : Settings) (log : List ℕ) (given : ℕ) (result : Result Summary Fault) (old new : List ℕ)
-      → AnswersAndWrites (lenient of_frame at_the_end) refusal answers_counts MESSAGE_LIMIT settings log given result old new → IfOk result (Certifies MESSAGE_LIMIT settings log)
-  certifies settings log given (Ok summary) old new (all, meanings, is, counted, wrote) =
-      let same : summary_of MESSAGE_LIMIT settings log meanings ≡ summary = cc counted in
-      subst (Certifies MESSAGE_LIMIT settings log) same (lines_certify MESSAGE_LIMIT settings log meanings (omega arith) is.1)
-  certifies settings log given (Err why) old new answers = tt
-
--- the same of any script that is not strict, and of what is answered at the end, if that is never that the output is
--- too long
-module _ {A : Type 0} (script : Script) (refusal : RefusalText) (answers : Answering A) (is_lenient : script.strict ≡ false)
-    (has_answer : (T : List Entry) (summary : Summary) → answers T summary (Err no_answer.OutputLimit) → ⊥) where
-  -- where a fault tells why the log can't be read, that is so
-  unread : (settings : Settings) (log : List ℕ) (given : ℕ) (fault : Fault) (old new : List ℕ)
-      → AnswersAndWrites script refusal answers MESSAGE_LIMIT settings log given (Err fault) old new → IsUnreadFor when_lenient MESSAGE_LIMIT settings log fault
-  unread settings log given (BadLine line column) old new (is, wrote) = subst (λ strict. IsUnreadFor strict MESSAGE_LIMIT settings log (BadLine line column)) is_lenient is
-  unread settings log given (Oversize line announced) old new (is, wrote) = subst (λ strict. IsUnreadFor strict MESSAGE_LIMIT settings log (Oversize line announced)) is_lenient is
-  unread settings log given LogLimit old new (is, wrote) = subst (λ strict. IsUnreadFor strict MESSAGE_LIMIT settings log LogLimit) is_lenient is
-  unread settings log given OutputLimit old new (whole, meanings, read, answered, wrote) = absurd (has_answer (trace settings meanings) (summary_of MESSAGE_LIMIT settings log meanings) answered)
-  unread settings log given Read old new is = tt
-  unread settings log given Write old new is = tt
-  unread settings log given Memory old new is = tt
-
   -- no announced length is the fault
   pub no_oversize : (settings : Settings) (log : List ℕ) (given : ℕ) (result : Result A Fault) (old new : List ℕ)
-      → AnswersAndWrites script refusal answers MESSAGE_LIMIT settings log given result old new → IfErr result (λ why. (line announced : ℕ) → why ≢ Oversize line announced)
-  no_oversize settings log given (Ok value) old new told = tt
-  no_oversize settings log given (Err why) old new told = λ line announced is.
-      subst (IsUnreadFor when_lenient MESSAGE_LIMIT settings log) is (unread settings log given why old new told)
+      → AnswersAndWrites of MESSAGE_LIMIT settings log given result old new → IfErr result (λ why. (line announced : ℕ) → why ≢ Oversize line announced)
+  no_oversize settings log given (Ok value) old new answered = tt
+  no_oversize settings log given (Err why) old new answered = λ line announced is.
+      subst (IsUnreadFor when_lenient MESSAGE_LIMIT settings log) is (unread_for MESSAGE_LIMIT settings log given why old new answered)
 
   -- nor is it the length of the output
   pub no_output_limit : (settings : Settings) (log : List ℕ) (given : ℕ) (result : Result A Fault) (old new : List ℕ)
-      → AnswersAndWrites script refusal answers MESSAGE_LIMIT settings log given result old new → IfErr result (λ why. why ≢ OutputLimit)
-  no_output_limit settings log given (Ok value) old new told = tt
-  no_output_limit settings log given (Err why) old new told = λ is.
-      subst (IsUnreadFor when_lenient MESSAGE_LIMIT settings log) is (unread settings log given why old new told)
+      → AnswersAndWrites of MESSAGE_LIMIT settings log given result old new → IfErr result (λ why. why ≢ OutputLimit)
+  no_output_limit settings log given (Ok value) old new answered = tt
+  no_output_limit settings log given (Err why) old new answered = λ is.
+      subst (IsUnreadFor when_lenient MESSAGE_LIMIT settings log) is (unread_for MESSAGE_LIMIT settings log given why old new answered)
+
+-- the counts that are answered certify what those of the lines do
+pub certifies : (of : Command Summary) → of.script.strict ≡ false
+    → ((T : List Entry) (summary : Summary) (result : Result Summary NoAnswer) → of.answers T summary result → result ≡ Ok summary)
+    → (settings : Settings) (log : List ℕ) (given : ℕ) (result : Result Summary Fault) (old new : List ℕ)
+    → AnswersAndWrites of MESSAGE_LIMIT settings log given result old new → IfOk result (Certifies MESSAGE_LIMIT settings log)
+certifies of is_lenient counts settings log given (Ok summary) old new (all, meanings, is, answered, wrote) =
+    let same : summary_of MESSAGE_LIMIT settings log meanings ≡ summary = cc (counts (trace settings meanings) (summary_of MESSAGE_LIMIT settings log meanings) (Ok summary) answered) in
+    let read : IsReadToEnd when_lenient MESSAGE_LIMIT settings log meanings = subst (λ strict. IsReadToEnd strict MESSAGE_LIMIT settings log meanings) is_lenient is in
+    subst (Certifies MESSAGE_LIMIT settings log) same (lines_certify MESSAGE_LIMIT settings log meanings (omega arith) read.1)
+certifies of is_lenient counts settings log given (Err why) old new answered = tt
 
 -- what is read is near to a refused place, where the script is not strict
 pub near_when_lenient : {strict : Bool} → strict ≡ false → (settings : Settings) (log : List ℕ) {given before after : ℕ}

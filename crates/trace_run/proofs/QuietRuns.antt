@@ -6,7 +6,7 @@ use Rattle.trace_log.specs.declared.fault.Fault.{Fault}
 use Rattle.trace_log.specs.declared.fault.Fault.TheVariants.{BadLine, Oversize, LogLimit, OutputLimit, Read, Write, Memory}
 use Rattle.trace_log.specs.Settings.{Settings}
 use Rattle.trace_log.specs.Summing.{summary_of}
-use Rattle.trace_run.specs.Script.{Script, Answering, says_no_refusal, said_after}
+use Rattle.trace_run.specs.Script.{Script, Answering, Needing, command, says_no_refusal, said_after}
 use Rattle.trace_run.specs.proving.Scripts.{SaysNothing}
 use Rattle.trace_run.specs.Ran.{AnswersAndWrites}
 use Rattle.trace_log.specs.Trace.{trace}
@@ -17,9 +17,9 @@ said_nothing of_frame none past [] = refl
 said_nothing of_frame none past (e ∷ rest) =
     ap (λ (text : List ℕ). text ++ said_after of_frame (past ++ e ∷ []) rest) (none past e) ∙ said_nothing of_frame none (past ++ e ∷ []) rest
 
-module _ {A : Type 0} (script : Script) (none : SaysNothing script) (answers : Answering A) (limit : ℕ) (settings : Settings) (log : List ℕ) (given : ℕ) (old new : List ℕ) where
+module _ {A : Type 0} (script : Script) (none : SaysNothing script) (answers : Answering A) (needs : Needing) (limit : ℕ) (settings : Settings) (log : List ℕ) (given : ℕ) (old new : List ℕ) where
   -- so writing does not fail
-  pub never_write : (result : Result A Fault) → AnswersAndWrites script says_no_refusal answers limit settings log given result old new → IfErr result (λ why. why ≢ Write)
+  pub never_write : (result : Result A Fault) → AnswersAndWrites (command script says_no_refusal answers needs) limit settings log given result old new → IfErr result (λ why. why ≢ Write)
   never_write (Ok value) answered = tt
   never_write (Err (BadLine line column)) answered = λ is. absurd (cc is)
   never_write (Err (Oversize line announced)) answered = λ is. absurd (cc is)

@@ -14,7 +14,7 @@ use Rattle.trace_run.specs.proving.Ending.{EndsAs}
 use Rattle.trace_log.specs.LinesRead.{counts_last, AreGiven, AreLinesRead, AreReadBefore, WritesTextOfRead}
 use Rattle.trace_log.specs.Settings.{Settings}
 use Rattle.trace_log.specs.Summing.{summary_of}
-use Rattle.trace_run.specs.Script.{Script, RefusalText, said_after, said_of_frames, said_of_lines, refusal_of_lines, said_and_refusal_of_lines}
+use Rattle.trace_run.specs.Script.{Command, Script, said_after, said_of_frames, said_of_lines, refusal_of_lines, said_and_refusal_of_lines}
 use Rattle.trace_run.specs.Ran.{WritesFrontOfSaid, HasSomeToSay, FailsToWrite, passing, IsUnreadFor, WritesFrontOfWhole, is_told, WritesSaidEagerly}
 use Rattle.trace_log.specs.Trace.{trace, trace_from}
 use Rattle.std.specs.List.{AllByRecursion}
@@ -85,11 +85,12 @@ said_some script limit settings log given meanings come some =
     record { meanings = read.0; read = read.1; some = omega arith }
 
 -- only a front of the text of the lines that were read was written
-pub front_of_read : (script : Script) (refusal : RefusalText) (limit : ℕ) (settings : Settings) (log : List ℕ) (given : ℕ) (why : Fault) (meanings : List (Option Stamped)) (old new : List ℕ)
-    → WritesTextOfRead (passing script.strict limit settings) (said_of_lines script settings) settings log given why [] (said_of_lines script settings meanings)
-    → HasFront old (said_of_lines script settings meanings) new → 0 < length (said_of_lines script settings meanings)
-    → FailsToWrite script refusal limit settings log given old new
-front_of_read script refusal limit settings log given why meanings old new read front some =
+pub front_of_read : {A : Type 0} (of : Command A) (limit : ℕ) (settings : Settings) (log : List ℕ) (given : ℕ) (why : Fault) (meanings : List (Option Stamped)) (old new : List ℕ)
+    → WritesTextOfRead (passing of.script.strict limit settings) (said_of_lines of.script settings) settings log given why [] (said_of_lines of.script settings meanings)
+    → HasFront old (said_of_lines of.script settings meanings) new → 0 < length (said_of_lines of.script settings meanings)
+    → FailsToWrite of limit settings log given old new
+front_of_read of limit settings log given why meanings old new read front some =
+    let script = of.script in
     let come = had_come (passing script.strict limit settings) (counts_last why) (min given settings.max_bytes) log read.meanings read.read in
     inl (
       front_of_whole script limit settings log given fault.Write old new
@@ -98,22 +99,22 @@ front_of_read script refusal limit settings log given why meanings old new read 
     )
 
 -- only a front of what is said of a log that is refused was written
-pub front_of_refused : (script : Script) (refusal : RefusalText) (limit : ℕ) (settings : Settings) (log : List ℕ) (given : ℕ) (why : Fault) (meanings : List (Option Stamped)) (old new : List ℕ)
-    → is_told why ≡ true → IsUnreadFor script.strict limit settings log why → AreReadBefore (passing script.strict limit settings) settings log given why meanings
-    → HasFront old (said_and_refusal_of_lines script refusal limit settings why meanings) new
-    → 0 < length (said_and_refusal_of_lines script refusal limit settings why meanings)
-    → FailsToWrite script refusal limit settings log given old new
-front_of_refused script refusal limit settings log given why meanings old new tells unread read front some = by (refusal_of_lines refusal limit settings why meanings) refl
+pub front_of_refused : {A : Type 0} (of : Command A) (limit : ℕ) (settings : Settings) (log : List ℕ) (given : ℕ) (why : Fault) (meanings : List (Option Stamped)) (old new : List ℕ)
+    → is_told why ≡ true → IsUnreadFor of.script.strict limit settings log why → AreReadBefore (passing of.script.strict limit settings) settings log given why meanings
+    → HasFront old (said_and_refusal_of_lines of.script of.refusal limit settings why meanings) new
+    → 0 < length (said_and_refusal_of_lines of.script of.refusal limit settings why meanings)
+    → FailsToWrite of limit settings log given old new
+front_of_refused of limit settings log given why meanings old new told unread read front some = by (refusal_of_lines of.refusal limit settings why meanings) refl
   where
-    by : (text : List ℕ) → refusal_of_lines refusal limit settings why meanings ≡ text → FailsToWrite script refusal limit settings log given old new
+    by : (text : List ℕ) → refusal_of_lines of.refusal limit settings why meanings ≡ text → FailsToWrite of limit settings log given old new
     by [] none =
-        let lines = said_of_lines script settings meanings in
-        let same : said_and_refusal_of_lines script refusal limit settings why meanings ≡ lines = ap (λ x. lines ++ x) none ∙ append-nil lines in
-        front_of_read script refusal limit settings log given why meanings old new (record { meanings = meanings; read = read; wrote = refl }) (subst (λ text. HasFront old text new) same front)
+        let lines = said_of_lines of.script settings meanings in
+        let same : said_and_refusal_of_lines of.script of.refusal limit settings why meanings ≡ lines = ap (λ x. lines ++ x) none ∙ append-nil lines in
+        front_of_read of limit settings log given why meanings old new (record { meanings = meanings; read = read; wrote = refl }) (subst (λ text. HasFront old text new) same front)
         (subst (λ (text : List ℕ). 0 < length text) same some)
     by (b ∷ rest) is = inr (record {
       why = why;
-      told = tells;
+      told = told;
       refused = unread;
       meanings = meanings;
       read = read;

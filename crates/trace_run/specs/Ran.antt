@@ -2,7 +2,7 @@
 -- `Ran`, and `RanLenient` of a command that is not strict. Above them stand the parts that they are made of. What they
 -- are of comes in one order: limit, settings, log, how many bytes of it were given, fault or answer, and what was
 -- written before and after. Those of one module are of the same command and log.
-use Rattle.std.specs.Prelude.{◌≡◌, ◌≢◌, ℕ, ◌-◌, ◌≤◌, ◌<◌, Bool, false, true, ◌⊎◌, ⊤}
+use Rattle.std.specs.Prelude.{◌≡◌, ◌≢◌, ℕ, ◌-◌, ◌≤◌, ◌<◌, min, Bool, false, true, ◌⊎◌, ⊤}
 use Rattle.std.specs.Prelude.{List, ◌++◌, length, Option, Result, Ok, Err, IfErr}
 use Rattle.can_log.specs.declared.frame.Stamped.{Stamped}
 use Rattle.isotp_receive.specs.Trace.{Entry}
@@ -18,12 +18,12 @@ use Rattle.trace_log.specs.Outcome.{IsReadWhole}
 use Rattle.trace_log.specs.Settings.{AreSettings, Settings}
 use Rattle.trace_log.specs.Trace.{trace}
 use Rattle.trace_log.specs.Summing.{summary_of}
-use Rattle.trace_log.specs.LinesRead.{AreReadBefore, WritesTextOfRead, WritesFrontOfRead}
+use Rattle.trace_log.specs.LinesRead.{AreLinesRead, AreReadBefore, WritesTextOfRead, WritesFrontOfRead}
 use Rattle.trace_log.specs.ReadAs.{no_line, too_long, takes_all, IsReadAs}
 use Rattle.trace_log.specs.Devices.{AgreesWith, bytes_given, ReadFrom, WroteTo}
 use Rattle.trace_log.specs.Needing.{HasFrame, IsKeptForMessage, NeedsMemoryToReceive}
 use Rattle.trace_log.specs.Refusal.{announces_within, HasNoBadPlaceWithin, IsNotRefusedWithin}
-use Rattle.trace_run.specs.Script.{Answering, Command, RefusalText, Script}
+use Rattle.trace_run.specs.Script.{Command, Script}
 use Rattle.trace_run.specs.Script.{refusal_of_lines, said_and_refusal_of_lines, said_of_lines, whole_of_lines}
 use Rattle.trace_run.specs.declared.machine.NoAnswer.{NoAnswer}
 use Rattle.trace_run.specs.declared.machine.NoAnswer.TheVariants as no_answer
@@ -38,8 +38,8 @@ is_told Read = false
 is_told Write = false
 is_told Memory = false
 
--- The next four definitions are of a strict command, `true`, or of another one, which has this name where they are
--- used.
+-- Whether a command is strict is the first argument of the next four definitions: `when_lenient` where a statement is
+-- about commands that are not.
 abbrev pub when_lenient : Bool
 when_lenient = false
 
@@ -69,6 +69,12 @@ abbrev pub StopsNothingWithin : Bool → ℕ → Settings → List ℕ → ℕ �
 StopsNothingWithin true limit settings log = IsNotRefusedWithin limit settings log
 StopsNothingWithin false limit settings log = HasNoBadPlaceWithin log
 
+-- the lines that had ended among the first `count` bytes of the log, up to one that stops a run, mean this: an
+-- unfinished last line does not count, nor does a byte past the limit
+abbrev pub HadEnded : (Option Stamped → Bool) → Settings → List ℕ → ℕ → List (Option Stamped) → Type 0
+HadEnded passes settings log count = AreLinesRead passes false (min count settings.max_bytes) log
+
+-- What is written of a log of which so many bytes were given, by a script; `old` was written before.
 module _ (script : Script) (limit : ℕ) (settings : Settings) (log : List ℕ) (given : ℕ) where
   -- exactly what is said of the lines read before the fault was written
   abbrev pub WritesSaid : Fault → List ℕ → List ℕ → Type 0
@@ -95,89 +101,80 @@ module _ (script : Script) (limit : ℕ) (settings : Settings) (log : List ℕ) 
   -- What was written begins with what is said of the lines that had ended among all bytes given but the last 4,096.
   pub record WritesSaidEagerly (old new : List ℕ) : Type 0 where
     pub meanings : List (Option Stamped)
-    pub read : AreReadBefore (passing script.strict limit settings) settings log (given - piece_length) Read meanings
+    pub read : HadEnded (passing script.strict limit settings) settings log (given - piece_length) meanings
     pub more : List ℕ
     pub wrote : new ≡ old ++ (said_of_lines script settings meanings ++ more)
 
-module _ (script : Script) (limit : ℕ) (settings : Settings) (log : List ℕ) where
-  -- The log can be read to its end, and a front of all that is said of it, which is something, was written.
-  pub record EndsUnwritten (old new : List ℕ) : Type 0 where
-    pub meanings : List (Option Stamped)
-    pub read : IsReadToEnd script.strict limit settings log meanings
-    pub some : 0 < length (whole_of_lines script limit settings log meanings)
-    pub front : HasFront old (whole_of_lines script limit settings log meanings) new
+-- What is answered on a log of which so many bytes were given, and written of it, by a command.
+module _ {A : Type 0} (of : Command A) (limit : ℕ) (settings : Settings) (log : List ℕ) (given : ℕ) where
+  -- the fault tells why the log can't be read to its end
+  abbrev IsUnread : Fault → Type 0
+  IsUnread = IsUnreadFor of.script.strict limit settings log
 
-module _ (script : Script) (refusal : RefusalText) (limit : ℕ) (settings : Settings) (log : List ℕ) (given : ℕ) where
+  -- all that is said of a log whose lines mean this
+  abbrev whole : List (Option Stamped) → List ℕ
+  whole = whole_of_lines of.script limit settings log
+
+  -- the log can be read to its end, this is answered there, and all that is said of it was written
+  abbrev pub EndsWith : Result A NoAnswer → List ℕ → List ℕ → Type 0
+  EndsWith result old new =
+      (length log ≤ given) × (meanings : List (Option Stamped)) × IsReadToEnd of.script.strict limit settings log meanings
+      × of.answers (trace settings meanings) (summary_of limit settings log meanings) result
+      × (new ≡ old ++ whole meanings)
+
   -- exactly what is said of the lines read before the fault, and of the refusal behind them, was written
   abbrev pub WritesSaidAndRefusal : Fault → List ℕ → List ℕ → Type 0
   WritesSaidAndRefusal why =
-      WritesTextOfRead (passing script.strict limit settings)
-      (said_and_refusal_of_lines script refusal limit settings why) settings log given why
+      WritesTextOfRead (passing of.script.strict limit settings)
+      (said_and_refusal_of_lines of.script of.refusal limit settings why) settings log given why
+
+  -- The log can be read to its end, and a front of all that is said of it, which is something, was written.
+  pub record EndsUnwritten (old new : List ℕ) : Type 0 where
+    pub meanings : List (Option Stamped)
+    pub read : IsReadToEnd of.script.strict limit settings log meanings
+    pub some : 0 < length (whole meanings)
+    pub front : HasFront old (whole meanings) new
 
   -- A refusal that the machine is told refuses the log, and something is said of it: of all that is said then, a front
   -- was written.
   pub record RefusesUnwritten (old new : List ℕ) : Type 0 where
     pub why : Fault
     pub told : is_told why ≡ true
-    pub refused : IsUnreadFor script.strict limit settings log why
+    pub refused : IsUnread why
     pub meanings : List (Option Stamped)
-    pub read : AreReadBefore (passing script.strict limit settings) settings log given why meanings
-    pub some : 0 < length (refusal_of_lines refusal limit settings why meanings)
-    pub front : HasFront old (said_and_refusal_of_lines script refusal limit settings why meanings) new
+    pub read : AreReadBefore (passing of.script.strict limit settings) settings log given why meanings
+    pub some : 0 < length (refusal_of_lines of.refusal limit settings why meanings)
+    pub front : HasFront old (said_and_refusal_of_lines of.script of.refusal limit settings why meanings) new
 
   -- writing failed: while the log was read, where something was said of it, or at its end; or where it is refused
   abbrev pub FailsToWrite : List ℕ → List ℕ → Type 0
   FailsToWrite old new =
-      (WritesFrontOfWhole script limit settings log given Write old new
-      × (HasSomeToSay script limit settings log given ⊎ EndsUnwritten script limit settings log old new))
+      (WritesFrontOfWhole of.script limit settings log given Write old new
+      × (HasSomeToSay of.script limit settings log given ⊎ EndsUnwritten old new))
       ⊎ RefusesUnwritten old new
 
-module _ {A : Type 0} (script : Script) (answers : Answering A)
-    (limit : ℕ) (settings : Settings) (log : List ℕ) (given : ℕ) where
-  -- the log can be read to its end, this is answered there, and all that is said of it was written
-  abbrev pub EndsWith : Result A NoAnswer → List ℕ → List ℕ → Type 0
-  EndsWith result old new =
-      (length log ≤ given) × (meanings : List (Option Stamped)) × IsReadToEnd script.strict limit settings log meanings
-      × answers (trace settings meanings) (summary_of limit settings log meanings) result
-      × (new ≡ old ++ whole_of_lines script limit settings log meanings)
-
-module _ {A : Type 0} (script : Script) (refusal : RefusalText) (answers : Answering A)
-    (limit : ℕ) (settings : Settings) (log : List ℕ) (given : ℕ) where
-  -- the log was read to its end, where this is answered
-  abbrev Ends : Result A NoAnswer → List ℕ → List ℕ → Type 0
-  Ends = EndsWith script answers limit settings log given
-
-  -- the log is refused for this, what is said of the lines before was written, and behind it what is of the refusal
-  abbrev RefusesAndSays : Fault → List ℕ → List ℕ → Type 0
-  RefusesAndSays why old new =
-      IsUnreadFor script.strict limit settings log why
-      × WritesSaidAndRefusal script refusal limit settings log given why old new
-
-  -- the log is refused for this, and what is said of the lines before was written
-  abbrev Refuses : Fault → List ℕ → List ℕ → Type 0
-  Refuses why old new =
-      IsUnreadFor script.strict limit settings log why × WritesSaid script limit settings log given why old new
-
-  -- What is answered on a log, of which `given` bytes were given, and what is then written where `old` was before: all
-  -- that is said of one that can be read, and an answer or that it is too long; what is said of the lines read before,
-  -- where it can't be, or reading failed, and behind it what is said of a refusal for a line or the limit; and a front
-  -- of what is said where writing failed or memory was refused.
+  -- What is answered, and what is then written: all that is said of a log that can be read, and an answer or that it is
+  -- too long; what is said of the lines read before, where it can't be, or reading failed, and behind it what is said of
+  -- a refusal for a line or the limit; and a front of what is said where writing failed or memory was refused.
   abbrev pub AnswersAndWrites : Result A Fault → List ℕ → List ℕ → Type 0
-  AnswersAndWrites (Ok value) old new = Ends (Ok value) old new
-  AnswersAndWrites (Err OutputLimit) old new = Ends (Err no_answer.OutputLimit) old new
-  AnswersAndWrites (Err (BadLine line column)) old new = RefusesAndSays (BadLine line column) old new
-  AnswersAndWrites (Err LogLimit) old new = RefusesAndSays LogLimit old new
-  AnswersAndWrites (Err (Oversize line announced)) old new = Refuses (Oversize line announced) old new
-  AnswersAndWrites (Err Read) old new = WritesSaid script limit settings log given Read old new
-  AnswersAndWrites (Err Write) old new = FailsToWrite script refusal limit settings log given old new
-  AnswersAndWrites (Err Memory) old new = WritesFrontOfSaid script limit settings log given Memory old new
+  AnswersAndWrites (Ok value) old new = EndsWith (Ok value) old new
+  AnswersAndWrites (Err OutputLimit) old new = EndsWith (Err no_answer.OutputLimit) old new
+  AnswersAndWrites (Err (BadLine line column)) old new =
+      IsUnread (BadLine line column) × WritesSaidAndRefusal (BadLine line column) old new
+  AnswersAndWrites (Err LogLimit) old new = IsUnread LogLimit × WritesSaidAndRefusal LogLimit old new
+  AnswersAndWrites (Err (Oversize line announced)) old new =
+      IsUnread (Oversize line announced)
+      × WritesSaid of.script limit settings log given (Oversize line announced) old new
+  AnswersAndWrites (Err Read) old new = WritesSaid of.script limit settings log given Read old new
+  AnswersAndWrites (Err Write) old new = FailsToWrite old new
+  AnswersAndWrites (Err Memory) old new = WritesFrontOfSaid of.script limit settings log given Memory old new
 
 -- A run of a command from a source to a target: all that a caller knows of it.
 pub record Ran {R W A : Type 0} (source : SourceGhosts R) (target : TargetGhosts W) (of : Command A)
     (settings : Settings) (before : R) (old : W) (result : Result A Fault) (after : R) (new : W) : Type 0 where
   -- what is answered and written, for each log with which the bytes that were read agree
   pub answer : (log : List ℕ) → AgreesWith source before after log
-      → AnswersAndWrites of.script of.refusal of.answers MESSAGE_LIMIT settings log (bytes_given source before after) result
+      → AnswersAndWrites of MESSAGE_LIMIT settings log (bytes_given source before after) result
       (target.taken old) (target.taken new)
   -- before each read what was said was written
   pub eager : (log : List ℕ) → AgreesWith source before after log → WritesSaidEagerly of.script MESSAGE_LIMIT settings log

@@ -15,7 +15,7 @@ use Rattle.trace_log.specs.declared.fault.Fault.{Fault}
 use Rattle.trace_run.specs.declared.machine.NoAnswer.{NoAnswer}
 use Rattle.trace_log.specs.declared.summary.Summary.{Summary}
 use Rattle.trace_log.proofs.Promises.{clean_log_is_recording, clean_summary_is_certificate, summary_certifies}
-use Rattle.trace_run.specs.Script.{GlimpseValue, RefusalText, Script, answers_counts, says_no_refusal}
+use Rattle.trace_run.specs.Script.{GlimpseValue, Needing, RefusalText, Script, answers_counts, command, needs_none, says_no_refusal}
 use Rattle.trace_run.specs.Ran.{AnswersAndWrites, IsReadToEnd}
 use Rattle.trace_report.specs.Kept as Keeps
 use Rattle.trace_report.specs.Session.{SessionValue}
@@ -56,9 +56,9 @@ of_read true settings log meanings read = read.means
 of_read false settings log meanings read = read.1
 
 -- those of a log over which a machine ran, whatever it said
-of_script : (script : Script) (refusal : RefusalText) (settings : Settings) (log : List ℕ) (given : ℕ) (summary : Summary) (old new : List ℕ)
-    → AnswersAndWrites script refusal answers_counts MESSAGE_LIMIT settings log given (Ok summary) old new → is_clean summary ≡ true → IsCertified MESSAGE_LIMIT settings log
-of_script script refusal settings log given summary old new (all, meanings, read, counted, wrote) =
+of_script : (script : Script) (refusal : RefusalText) (needs : Needing) (settings : Settings) (log : List ℕ) (given : ℕ) (summary : Summary) (old new : List ℕ)
+    → AnswersAndWrites (command script refusal answers_counts needs) MESSAGE_LIMIT settings log given (Ok summary) old new → is_clean summary ≡ true → IsCertified MESSAGE_LIMIT settings log
+of_script script refusal needs settings log given summary old new (all, meanings, read, counted, wrote) =
     of_told settings log meanings summary (of_read script.strict settings log meanings read) counted
 
 -- `find` counts no frames of either side, so no log is clean by its counts
@@ -67,8 +67,8 @@ of_engine : (engine : Engine) (settings : Settings) (log : List ℕ) (given : �
 of_engine normalises settings log given summary old new (accepted, outcome, counted, wrote) = of_clean settings log summary (of_accepted settings log accepted summary outcome counted)
 of_engine (writes text) settings log given summary old new (items, is, wrote) = of_clean settings log summary (of_accepted settings log is.accepted summary is.outcome is.counted)
 of_engine (finds notation) settings log given summary old new (pairs, (meanings, read, found), wrote) = λ clean. absurd (true≢false (sym clean ∙ ap is_clean found.1))
-of_engine (runs script needs) settings log given summary old new told = of_script (script MESSAGE_LIMIT) says_no_refusal settings log given summary old new told
-of_engine (runs_in_style script refusal) settings log given summary old new (style, told) = of_script (script style settings MESSAGE_LIMIT) (refusal style settings MESSAGE_LIMIT) settings log given summary old new told
+of_engine (runs script needs) settings log given summary old new told = of_script (script MESSAGE_LIMIT) says_no_refusal (needs MESSAGE_LIMIT) settings log given summary old new told
+of_engine (runs_in_style script refusal) settings log given summary old new (style, told) = of_script (script style settings MESSAGE_LIMIT) (refusal style settings MESSAGE_LIMIT) needs_none settings log given summary old new told
 
 -- whatever the job
 pub answer_certifies : (job : Job) (name : List ℕ) (seen : GlimpseValue) (settings : Settings) (log : List ℕ) (given : ℕ) (answer : Result Summary Fault) (old new : List ℕ)

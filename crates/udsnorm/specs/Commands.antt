@@ -155,9 +155,11 @@ abbrev pub answers_of : Engine → ℕ → Settings → List ℕ → ℕ → Res
 answers_of normalises limit settings log given result old new = Answers limit settings log given result old new
 answers_of (writes text) limit settings log given result old new = WritesItems text limit settings log result old new
 answers_of (finds notation) limit settings log given result old new = Finds notation settings log result old new
-answers_of (runs script needs) limit settings log given result old new = AnswersAndWrites (script limit) says_no_refusal answers_counts limit settings log given result old new
+answers_of (runs script needs) limit settings log given result old new =
+    AnswersAndWrites (command (script limit) says_no_refusal answers_counts (needs limit)) limit settings log given result old new
 answers_of (runs_in_style script refusal) limit settings log given result old new =
-    (style : List ℕ) × AnswersAndWrites (script style settings limit) (refusal style settings limit) answers_counts limit settings log given result old new
+    (style : List ℕ)
+    × AnswersAndWrites (command (script style settings limit) (refusal style settings limit) answers_counts needs_none) limit settings log given result old new
 
 -- What it has written of a log of which so many bytes were given: at least all that is said of the lines that had ended
 -- among all of these but the last 4,096, as many as one read may bring. So whoever follows a session sees its messages

@@ -8,9 +8,10 @@ use Rattle.isotp_segment.specs.Timed.{all_frames}
 use Rattle.uds_exchange.specs.Order.{early, held}
 use Rattle.uds_exchange.specs.Orderer.{JudgedOrdererValue, judged_orderer_after}
 use Rattle.trace_log.specs.Settings.{Settings}
-use Rattle.trace_run.specs.Script.{Script, Answering, says_no_refusal, said_of_frames}
+use Rattle.trace_run.specs.Script.{Script, Command, Answering, command, says_no_refusal, said_of_frames}
 use Rattle.trace_run.specs.Ran.{AnswersAndWrites, WritesSaidEagerly}
 use Rattle.trace_log.specs.Answers.{Answers}
+use Rattle.trace_canon.specs.MemoryNeeded.{CompletesHeld}
 use Rattle.trace_log.specs.declared.fault.Fault.{Fault}
 use Rattle.trace_run.specs.declared.machine.NoAnswer.TheVariants as no_answer
 use Rattle.trace_log.specs.declared.summary.Summary.{Summary}
@@ -65,10 +66,14 @@ abbrev pub answers_canonical : Settings → Answering Summary
 answers_canonical settings T summary result =
     result ≡ (if is_too_long settings T then Err no_answer.OutputLimit else Ok summary)
 
--- what a run by this script answers and writes is the canonical log
+-- the command of this script and these answers, which says nothing of a refusal, and keeps held messages
+abbrev pub canonical_command : Settings → Command Summary
+canonical_command settings =
+    command (canonical_script settings) says_no_refusal (answers_canonical settings) (CompletesHeld MESSAGE_LIMIT)
+
+-- what a run of this command answers and writes is the canonical log
 abbrev pub CanonicalTellsTheSame : Type 0
 CanonicalTellsTheSame = (settings : Settings) (log : List ℕ) (given : ℕ) (result : Result Summary Fault) (old new : List ℕ)
-    → AnswersAndWrites (canonical_script settings) says_no_refusal (answers_canonical settings) MESSAGE_LIMIT settings log
-    given result old new
+    → AnswersAndWrites (canonical_command settings) MESSAGE_LIMIT settings log given result old new
     → WritesSaidEagerly (canonical_script settings) MESSAGE_LIMIT settings log given old new
     → Answers MESSAGE_LIMIT settings log given result old new

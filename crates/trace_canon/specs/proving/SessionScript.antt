@@ -5,10 +5,11 @@ use Rattle.direction.specs.Dir.{Message}
 use Rattle.uds_exchange.specs.Meaning.{ItemValue, meaning, flattened}
 use Rattle.uds_exchange.specs.declared.step.Step.{Step}
 use Rattle.uds_exchange.specs.declared.step.Step.TheVariants as step
+use Rattle.trace_canon.specs.MemoryNeeded.{CompletesMessage}
 use Rattle.trace_canon.specs.Sessions.{GivesSession, items_of_trace}
 use Rattle.trace_log.specs.CanonicalLog.{canonical_log}
 use Rattle.trace_log.specs.Settings.{Settings}
-use Rattle.trace_run.specs.Script.{Script, Answering, says_no_refusal}
+use Rattle.trace_run.specs.Script.{Script, Command, Answering, command, says_no_refusal}
 use Rattle.trace_run.specs.Ran.{AnswersAndWrites}
 use Rattle.trace_canon.specs.declared.collector.Session.{Session}
 use Rattle.trace_log.specs.declared.fault.Fault.{Fault}
@@ -49,8 +50,13 @@ answers_session settings T summary (Ok session) =
     × (fits_within settings (items_of_trace MESSAGE_LIMIT T) ≡ true)
 answers_session settings T summary (Err OutputLimit) = fits_within settings (items_of_trace MESSAGE_LIMIT T) ≡ false
 
--- a run with this script and these answers gives the session, or why there is none
+-- the command of this script and these answers, which says nothing of a refusal either, and keeps each message
+abbrev pub silent_command : Settings → Command Session
+silent_command settings =
+    command silent_script says_no_refusal (answers_session settings) (CompletesMessage MESSAGE_LIMIT)
+
+-- a run of this command gives the session, or why there is none
 abbrev pub SessionIsTheSame : Type 0
 SessionIsTheSame = (settings : Settings) (log : List ℕ) (given : ℕ) (result : Result Session Fault) (old new : List ℕ)
-    → AnswersAndWrites silent_script says_no_refusal (answers_session settings) MESSAGE_LIMIT settings log given result old new
+    → AnswersAndWrites (silent_command settings) MESSAGE_LIMIT settings log given result old new
     → GivesSession MESSAGE_LIMIT settings log result

@@ -1,8 +1,8 @@
 -- Devices of proof: what the machine keeps of a log that is kept, and what it answers at its end.
-use Rattle.std.specs.Prelude.{◌≡◌, ◌≤◌, ◌^◌, false, List, [], length, Ok, Err}
+use Rattle.std.specs.Prelude.{◌≡◌, ◌≤◌, ◌^◌, false, List, [], length, Ok, Err, ⊤}
 use Rattle.isotp_receive.specs.declared.TheConstants.{MESSAGE_LIMIT}
 use Rattle.isotp_receive.specs.Trace.{Entry}
-use Rattle.trace_run.specs.Script.{Script, Answering}
+use Rattle.trace_run.specs.Script.{Script, Command, Answering, command, says_no_refusal}
 use Rattle.trace_run.specs.declared.machine.NoAnswer.TheVariants.{OutputLimit}
 use Rattle.trace_log.specs.declared.summary.Summary.{Summary}
 use Rattle.trace_report.specs.Events.{end_rows, rows_of}
@@ -10,7 +10,7 @@ use Rattle.trace_report.specs.declared.keeper.Heard.{Heard}
 use Rattle.trace_report.specs.declared.keeper.Keeper.{Keeper}
 use Rattle.trace_report.specs.proving.Following.{Follows, rows_in, times_of}
 
--- the script that tells nothing
+-- the script that says nothing
 abbrev pub quiet_script : Script
 quiet_script = record { strict = false; of_frame = λ T e. []; at_the_end = λ T summary. [] }
 
@@ -32,3 +32,7 @@ pub record IsHeardOf (T : List Entry) (summary : Summary) (heard : Heard) : Type
 abbrev pub answers_heard : Answering Heard
 answers_heard T summary (Ok heard) = IsHeardOf T summary heard
 answers_heard T summary (Err OutputLimit) = ⊥
+
+-- the command of this script and these answers: it says nothing of a refusal either, and may need memory for any frame
+abbrev pub quiet_command : Command Heard
+quiet_command = command quiet_script says_no_refusal answers_heard (λ T e. ⊤)

@@ -1,6 +1,7 @@
 -- A run of a machine that says nothing answers the session, and never fails to write.
 use Rattle.std.proofs.Common.{rules}
 use Rattle.isotp_receive.specs.declared.TheConstants.{MESSAGE_LIMIT}
+use Rattle.trace_canon.specs.MemoryNeeded.{CompletesMessage}
 use Rattle.trace_canon.specs.proving.SessionScript.{answers_session, silent_script}
 use Rattle.trace_canon.proofs.Collecting.{collects_none}
 use Rattle.trace_run.proofs.Promises.{never_write}
@@ -20,7 +21,7 @@ returns g c =
         near = search rules;
         memory = search rules;
         read = search rules;
-        never_write = never_write silent_script silent_says_nothing (answers_session c.args.config.now) MESSAGE_LIMIT c.args.config.now ran.read.gave.bytes _ _ _ c.run.result
+        never_write = never_write silent_script silent_says_nothing (answers_session c.args.config.now) (CompletesMessage MESSAGE_LIMIT) MESSAGE_LIMIT c.args.config.now ran.read.gave.bytes _ _ _ c.run.result
             (ran.answer ran.read.gave.bytes (given_agrees ran.read.gave));
       };
       configured = ran.configured;

@@ -4,7 +4,7 @@ use Rattle.trace_run.proofs.Promises.{never_write}
 use Rattle.trace_log.proofs.Promises.{given_agrees}
 use Rattle.isotp_receive.specs.declared.TheConstants.{MESSAGE_LIMIT}
 use Rattle.trace_log.specs.declared.fault.Fault.{Fault}
-use Rattle.trace_report.specs.proving.Heard.{answers_heard, quiet_script}
+use Rattle.trace_report.specs.proving.Heard.{answers_heard, quiet_command, quiet_script}
 use Rattle.trace_report.proofs.Holding.{fault_of, has_own_where_held, has_own_where_needed, quiet_says_nothing, read_so, unread_so}
 use Rattle.trace_report.proofs.keeper.keep.Goals as goal
 
@@ -19,7 +19,7 @@ pub returns-in-Err-clause-never_write : goal.returns-in-Err-clause-never_write
 returns-in-Err-clause-never_write g c =
     let ran = c.in-Err.ensures.ran in
     let gave = ran.read.gave in
-    never_write quiet_script quiet_says_nothing answers_heard MESSAGE_LIMIT c.args.config.now gave.bytes _ [] [] (Err c.in-Err.fault) (ran.answer gave.bytes (given_agrees gave))
+    never_write quiet_script quiet_says_nothing answers_heard quiet_command.needs MESSAGE_LIMIT c.args.config.now gave.bytes _ [] [] (Err c.in-Err.fault) (ran.answer gave.bytes (given_agrees gave))
 
 pub returns-in-Err-clause-memory : goal.returns-in-Err-clause-memory
 returns-in-Err-clause-memory g c = λ log agrees refused.

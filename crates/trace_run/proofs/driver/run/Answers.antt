@@ -11,7 +11,7 @@ use Rattle.trace_run.specs.declared.telling.Telling.{Telling}
 use Rattle.trace_run.specs.declared.receiver.Receiver.{Receiver}
 use Rattle.trace_run.specs.proving.Ending.{EndsSaying, GivesUp}
 use Rattle.trace_run.specs.proving.Telling.{HasToldNothing}
-use Rattle.trace_run.specs.Script.{GlimpseValue, Script, glimpse_of}
+use Rattle.trace_run.specs.Script.{GlimpseValue, Script, command, glimpse_of}
 use Rattle.trace_run.specs.Ran.{StopsNothingWithin, AnswersAndWrites, WritesSaidEagerly}
 use Rattle.trace_log.specs.Answers.{ReadsWhile}
 use Rattle.trace_log.specs.Feeding.{TakesFront}
@@ -79,7 +79,7 @@ returns-in-Err g c =
     record {
       ran = record {
         answer = λ log agrees.
-            subst (λ m. AnswersAndWrites (M.script m) (M.refusal m glimpse) (M.answers m) MESSAGE_LIMIT settings log (length (g.R.Source.given c.feed_lines.new.reader) - length (g.R.Source.given c.args.source.now)) (Err c.give_up.result)
+            subst (λ m. AnswersAndWrites (command (M.script m) (M.refusal m glimpse) (M.answers m) (M.needs m)) MESSAGE_LIMIT settings log (length (g.R.Source.given c.feed_lines.new.reader) - length (g.R.Source.given c.args.source.now)) (Err c.give_up.result)
             (W.taken c.args.target.now) (W.taken c.give_up.new.target)) (same_machine g at)
             (answers_on_fault M.stands M.script M.needs W settings (start g at) now (begun g at) c.requires.target refusals c.give_up.new.target (M.answers c.start-receiver.result.telling.machine) log
             (length (g.R.Source.given c.feed_lines.new.reader) - length (g.R.Source.given c.args.source.now)) c.in-Err.fault c.give_up.result c.max_bytes.result c.max_bytes.ensures.value
@@ -161,7 +161,7 @@ returns-in-Ok g c =
       ran = record {
         answer = λ log agrees.
             let read = c.in-Ok.ensures.lines log agrees (start g at) none in
-            answers_at_the_end W script (M.answers c.args.machine) c.args.target.now c.finish.new.target settings refusal log (length (g.R.Source.given c.feed_lines.new.reader) - length (g.R.Source.given c.args.source.now)) read.0 c.finish.result
+            answers_at_the_end W (command script refusal (M.answers c.args.machine) (M.needs c.args.machine)) c.args.target.now c.finish.new.target settings log (length (g.R.Source.given c.feed_lines.new.reader) - length (g.R.Source.given c.args.source.now)) read.0 c.finish.result
             (omega (arith, read.1, c.max_bytes.ensures.value)) read.2 read.3 (within g c read.0 read.5)
             (ends g c log read.0 read.6 read.5);
         eager = λ log agrees.

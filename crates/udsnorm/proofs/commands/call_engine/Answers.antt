@@ -1,6 +1,6 @@
 use Rattle.std.proofs.Common.{◌-◌, ℕ, List, length, subst}
 use Rattle.isotp_receive.specs.declared.TheConstants.{MESSAGE_LIMIT}
-use Rattle.trace_run.specs.Script.{answers_counts}
+use Rattle.trace_run.specs.Script.{answers_counts, command, needs_none}
 use Rattle.trace_run.specs.Ran.{AnswersAndWrites, WritesSaidEagerly}
 use Rattle.trace_report.specs.Front.{page_title}
 use Rattle.trace_report.specs.Page.{refused_text, report_script}
@@ -33,7 +33,7 @@ returns-in-Report g c =
       ran = rw c.in-Report.is (record {
         answer = λ log agrees. (
           c.report_style.result.now,
-          subst (λ (name : List ℕ). AnswersAndWrites (report_script (page_title c.report_style.result.now name settings) MESSAGE_LIMIT) (refused_text (page_title c.report_style.result.now name settings) MESSAGE_LIMIT seen) answers_counts MESSAGE_LIMIT settings log (length (g.R.Source.given c.report.new.reader) - length (g.R.Source.given c.args.input.now)) c.report.result (g.W.Target.taken c.args.out.now) (g.W.Target.taken c.report.new.writer)) c.as_bytes.ensures.value
+          subst (λ (name : List ℕ). AnswersAndWrites (command (report_script (page_title c.report_style.result.now name settings) MESSAGE_LIMIT) (refused_text (page_title c.report_style.result.now name settings) MESSAGE_LIMIT seen) answers_counts needs_none) MESSAGE_LIMIT settings log (length (g.R.Source.given c.report.new.reader) - length (g.R.Source.given c.args.input.now)) c.report.result (g.W.Target.taken c.args.out.now) (g.W.Target.taken c.report.new.writer)) c.as_bytes.ensures.value
               (ran.answer log agrees),
         );
         eager = λ log agrees. (
