@@ -1,8 +1,7 @@
 //! The frames of a log received: what each does, and what is counted.
-ghost use Rattle.std.specs.Prelude.{◌≡◌, List, IfErr};
+ghost use Rattle.std.specs.Prelude.{◌≡◌, IfErr};
 ghost use Rattle.isotp_receive.specs.EventSeen.{seen_event};
-ghost use Rattle.isotp_receive.specs.Trace.{Entry};
-ghost use Rattle.trace_run.specs.proving.Telling.{IsFrameEvent, TellsFrame};
+ghost use Rattle.trace_run.specs.proving.Telling.{TellsEvent};
 ghost use Rattle.trace_log.specs.Summing.{counted_more};
 ghost use Rattle.trace_log.specs.Feeding.{IsOfTaker};
 
@@ -120,7 +119,7 @@ impl<M: Machine, W: Target> Receiver<M, W> {
         ensures counts { OnOk result ((T : List Entry) → self.old.pair.receptions ≡ receptions_after MESSAGE_LIMIT T
             → self.new.counts ≡ counted_more dir (verdict MESSAGE_LIMIT T (entry_at line stamped.now dir)) self.old.counts) }
         ensures told { (T : List Entry) → self.old.pair.receptions ≡ receptions_after MESSAGE_LIMIT T → length T < 2 ^ 62
-            → TellsFrame M.stands M.script M.needs W.Target T (entry_at line stamped.now dir) self.old.telling target.old result self.new.telling target.new }
+            → TellsFrame M.stands M.script W.Target M.needs T (entry_at line stamped.now dir) self.old.telling target.old result self.new.telling target.new }
     {
         // A `match`, here and in `Telling::take`: `?` in both cost 23 to 27 instructions a line (docs/PERF.md).
         match self.pair.accept(line, stamped.micros, dir, &stamped.frame) {
@@ -150,8 +149,8 @@ fn hand_on<M: Machine, W: Target>(
 ) -> Result<(), Fault>
     ensures fault { IfErr result IsOfTaker }
     ensures counts { counts.new ≡ counted_more frame.entry.dir (seen_event frame.entry.event) counts.old }
-    ensures told { (T : List Entry) (e : Entry) → IsFrameEvent T e frame.entry
-        → TellsFrame M.stands M.script M.needs W.Target T e telling.old target.old result telling.new target.new }
+    ensures told { TellsEvent M.stands M.script W.Target M.needs frame.entry
+        telling.old target.old result telling.new target.new }
 {
     let ended = frame.event.ended;
     match frame.event.verdict {
@@ -181,8 +180,8 @@ fn count_and_tell<M: Machine, W: Target>(
 ) -> Result<(), Fault>
     ensures fault { IfErr result IsOfTaker }
     ensures counts { counts.new ≡ counted_more frame.entry.dir (seen_event frame.entry.event) counts.old }
-    ensures told { (T : List Entry) (e : Entry) → IsFrameEvent T e frame.entry
-        → TellsFrame M.stands M.script M.needs W.Target T e telling.old target.old result telling.new target.new }
+    ensures told { TellsEvent M.stands M.script W.Target M.needs frame.entry
+        telling.old target.old result telling.new target.new }
 {
     counts.count(frame.dir, frame.event);
     telling.take(target, frame)

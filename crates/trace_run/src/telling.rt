@@ -66,26 +66,13 @@ impl<M, W> Telling<M, W> {
 }
 
 impl<M: Machine, W: Target> Telling<M, W> {
-    ghost use Rattle.std.specs.Prelude.{◌≡◌, List, IfErr, true, false};
-    ghost use Rattle.isotp_receive.specs.Trace.{Entry};
-    ghost use Rattle.trace_run.specs.proving.Telling.{HasTold, HasToldAndWritten, HasWrittenAtLeast, IsFrameEvent, TellsFrame};
+    ghost use Rattle.std.specs.Prelude.{IfErr};
+    ghost use Rattle.trace_run.specs.proving.Telling.{SettlesTold, TellsEvent};
     ghost use Rattle.trace_log.specs.Feeding.{IsOfTaker};
 
     /// Writes what is due, before more is read. Answers whether it could.
     pub(crate) fn settle(&mut self, target: &mut W) -> bool
-        ensures well { result ≡ true → (target_start : W) (machine_start : M) (T : List Entry)
-            → HasTold M.stands M.script W.Target target_start machine_start T self.old target.old
-            → HasToldAndWritten M.stands M.script W.Target target_start machine_start T self.new false target.new
-            × HasTold M.stands M.script W.Target target_start machine_start T self.new target.new }
-        ensures wrong { result ≡ false → (target_start : W) (machine_start : M) (T : List Entry)
-            → HasTold M.stands M.script W.Target target_start machine_start T self.old target.old
-            → HasToldAndWritten M.stands M.script W.Target target_start machine_start T self.new true target.new }
-        ensures sure { result ≡ true → (target_start : W) (machine_start : M) (T : List Entry)
-            → HasTold M.stands M.script W.Target target_start machine_start T self.old target.old
-            → HasWrittenAtLeast M.script W.Target target_start machine_start T self.new target.new }
-        ensures kept { (target_start : W) (machine_start : M) (earlier : List Entry)
-            → HasWrittenAtLeast M.script W.Target target_start machine_start earlier self.old target.old
-            → HasWrittenAtLeast M.script W.Target target_start machine_start earlier self.new target.new }
+        ensures { SettlesTold M.stands M.script W.Target self.old target.old result self.new target.new }
     {
         self.page.settle(target)
     }
@@ -94,8 +81,8 @@ impl<M: Machine, W: Target> Telling<M, W> {
     #[inline(always)]
     pub(crate) fn take(&mut self, target: &mut W, frame: FrameEvent<'_>) -> Result<(), Fault>
         ensures fault { IfErr result IsOfTaker }
-        ensures told { (T : List Entry) (e : Entry) → IsFrameEvent T e frame.entry
-            → TellsFrame M.stands M.script M.needs W.Target T e self.old target.old result self.new target.new }
+        ensures told { TellsEvent M.stands M.script W.Target M.needs frame.entry
+            self.old target.old result self.new target.new }
     {
         let FrameEvent {
             line,

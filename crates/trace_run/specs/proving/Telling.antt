@@ -46,20 +46,6 @@ pub record HasToldNothing {M W : Type 0} (stands : M → List Entry → M → Ty
   pub well : telling.page.failed ≡ false
   pub blank : telling.page.held ≡ []
 
--- The frames of the trace were told, since the target was this and by what the machine was at its start; of a strict
--- script none announces a message above the limit.
-pub record HasTold {M W : Type 0} (stands : M → List Entry → M → Type 0) (scripts : M → Script) (target : Ghosts W) (target_start : W) (machine_start : M)
-    (T : List Entry) (telling : Telling M W) (now : W) : Type 0 where
-  pub judged : IsJudgeOf (messages MESSAGE_LIMIT T) telling.judge
-  pub machine_stands : stands machine_start T telling.machine
-  pub within : (scripts machine_start).strict ≡ true → AllByRecursion AnnouncesWithin T
-  pub carried : Carries target target_start (said_of_frames ((scripts machine_start).of_frame) T) telling.page now
-
--- the frames of the trace were told, and all that was said of them is written, or writing failed
-abbrev pub HasToldAndWritten : {M W : Type 0} → (M → List Entry → M → Type 0) → (M → Script) → Ghosts W → W → M → List Entry → Telling M W → Bool → W → Type 0
-HasToldAndWritten stands scripts target target_start machine_start T telling failed now =
-    HasTold stands scripts target target_start machine_start T (record telling { page = blank_page failed }) now
-
 -- Since the target was this, at least what is said of this trace was written; and after it, what was said to the page.
 pub record HasWrittenAtLeast {M W : Type 0} (scripts : M → Script) (target : Ghosts W) (target_start : W) (machine_start : M) (T : List Entry)
     (telling : Telling M W) (now : W) : Type 0 where
@@ -80,44 +66,75 @@ pub record HasStopped {M W : Type 0} (scripts : M → Script) (needs : M → Lis
 abbrev pub IsFrameEvent : List Entry → Entry → FrameEvent → Type 0
 IsFrameEvent T e frame = IsEventOf T e frame.line frame.micros frame.dir frame.event
 
--- The frame e was told after the frames T, or the run stopped at it. Whatever was written before is.
-pub record TellsFrame {M W A : Type 0} (stands : M → List Entry → M → Type 0) (scripts : M → Script) (needs : M → List Entry → Entry → Type 0) (target : Ghosts W)
-    (T : List Entry) (e : Entry) (before : Telling M W) (old : W) (result : Result A Fault) (after : Telling M W) (new : W) : Type 0 where
-  pub ok : OnOk result ((target_start : W) (machine_start : M) → HasTold stands scripts target target_start machine_start T before old
-      → HasTold stands scripts target target_start machine_start (T ++ e ∷ []) after new)
-  pub err : IfErr result (λ fault. (target_start : W) (machine_start : M) → HasTold stands scripts target target_start machine_start T before old
-      → HasStopped scripts needs target target_start machine_start T e fault after new)
-  pub kept : (target_start : W) (machine_start : M) (earlier : List Entry) → HasTold stands scripts target target_start machine_start T before old
-      → HasWrittenAtLeast scripts target target_start machine_start earlier before old → HasWrittenAtLeast scripts target target_start machine_start earlier after new
-
 -- a receiver took lines that mean this; where it stood at its start, it received their frames, and this is told of them
 abbrev pub HasReceived : {M W : Type 0} → (M → List Entry → M → Type 0) → Ghosts W → Receiver M W → W → List (Option Stamped) → Receiver M W → Type 0 → Type 0
 HasReceived stands target before old meanings after IsTold =
     (after.config ≡ before.config) × (IsStart before.pair before.lines before.counts → Receives before.config meanings after.pair after.lines after.counts
     × (HasToldNothing stands before.telling → target.failures old ≤ 2 ^ 62 → IsTold))
 
--- A receiver with its target, as they were before lines that mean this were taken, and as they are now. `.0` is the
--- receiver, `.1` the target.
+-- What a machine was told, and what was written of what it said, since the target and the machine were these.
 module _ {M W : Type 0} (stands : M → List Entry → M → Type 0) (scripts : M → Script) (target : Ghosts W) where
+  -- The frames of the trace were told; of a strict script none announces a message above the limit.
+  pub record HasTold (target_start : W) (machine_start : M) (T : List Entry) (telling : Telling M W) (now : W) : Type 0 where
+    pub judged : IsJudgeOf (messages MESSAGE_LIMIT T) telling.judge
+    pub machine_stands : stands machine_start T telling.machine
+    pub within : (scripts machine_start).strict ≡ true → AllByRecursion AnnouncesWithin T
+    pub carried : Carries target target_start (said_of_frames ((scripts machine_start).of_frame) T) telling.page now
+
+  -- the frames of the trace were told, and all that was said of them is written, or writing failed
+  abbrev pub HasToldAndWritten : W → M → List Entry → Telling M W → Bool → W → Type 0
+  HasToldAndWritten target_start machine_start T telling failed now =
+      HasTold target_start machine_start T (record telling { page = blank_page failed }) now
+
+  -- What is due was written before more is read, or that failed, as `settled` answers.
+  pub record SettlesTold (before : Telling M W) (old : W) (settled : Bool) (after : Telling M W) (new : W) : Type 0 where
+    pub well : settled ≡ true → (target_start : W) (machine_start : M) (T : List Entry) → HasTold target_start machine_start T before old
+        → HasToldAndWritten target_start machine_start T after false new × HasTold target_start machine_start T after new
+    pub wrong : settled ≡ false → (target_start : W) (machine_start : M) (T : List Entry) → HasTold target_start machine_start T before old
+        → HasToldAndWritten target_start machine_start T after true new
+    pub sure : settled ≡ true → (target_start : W) (machine_start : M) (T : List Entry) → HasTold target_start machine_start T before old
+        → HasWrittenAtLeast scripts target target_start machine_start T after new
+    -- whatever was written before is
+    pub kept : (target_start : W) (machine_start : M) (earlier : List Entry) → HasWrittenAtLeast scripts target target_start machine_start earlier before old
+        → HasWrittenAtLeast scripts target target_start machine_start earlier after new
+
+  -- The frame e was told after the frames T, or the run stopped at it. Whatever was written before is.
+  pub record TellsFrame {A : Type 0} (needs : M → List Entry → Entry → Type 0) (T : List Entry) (e : Entry)
+      (before : Telling M W) (old : W) (result : Result A Fault) (after : Telling M W) (new : W) : Type 0 where
+    pub ok : OnOk result ((target_start : W) (machine_start : M) → HasTold target_start machine_start T before old
+        → HasTold target_start machine_start (T ++ e ∷ []) after new)
+    pub err : IfErr result (λ fault. (target_start : W) (machine_start : M) → HasTold target_start machine_start T before old
+        → HasStopped scripts needs target target_start machine_start T e fault after new)
+    pub kept : (target_start : W) (machine_start : M) (earlier : List Entry) → HasTold target_start machine_start T before old
+        → HasWrittenAtLeast scripts target target_start machine_start earlier before old → HasWrittenAtLeast scripts target target_start machine_start earlier after new
+
+  -- so it is of any frame that did this, whatever frames came before
+  abbrev pub TellsEvent : {A : Type 0} → (M → List Entry → Entry → Type 0) → FrameEvent → Telling M W → W → Result A Fault → Telling M W → W → Type 0
+  TellsEvent needs frame before old result after new =
+      (T : List Entry) (e : Entry) → IsFrameEvent T e frame → TellsFrame needs T e before old result after new
+
+  -- Below stands a receiver with its target, as they were before lines that mean this were taken, and as they are now.
+  -- `.0` is the receiver, `.1` the target.
+
   -- the lines were taken, and their frames told
   abbrev pub HasTaken : Receiver M W × W → List (Option Stamped) → Receiver M W × W → Type 0
   HasTaken before meanings now =
       HasReceived stands target before.0 before.1 meanings now.0
-      (HasTold stands scripts target before.1 before.0.telling.machine (trace before.0.config meanings)
+      (HasTold before.1 before.0.telling.machine (trace before.0.config meanings)
       now.0.telling now.1)
 
   -- the same, and all that was said of them is written
   abbrev pub HasRested : Receiver M W × W → List (Option Stamped) → Receiver M W × W → Type 0
   HasRested before meanings now =
       HasReceived stands target before.0 before.1 meanings now.0
-      (HasToldAndWritten stands scripts target before.1 before.0.telling.machine (trace before.0.config meanings)
+      (HasToldAndWritten before.1 before.0.telling.machine (trace before.0.config meanings)
       now.0.telling false now.1)
 
   -- the same, and writing failed
   abbrev pub HasBroken : Receiver M W × W → List (Option Stamped) → Receiver M W × W → Type 0
   HasBroken before meanings now =
       HasReceived stands target before.0 before.1 meanings now.0
-      (HasToldAndWritten stands scripts target before.1 before.0.telling.machine (trace before.0.config meanings)
+      (HasToldAndWritten before.1 before.0.telling.machine (trace before.0.config meanings)
       now.0.telling true now.1)
 
   -- at least what is said of these lines, the first that were taken, is written

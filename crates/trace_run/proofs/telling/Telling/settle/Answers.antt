@@ -8,39 +8,31 @@ use Rattle.trace_run.proofs.Carryings.{nothing_said, wrote_all}
 use Rattle.trace_run.proofs.ToldFrames.{settled_as, same_page}
 use Rattle.trace_run.proofs.telling.Telling.settle.Goals as goal
 
-pub returns-clause-well : goal.returns-clause-well
-returns-clause-well g c = λ is start first T tells.
+pub returns : goal.returns
+returns g c =
     let M = g.M.Machine in
     let W = g.W.Target in
     let self = c.args.self.now in
-    let now : HasToldAndWritten M.stands M.script W start first T self false c.settle.new.target =
-    subst (λ b. HasToldAndWritten M.stands M.script W start first T self (not b) c.settle.new.target) is
-    (settled_as M.stands M.script W start first T self _ _ c.settle.result tells c.settle.ensures.settled) in
-    (now, same_page M.stands M.script W start first T self c.settle.new.self c.settle.new.target now (c.settle.ensures.well is) (c.settle.ensures.blank is))
-
-pub returns-clause-wrong : goal.returns-clause-wrong
-returns-clause-wrong g c = λ is start first T tells.
-    let M = g.M.Machine in
-    let W = g.W.Target in
-    let self = c.args.self.now in
-    subst (λ b. HasToldAndWritten M.stands M.script W start first T self (not b) c.settle.new.target) is
-    (settled_as M.stands M.script W start first T self _ _ c.settle.result tells c.settle.ensures.settled)
-
-pub returns-clause-sure : goal.returns-clause-sure
-returns-clause-sure g c = λ is start first T tells.
-    let M = g.M.Machine in
-    let W = g.W.Target in
-    let text = said_of_frames ((M.script first).of_frame) T in
-    let written : Carries W start text (blank_page false) c.settle.new.target =
-    subst (λ b. Carries W start text (blank_page (not b)) c.settle.new.target) is (c.settle.ensures.settled start text tells.carried) in
     record {
-      within = tells.within;
-      mid = c.settle.new.target;
-      said = [];
-      wrote = wrote_all W start c.settle.new.target text written;
-      carried = nothing_said W c.settle.new.target c.settle.new.self (omega (arith, written.failures)) (c.settle.ensures.well is) (c.settle.ensures.blank is);
+      well = λ is start first T tells.
+          let now : HasToldAndWritten M.stands M.script W start first T self false c.settle.new.target =
+          subst (λ b. HasToldAndWritten M.stands M.script W start first T self (not b) c.settle.new.target) is
+          (settled_as M.stands M.script W start first T self _ _ c.settle.result tells c.settle.ensures.settled) in
+          (now, same_page M.stands M.script W start first T self c.settle.new.self c.settle.new.target now (c.settle.ensures.well is) (c.settle.ensures.blank is));
+      wrong = λ is start first T tells.
+          subst (λ b. HasToldAndWritten M.stands M.script W start first T self (not b) c.settle.new.target) is
+          (settled_as M.stands M.script W start first T self _ _ c.settle.result tells c.settle.ensures.settled);
+      sure = λ is start first T tells.
+          let text = said_of_frames ((M.script first).of_frame) T in
+          let written : Carries W start text (blank_page false) c.settle.new.target =
+          subst (λ b. Carries W start text (blank_page (not b)) c.settle.new.target) is (c.settle.ensures.settled start text tells.carried) in
+          record {
+            within = tells.within;
+            mid = c.settle.new.target;
+            said = [];
+            wrote = wrote_all W start c.settle.new.target text written;
+            carried = nothing_said W c.settle.new.target c.settle.new.self (omega (arith, written.failures)) (c.settle.ensures.well is) (c.settle.ensures.blank is);
+          };
+      kept = λ start first earlier sure.
+          record { within = sure.within; mid = sure.mid; said = sure.said; wrote = sure.wrote; carried = c.settle.ensures.no_more sure.mid sure.said sure.carried };
     }
-
-pub returns-clause-kept : goal.returns-clause-kept
-returns-clause-kept g c = λ start first earlier sure.
-    record { within = sure.within; mid = sure.mid; said = sure.said; wrote = sure.wrote; carried = c.settle.ensures.no_more sure.mid sure.said sure.carried }
