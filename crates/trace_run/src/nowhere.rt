@@ -3,7 +3,7 @@ ghost use Rattle.std.specs.Prelude.{None, [], false};
 
 use trace_io::{DeviceFault, Target};
 
-/// Takes nothing: each write and each flush fails, and is counted.
+/// A target that takes no byte. Each write and each flush fails, and the target counts these failures.
 #[derive(Drop)]
 pub struct Nowhere {
     failures: u64,

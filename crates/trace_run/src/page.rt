@@ -125,8 +125,8 @@ impl Page {
         true
     }
 
-    /// Whether text may be written: no write has failed. The target has counted few failures then: no run comes here with
-    /// more of them, since each begins at no more and ends with its first.
+    /// Whether text may be written: no write has failed. The target is asked for its count of failures, too, since a
+    /// write may raise it. Where no write has failed the count is as low as at the start of the run, and the answer is yes.
     #[inline(always)]
     fn may_write<W: Target>(&self, target: &W) -> bool
         ensures well { result ≡ true → self.now.failed ≡ false }
