@@ -24,7 +24,7 @@ use Rattle.trace_log.specs.Needing.{HasTextOf}
 use Rattle.trace_log.specs.Outcome.{Accepted, IsOutcome}
 use Rattle.trace_canon.specs.MemoryNeeded.{NeedsMemoryToCollect, NeedsMemoryToOrder}
 use Rattle.trace_canon.specs.MessageLines.{placing_script}
-use Rattle.trace_canon.specs.WrittenAtEnd.{LeavesOnce, WritesOnce}
+use Rattle.trace_canon.specs.WrittenAtEnd.{LeavesOnce, TextOfLog, WritesOnce}
 use Rattle.trace_log.specs.Settings.{Settings}
 use Rattle.trace_run.specs.Script.{Needing, RefusalText, answers_counts, command, needs_none, says_no_refusal, said_of_lines, whole_of_lines}
 use Rattle.trace_run.specs.proving.Scripts.{lenient}
@@ -96,23 +96,26 @@ canonical_in_memory limit settings log given (Err fault) old taken held old_is h
     known (TellsOutcome limit settings log) (NeedsMemoryForCanonicalLog limit settings log) fault tt is (λ read. reads_well failed (ap Err read))
     (λ why. inl (refused (ap Err why))) (λ why. inr (unwritten (ap Err why)))
 
--- where a text is written at the end alone, a failed write leaves one that has bytes
-left_some : {V : Type 0} (text : V → List ℕ) (Is : V → Summary → Type 0) (old new : List ℕ) (fault : Fault) → fault ≡ Write → LeavesOnce text Is fault old new
-    → (held : List ℕ) × (summary : Summary) × ((value : V) × Is value summary × (held ≡ text value)) × (0 < length held)
-left_some {V = V} text Is old new fault is left = by (subst (λ (f : Fault). LeavesOnce text Is f old new) is left)
-  where
-    by : LeavesOnce text Is Write old new → (held : List ℕ) × (summary : Summary) × ((value : V) × Is value summary × (held ≡ text value)) × (0 < length held)
-    by (value, summary, known_is, some, front) = (text value, summary, (value, known_is, refl), some)
+-- the text of a log with these counts
+abbrev IsTextWith : {V : Type 0} → TextOfLog V → List ℕ → List ℕ → Summary → Type 0
+IsTextWith {V = V} of log text summary = (value : V) × of.gives log value summary × (text ≡ of.text value)
 
-pub written_in_memory : {V : Type 0} (text : V → List ℕ) (Is : V → Summary → Type 0) (IsFault : Fault → Type 0) (NeedsMemory : Type 0) (answer : Result Summary Fault) (old taken held : List ℕ)
-    → IsFault Memory → old ≡ [] → taken ≡ held → FailedIf Read answer 0 0 → (answer ≡ Err Memory → NeedsMemory) → WritesOnce text Is IsFault answer old taken
-    → MatchResult answer (λ summary. (value : V) × Is value summary × (held ≡ text value))
-    (λ fault. IsFault (fault_in_memory fault) × IsOfMemory (NeedsMemory ⊎ HasBytes (λ said summary. (value : V) × Is value summary × (said ≡ text value))) (fault_in_memory fault))
-written_in_memory text Is IsFault NeedsMemory (Ok summary) old taken held memory old_is held_is failed refused (value, is, wrote) =
-    (value, is, sym held_is ∙ wrote ∙ ap (λ xs. xs ++ text value) old_is)
-written_in_memory {V = V} text Is IsFault NeedsMemory (Err fault) old taken held memory old_is held_is failed refused (is, left) =
-    known IsFault (NeedsMemory ⊎ HasBytes (λ said summary. (value : V) × Is value summary × (said ≡ text value))) fault memory is (λ read. reads_well failed (ap Err read))
-    (λ why. inl (refused (ap Err why))) (λ why. inr (left_some text Is old taken fault why left))
+-- where a text is written at the end alone, a failed write leaves one that has bytes
+left_some : {V : Type 0} (of : TextOfLog V) (log old new : List ℕ) (fault : Fault) → fault ≡ Write → LeavesOnce of log fault old new → HasBytes (IsTextWith of log)
+left_some of log old new fault is left = by (subst (λ (f : Fault). LeavesOnce of log f old new) is left)
+  where
+    by : LeavesOnce of log Write old new → HasBytes (IsTextWith of log)
+    by (value, summary, known_is, some, front) = (of.text value, summary, (value, known_is, refl), some)
+
+pub written_in_memory : {V : Type 0} (of : TextOfLog V) (log : List ℕ) (answer : Result Summary Fault) (old taken held : List ℕ)
+    → of.lacks log Memory → old ≡ [] → taken ≡ held → FailedIf Read answer 0 0 → (answer ≡ Err Memory → of.reading.needs log) → WritesOnce of log answer old taken
+    → MatchResult answer (λ summary. IsTextWith of log held summary)
+    (λ fault. of.lacks log (fault_in_memory fault) × IsOfMemory (of.reading.needs log ⊎ HasBytes (IsTextWith of log)) (fault_in_memory fault))
+written_in_memory of log (Ok summary) old taken held memory old_is held_is failed refused (value, is, wrote) =
+    (value, is, sym held_is ∙ wrote ∙ ap (λ xs. xs ++ of.text value) old_is)
+written_in_memory of log (Err fault) old taken held memory old_is held_is failed refused (is, left) =
+    known (of.lacks log) (of.reading.needs log ⊎ HasBytes (IsTextWith of log)) fault memory is (λ read. reads_well failed (ap Err read))
+    (λ why. inl (refused (ap Err why))) (λ why. inr (left_some of log old taken fault why left))
 
 -- nothing is told at the end of a log
 abbrev tells_no_end : List Entry → Summary → List ℕ

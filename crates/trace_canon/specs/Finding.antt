@@ -80,12 +80,6 @@ credit_line_text Json line = object_line (credit_object line)
 abbrev pub credit_lines_text : Notation → List CreditLine → List ℕ
 credit_lines_text notation lines = flat_map (credit_line_text notation) lines
 
--- What is answered on a log, and what is then written: its counts, and the text of its credit lines; else why it can't
--- be read.
-abbrev pub Finds : Notation → Settings → List ℕ → Result Summary Fault → List ℕ → List ℕ → Type 0
-Finds notation settings log =
-    WritesOnce (credit_lines_text notation) (IsFoundIn settings log) (IsUnreadFor when_lenient MESSAGE_LIMIT settings log)
-
 -- how a log is read for its credit lines: memory is needed where an answer is credited
 abbrev pub reading_to_find : Settings → WayOfReading
 reading_to_find settings =
@@ -99,6 +93,11 @@ text_of_credit_lines notation settings = record {
   lacks = IsUnreadFor when_lenient MESSAGE_LIMIT settings;
   reading = reading_to_find settings;
 }
+
+-- What is answered on a log, and what is then written: its counts, and the text of its credit lines; else why it can't
+-- be read.
+abbrev pub Finds : Notation → Settings → List ℕ → Result Summary Fault → List ℕ → List ℕ → Type 0
+Finds notation settings = WritesOnce (text_of_credit_lines notation settings)
 
 -- the run of a call that writes the text of a log's credit lines
 abbrev pub RanToFind : {R W : Type 0} → SourceGhosts R → TargetGhosts W → Notation → Settings

@@ -1,5 +1,5 @@
-pub mod MemoryNeeded
 pub mod ReadOnly
+pub mod MemoryNeeded
 pub mod WrittenAtEnd
 pub mod ExplainScript
 pub mod MessageLines

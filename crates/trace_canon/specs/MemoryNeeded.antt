@@ -7,6 +7,8 @@ use Rattle.uds_exchange.specs.Decider.{IsKept}
 use Rattle.uds_exchange.specs.Orderer.{IsHeld}
 use Rattle.trace_log.specs.Settings.{Settings}
 use Rattle.trace_log.specs.Needing.{HasFrame, IsKeptForMessage}
+use Rattle.trace_log.specs.Refusal.{IsNotRefusedWithin}
+use Rattle.trace_canon.specs.ReadOnly.{WayOfReading}
 
 -- The frame completes a message which is such behind the messages so far.
 abbrev pub CompletesSuch : (List Message → Message → Type 0) → ℕ → List Entry → Entry → Type 0
@@ -28,6 +30,14 @@ CompletesMessage limit T e = (bytes : List ℕ) × ((verdict limit T e).verdict 
 -- the log has a frame whose bytes are kept, or one that completes a message which is held
 abbrev pub NeedsMemoryToOrder : ℕ → Settings → List ℕ → Type 0
 NeedsMemoryToOrder limit = HasFrame (λ T e. IsKeptForMessage limit T e ⊎ CompletesHeld limit T e)
+
+-- how a log is read whose messages are put in order
+abbrev pub reading_to_order : ℕ → Settings → WayOfReading
+reading_to_order limit settings = record {
+  unrefused = IsNotRefusedWithin limit settings;
+  needs = NeedsMemoryToOrder limit settings;
+  max_bytes = settings.max_bytes;
+}
 
 -- the log has a frame whose bytes are kept, or one that completes any message
 abbrev pub NeedsMemoryToCollect : ℕ → Settings → List ℕ → Type 0

@@ -40,8 +40,8 @@
 //! | over logs in memory, seven of these | [`in_memory`] | `InMemory` |
 //! | laws of [`watch`] and of [`messages`] | [`laws`] | `Laws` |
 //!
-//! What a run comes to that writes a text at the end is in `WrittenAtEnd`, and of one that writes nothing in
-//! `ReadOnly`; for which frames a command needs memory, in `MemoryNeeded`.
+//! How a log is read, and what a run comes to that writes nothing, is in `ReadOnly`; what one comes to that writes a
+//! text at the end, in `WrittenAtEnd`; for which frames a command needs memory, in `MemoryNeeded`.
 //!
 //! What tells of a log while it comes is a machine of [`trace_run`](trace_run::Machine): those of the first four rows.
 //! So is what collects the meaning of a log: on it stand [`meaning_of`], [`compare`] and [`write_items`].

@@ -3,14 +3,14 @@ ghost use Rattle.std.specs.Prelude.{◌≡◌, ◌++◌, ℕ, List, OnOk, IfOk, 
 ghost use Rattle.direction.specs.Dir.{Message};
 ghost use Rattle.isotp_receive.specs.declared.TheConstants.{MESSAGE_LIMIT};
 ghost use Rattle.uds_exchange.specs.Meaning.{meaning, flattened};
-ghost use Rattle.trace_log.specs.Answers.{Answers, ReadsWhile, WritesEagerly};
+ghost use Rattle.trace_log.specs.Answers.{Answers, WritesEagerly};
 ghost use Rattle.trace_log.specs.CanonicalLog.{canonical_log, canonical_log_of_lines};
 ghost use Rattle.trace_log.specs.Devices.{AgreesWith, bytes_given, ReadFrom, WroteTo, HasLowCounts};
 ghost use Rattle.trace_log.specs.Needing.{HasTextOf};
-ghost use Rattle.trace_canon.specs.MemoryNeeded.{NeedsMemoryToOrder};
+ghost use Rattle.trace_canon.specs.MemoryNeeded.{reading_to_order};
+ghost use Rattle.trace_canon.specs.ReadOnly.{NeedsMemoryWhere, StopsNear};
 ghost use Rattle.trace_log.specs.declared.fault.Fault.TheVariants.{Memory, Write};
 ghost use Rattle.trace_log.specs.Laws.{IsCanonicalFor, Records, Certifies};
-ghost use Rattle.trace_log.specs.Refusal.{IsNotRefusedWithin};
 ghost use Rattle.trace_io.specs.Counted.{IsLowCount};
 
 use crate::canonical_sink::{say_due, say_held};
@@ -61,15 +61,11 @@ pub fn normalise<R: Source, W: Target>(
     ensures certificate { (log : List ℕ) → AgreesWith R.Source reader.old reader.new log
         → IfOk result (λ summary. Certifies MESSAGE_LIMIT config.now log summary) }
 
-    // A refused log is not read on: reading stops within one piece of what refuses it, so of all bytes given but the
-    // last 4,096 none does, and of all where a read failed.
-    ensures near { (log : List ℕ) → AgreesWith R.Source reader.old reader.new log
-        → ReadsWhile (IsNotRefusedWithin MESSAGE_LIMIT config.now log)
-        (bytes_given R.Source reader.old reader.new) (R.failures reader.old) (R.failures reader.new) }
-
-    // Memory is refused only for a log that needs it: for a message of several frames, or for one that is held.
-    ensures memory { (log : List ℕ) → AgreesWith R.Source reader.old reader.new log
-        → result ≡ Err Memory → NeedsMemoryToOrder MESSAGE_LIMIT config.now log }
+    // How the log was read: reading stops within one piece of what refuses it, and memory is refused only for a log
+    // that needs some, for a message of several frames or for one that is held.
+    ensures near { StopsNear R.Source (reading_to_order MESSAGE_LIMIT config.now) reader.old reader.new }
+    ensures memory { NeedsMemoryWhere R.Source (reading_to_order MESSAGE_LIMIT config.now) reader.old reader.new
+        (result ≡ Err Memory) }
 
     // Writing fails only where the lines read have a canonical line.
     ensures some { (log : List ℕ) → AgreesWith R.Source reader.old reader.new log

@@ -1,6 +1,7 @@
 -- The credit lines were found, or why not; their text was written, or a front of it.
 use Rattle.std.proofs.Common.{refl, rules}
 use Rattle.trace_log.proofs.Promises.{handed_on}
+use Rattle.trace_canon.specs.Finding.{text_of_credit_lines}
 use Rattle.trace_canon.proofs.LeftAlone.{left_alone}
 use Rattle.trace_canon.proofs.finding.find.Goals as goal
 
@@ -19,7 +20,7 @@ returns g c = record {
 pub returns-in_err-found : goal.returns-in_err-found
 returns-in_err-found g c = rw (handed_on c.from_residual.result _ c.from_residual.ensures.1) (record {
   ran = record {
-    answer = λ log agrees. (c.in_err-found.ensures.ran.answer log agrees, left_alone _ _ _ _ c.in_err-found.ensures.ran.never_write);
+    answer = λ log agrees. (c.in_err-found.ensures.ran.answer log agrees, left_alone (text_of_credit_lines c.args.notation c.args.config.now) log _ (g.W.Target.taken c.args.writer.now) c.in_err-found.ensures.ran.never_write);
     unwritten = λ other. refl;
     near = search rules;
     memory = search rules;

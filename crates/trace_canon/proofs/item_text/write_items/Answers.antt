@@ -1,6 +1,8 @@
 -- The session was read, or why not; the text of its items was written, or a front of it.
 use Rattle.std.proofs.Common.{refl, rules}
+use Rattle.isotp_receive.specs.declared.TheConstants.{MESSAGE_LIMIT}
 use Rattle.trace_log.proofs.Promises.{handed_on}
+use Rattle.trace_canon.specs.ItemText.{text_over_items}
 use Rattle.trace_canon.proofs.LeftAlone.{left_alone}
 use Rattle.trace_canon.proofs.item_text.write_items.Goals as goal
 
@@ -19,7 +21,7 @@ returns g c = record {
 pub returns-in_err-session : goal.returns-in_err-session
 returns-in_err-session g c = rw (handed_on c.from_residual.result _ c.from_residual.ensures.1) (record {
   ran = record {
-    answer = λ log agrees. (c.in_err-session.ensures.ran.answer log agrees, left_alone _ _ _ _ c.in_err-session.ensures.ran.never_write);
+    answer = λ log agrees. (c.in_err-session.ensures.ran.answer log agrees, left_alone (text_over_items (g.T.ItemText.text c.args.text.now) MESSAGE_LIMIT c.args.config.now) log _ (g.W.Target.taken c.args.writer.now) c.in_err-session.ensures.ran.never_write);
     unwritten = λ other. refl;
     near = search rules;
     memory = search rules;
