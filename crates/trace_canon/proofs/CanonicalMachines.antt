@@ -17,7 +17,7 @@ use Rattle.trace_canon.specs.proving.CanonicalScript.{progress_behind, lines_due
 use Rattle.trace_canon.specs.proving.Saying.{SaysDue}
 use Rattle.trace_log.specs.Settings.{Settings}
 use Rattle.trace_canon.specs.proving.Writing.{ProgressValue, start_of, text_from, progress_after}
-use Rattle.trace_canon.proofs.CanonicalWriting.{text_none, place_append}
+use Rattle.trace_canon.proofs.CanonicalWriting.{text_none, progress_append}
 use Rattle.trace_log.proofs.Promises.{messages_more, all_frames-append}
 
 -- the messages of a trace with one more frame, by what it did
@@ -52,7 +52,7 @@ says_next says settings config T e message orderer orderer_now progress progress
         ordered = ordered ∙ ap judged_orderer_after (sym next);
         same = same;
         at = at ∙ ap (λ c. progress_after c progress (all_frames MESSAGE_LIMIT due)) same ∙ ap (λ p. progress_after settings p (all_frames MESSAGE_LIMIT due)) stood_at
-            ∙ sym (place_append settings (start_of settings.max_bytes) (all_frames MESSAGE_LIMIT (early M)) (all_frames MESSAGE_LIMIT due))
+            ∙ sym (progress_append settings (start_of settings.max_bytes) (all_frames MESSAGE_LIMIT (early M)) (all_frames MESSAGE_LIMIT due))
             ∙ ap (progress_after settings (start_of settings.max_bytes)) (sym (all_frames-append MESSAGE_LIMIT (early M) due)) ∙ ap (progress_behind settings) (sym longer);
       },
       subst (λ text. says out text out_now)

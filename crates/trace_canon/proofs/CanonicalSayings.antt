@@ -13,7 +13,7 @@ use Rattle.uds_exchange.specs.declared.order_fault.OrderFault.{OrderFault}
 use Rattle.uds_exchange.specs.declared.order_fault.OrderFault.TheVariants as order_fault
 use Rattle.trace_canon.specs.proving.Writing.{text_from, progress_after}
 use Rattle.trace_canon.specs.declared.canonical_sink.CanonicalSink.{CanonicalSink}
-use Rattle.trace_canon.proofs.CanonicalWriting.{text_none, place_none, text_append, place_append}
+use Rattle.trace_canon.proofs.CanonicalWriting.{text_none, progress_none, text_append, progress_append}
 
 module _ {S : Type 0} (says : S → List ℕ → S → Type 0) (nothing : (s : S) → says s [] s)
     (onward : (s m t : S) (a b : List ℕ) → says s a m → says m b t → says s (a ++ b) t) where
@@ -37,7 +37,7 @@ module _ {S : Type 0} (says : S → List ℕ → S → Type 0) (nothing : (s : S
     same_out = refl;
     same_progress = refl;
     settings = refl;
-    progress = sym (place_none s.config s.progress.now);
+    progress = sym (progress_none s.config s.progress.now);
     said = subst (λ x. says s.out.now x s.out.now) (sym (text_none s.config s.progress.now)) (nothing s.out.now);
   })
   said_all (message ∷ later) s t (between, one, rest) =
@@ -53,7 +53,7 @@ module _ {S : Type 0} (says : S → List ℕ → S → Type 0) (nothing : (s : S
         same_progress = after.same_progress ∙ one.1;
         settings = after.settings ∙ same;
         progress = after.progress ∙ ap (λ c. progress_after c between.progress.now more) same ∙ ap (λ p. progress_after s.config p more) at
-            ∙ sym (place_append s.config s.progress.now first more);
+            ∙ sym (progress_append s.config s.progress.now first more);
         said = subst (λ x. says s.out.now x t.out.now) (sym (text_append s.config s.progress.now first more))
             (onward s.out.now between.out.now t.out.now (text_from s.config s.progress.now first) (text_from s.config (progress_after s.config s.progress.now first) more) one.4
             (subst (λ x. says between.out.now x t.out.now) here after.said));

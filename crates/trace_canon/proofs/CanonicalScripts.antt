@@ -21,7 +21,7 @@ use Rattle.trace_log.specs.Needing.{HasTextOf}
 use Rattle.trace_run.specs.Script.{said_after, said_of_frames, said_of_lines, whole_of_lines}
 use Rattle.trace_run.specs.Ran.{AnswersAndWrites, EndsWith, FailsToWrite, WritesSaid, WritesSaidAndRefusal, WritesFrontOfWhole, WritesSaidEagerly}
 use Rattle.trace_canon.specs.proving.Writing.{ProgressValue, start_of, text_from, progress_after}
-use Rattle.trace_canon.proofs.CanonicalWriting.{text_none, text_append, place_append}
+use Rattle.trace_canon.proofs.CanonicalWriting.{text_none, text_append, progress_append}
 use Rattle.trace_canon.proofs.Answered.{answers_accepted, answers_output_limit}
 use Rattle.trace_canon.proofs.FittingLines.{over_when, within_when}
 use Rattle.trace_run.proofs.Promises.{front_of_whole}
@@ -73,11 +73,11 @@ canonical_tells_early settings T =
     ap (λ x. x ++ said_of_frames ((canonical_script settings).of_frame) T) (sym (text_none settings (start_of settings.max_bytes))) ∙ from_there settings [] T
 
 -- where the text stands at the end
-pub place_at_end : (settings : Settings) (M : List Message)
+pub progress_at_end : (settings : Settings) (M : List Message)
     → progress_after settings (progress_behind settings (early M)) (all_frames MESSAGE_LIMIT (held M)) ≡ progress_behind settings (flattened (meaning M))
-place_at_end settings M =
+progress_at_end settings M =
     let begin = start_of settings.max_bytes in
-    sym (place_append settings begin (all_frames MESSAGE_LIMIT (early M)) (all_frames MESSAGE_LIMIT (held M)))
+    sym (progress_append settings begin (all_frames MESSAGE_LIMIT (early M)) (all_frames MESSAGE_LIMIT (held M)))
     ∙ ap (progress_after settings begin) (sym (all_frames-append MESSAGE_LIMIT (early M) (held M))) ∙ ap (progress_behind settings) (early_then_held M)
 
 -- a line did not fit
@@ -86,7 +86,7 @@ pub over_at_end : (settings config : Settings) (T : List Entry) (orderer : Judge
 over_at_end settings config T orderer progress after stands at =
     let frames = all_frames MESSAGE_LIMIT (held (messages MESSAGE_LIMIT T)) in
     ap (λ (p : ProgressValue). p.is_full)
-    (at ∙ ap (λ s. progress_after s progress frames) stands.same ∙ ap (λ p. progress_after settings p frames) stands.at ∙ place_at_end settings (messages MESSAGE_LIMIT T))
+    (at ∙ ap (λ s. progress_after s progress frames) stands.same ∙ ap (λ p. progress_after settings p frames) stands.at ∙ progress_at_end settings (messages MESSAGE_LIMIT T))
 
 -- what was said of messages is what fits of their canonical log
 said_fits : (settings : Settings) (put : List Message) → text_from settings (start_of settings.max_bytes) (all_frames MESSAGE_LIMIT put) ≡ fitting settings (canonical_log MESSAGE_LIMIT settings put)

@@ -6,7 +6,7 @@ use Rattle.direction.specs.declared.Dir.{Dir}
 use Rattle.trace_log.specs.CanonicalLog.{canonical_lines}
 use Rattle.trace_log.specs.Settings.{Settings}
 use Rattle.trace_canon.specs.proving.Writing.{ProgressValue, after_line, line_at, text_from, progress_after}
-use Rattle.trace_canon.proofs.CanonicalWriting.{text_none, place_none, text_step, place_step, place_stop}
+use Rattle.trace_canon.proofs.CanonicalWriting.{text_none, progress_none, text_step, progress_step, progress_stop}
 
 module _ (settings : Settings) where
   -- the lines of frames, all of them
@@ -25,7 +25,7 @@ module _ (settings : Settings) where
   -- a line did not fit
   pub over_when : (progress : ProgressValue) (frames : List (Dir × List ℕ)) → progress.is_full ≡ false → (progress_after settings progress frames).is_full ≡ true
       → progress.room < length (lines_of progress frames)
-  over_when progress [] before over = absurd (cc (place_none settings progress))
+  over_when progress [] before over = absurd (cc (progress_none settings progress))
   over_when progress (frame ∷ later) before over =
       let line = line_at settings progress.lines frame in
       let next = after_line progress line in
@@ -33,7 +33,7 @@ module _ (settings : Settings) where
       elim (cases_lt progress.room (length line)) [
         | inl long ↦ omega arith
         | inr fits ↦
-            let rest = over_when next later before (sym (ap (λ p. p.is_full) (place_step settings progress frame later fits)) ∙ over) in
+            let rest = over_when next later before (sym (ap (λ p. p.is_full) (progress_step settings progress frame later fits)) ∙ over) in
             omega arith
       ]
 
@@ -48,9 +48,9 @@ module _ (settings : Settings) where
       let next = after_line progress line in
       let len = ap length (lines_step progress frame later) ∙ length-append line (lines_of next later) in
       elim (cases_lt progress.room (length line)) [
-        | inl long ↦ absurd (cc (place_stop settings progress frame later long))
+        | inl long ↦ absurd (cc (progress_stop settings progress frame later long))
         | inr fits ↦
-            let rest = within_when next later before (sym (ap (λ p. p.is_full) (place_step settings progress frame later fits)) ∙ within) in (
+            let rest = within_when next later before (sym (ap (λ p. p.is_full) (progress_step settings progress frame later fits)) ∙ within) in (
               omega (arith, rest.0),
               text_step settings progress frame later fits ∙ ap (λ x. line ++ x) rest.1 ∙ sym (lines_step progress frame later),
             )

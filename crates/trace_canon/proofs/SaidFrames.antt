@@ -4,7 +4,7 @@ use Rattle.direction.specs.declared.Dir.{Dir}
 use Rattle.trace_log.specs.Settings.{Settings}
 use Rattle.trace_canon.specs.proving.Saying.{SaysFront}
 use Rattle.trace_canon.specs.proving.Writing.{ProgressValue, after_line, filled_up, line_at, text_from, progress_after}
-use Rattle.trace_canon.proofs.CanonicalWriting.{text_step, place_step, text_stop, place_stop, text_full, place_full}
+use Rattle.trace_canon.proofs.CanonicalWriting.{text_step, progress_step, text_stop, progress_stop, text_full, progress_full}
 
 module _ {S : Type 0} (says : S → List ℕ → S → Type 0) (nothing : (s : S) → says s [] s)
     (onward : (s m t : S) (a b : List ℕ) → says s a m → says m b t → says s (a ++ b) t) (settings : Settings) where
@@ -40,7 +40,7 @@ module _ {S : Type 0} (says : S → List ℕ → S → Type 0) (nothing : (s : S
           text_step settings progress frame later room ∙ ap (λ (l : List ℕ). l ++ text_from settings (after_line progress l) later) (sym is),
           said,
         );
-        stands = place_step settings progress frame later room ∙ ap (λ (l : List ℕ). progress_after settings (after_line progress l) later) (sym is);
+        stands = progress_step settings progress frame later room ∙ ap (λ (l : List ℕ). progress_after settings (after_line progress l) later) (sym is);
       }
 
   -- a frame whose line does not
@@ -48,7 +48,7 @@ module _ {S : Type 0} (says : S → List ℕ → S → Type 0) (nothing : (s : S
       → SaysFront says settings progress out (frame ∷ later) (filled_up progress) out later
   line_stops progress out frame later over = record {
     said = ([], text_stop settings progress frame later over ∙ sym (text_full settings (filled_up progress) later refl), nothing out);
-    stands = place_stop settings progress frame later over ∙ sym (place_full settings progress later);
+    stands = progress_stop settings progress frame later over ∙ sym (progress_full settings progress later);
   }
 
   -- all of them, where nothing of what is left is said

@@ -1,5 +1,6 @@
--- The text that places the messages of a log: a line for each message that is delivered, in the order of delivery, in
--- words or as an object of JSON.
+-- What `messages` writes: a line for each message that is delivered, in the order of delivery, in words or as an object
+-- of JSON. It tells the places of the first frame of the message and of its last one. A *place* is that of a frame: its
+-- line and its time.
 use Rattle.std.specs.Prelude.{ℕ, Bool, true, false, List, [], ◌∷◌, ◌++◌, codes, if◌then◌else◌}
 use Rattle.std.specs.Fmt.{decimal}
 use Rattle.direction.specs.Dir.{Message}
@@ -17,7 +18,7 @@ use Rattle.trace_text.specs.declared.notation.Notation.TheVariants.{Text, Json}
 use Rattle.trace_run.specs.Script.{Script}
 use Rattle.trace_text.specs.Words.{bytes_text, direction_text, role_text, stamp_text}
 
--- where a frame stands: its line and its time
+-- the place of a frame
 abbrev pub place_of : Entry → FramePlace
 place_of e = record { line = e.line; micros = e.micros }
 
@@ -27,7 +28,7 @@ extent_text start end =
     codes " lines " ++ decimal start.line ++ codes " to " ++ decimal end.line
     ++ codes " at " ++ stamp_text start.micros ++ codes " to " ++ stamp_text end.micros
 
--- A message that is delivered, with its place.
+-- A message that is delivered, with its places.
 pub record PlacedMessage : Type 0 where
   -- the number of its item, and its step, which is its role in that item
   pub number : ℕ

@@ -1,4 +1,4 @@
-//! Canonical lines, said as soon as the place of their messages is known.
+//! Canonical lines, each said as soon as all that come before it are known: then its message is *due*.
 ghost use Rattle.std.specs.Prelude.{◌≡◌, ◌≤◌, ℕ, List, [], ◌∷◌, ◌++◌, length, false, OnOk, OnErr};
 ghost use Rattle.can_log.specs.Canonical.{canonical_line, canonical_name};
 ghost use Rattle.can_log.specs.declared.frame.Id.TheVariants.{Std, Ext};
@@ -30,7 +30,7 @@ use uds_exchange::{Judged, JudgedOrderer, MessageSink, NoFault, OrderFault};
 /// How many bytes a canonical line has beside what its identifier gives.
 const NAMELESS: usize = BASE_LINE - BASE_NAME;
 
-/// Takes one more message, and says the lines of all whose place is now known.
+/// Takes one more message, and says the lines of all that are now due.
 pub(crate) fn say_due<S: TextSink>(
     out: &mut S,
     config: &Config,
@@ -233,10 +233,9 @@ fn extended_name_in_memory(number: u32) -> [u8; EXTENDED_NAME]
     extended_name(number)
 }
 
-/// Says the lines of the full consecutive frames of a sender that come next, by the name of the sender, as far as there
-/// is room, and answers the frames that are left. The three parts of a line are said as they lie: put together first,
-/// it would be loaded by a covering load. The frames are moved in and out, so that none of their parts has to lie in
-/// memory meanwhile.
+/// Does what [`say_full_frames`] does, by what the sender's identifier gives of each line. The three parts of a line
+/// are said as they lie: put together first, it would be loaded by a covering load. The frames are moved in and out, so
+/// that none of their parts has to lie in memory meanwhile.
 #[inline(always)]
 fn say_stretch<'a, S: TextSink, const NAME: usize>(
     out: &mut S,

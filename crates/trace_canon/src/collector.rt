@@ -5,7 +5,7 @@
 //! reads on, since a later line may still refuse the log, and that refusal is what is told.
 ghost use Rattle.std.specs.Prelude.{◌≡◌};
 ghost use Rattle.isotp_receive.specs.declared.TheConstants.{MESSAGE_LIMIT};
-ghost use Rattle.trace_canon.specs.proving.SessionScript.{has_place};
+ghost use Rattle.trace_canon.specs.proving.SessionScript.{is_in_meaning};
 ghost use Rattle.trace_canon.specs.Sessions.{GivesMeaning, GivesSession, RanToCollect};
 ghost use Rattle.trace_log.specs.Devices.{HasLowCounts};
 ghost use Rattle.trace_log.specs.Settings.{AreSettings};
@@ -162,7 +162,7 @@ impl Collector {
             → HaveLengths self.now.config (flattened (meaning M)) size
             → HaveLengths self.now.config (flattened (meaning (M ++ sent message.entry ∷ []))) (size + result) }
     {
-        if has_place(message.step) {
+        if is_in_meaning(message.step) {
             lines_length(&self.config, message.dir, message.bytes)
         } else {
             0
@@ -170,9 +170,9 @@ impl Collector {
     }
 }
 
-/// Whether a message with this step has a place in the meaning.
-fn has_place(step: Step) -> bool
-    ensures { result ≡ has_place step }
+/// Whether a message with this step is in the meaning: all are but those that are removed.
+fn is_in_meaning(step: Step) -> bool
+    ensures { result ≡ is_in_meaning step }
 {
     match step {
         Step::Removed => false,

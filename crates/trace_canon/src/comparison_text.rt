@@ -74,12 +74,12 @@ fn say_lines<S: TextSink>(compared: &Compared, shows_items: bool, out: &mut S)
     }
 }
 
-/// Says the items of both logs at a place.
-fn say_items_at<S: TextSink>(compared: &Compared, place: usize, out: &mut S)
-    ensures { S.says out.old (shown_lines place compared.now.left.meaning compared.now.right.meaning) out.new }
+/// Says the items of both logs at an index.
+fn say_items_at<S: TextSink>(compared: &Compared, index: usize, out: &mut S)
+    ensures { S.says out.old (shown_lines index compared.now.left.meaning compared.now.right.meaning) out.new }
 {
     say_text(out, "left: ");
-    say_item_at(&compared.left.meaning, place, Notation::Text, out);
+    say_item_at(&compared.left.meaning, index, Notation::Text, out);
     say_text(out, "right: ");
-    say_item_at(&compared.right.meaning, place, Notation::Text, out);
+    say_item_at(&compared.right.meaning, index, Notation::Text, out);
 }

@@ -1,4 +1,4 @@
-//! The messages of a log, with their places, as objects of JSON.
+//! The line of a message as an object of JSON.
 ghost use Rattle.trace_text.specs.Json.{object_line};
 ghost use Rattle.trace_canon.specs.MessageLines.{judged_at, placed_members};
 

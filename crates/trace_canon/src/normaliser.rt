@@ -1,4 +1,5 @@
-//! `normalise`: a machine that says the canonical log.
+//! `normalise`: a machine that says the canonical log. The other commands promise a record that several of them share;
+//! `normalise` alone writes a canonical log, so what it promises stands clause by clause at its call.
 ghost use Rattle.std.specs.Prelude.{◌≡◌, ◌++◌, ℕ, List, OnOk, IfOk, Err};
 ghost use Rattle.direction.specs.Dir.{Message};
 ghost use Rattle.isotp_receive.specs.declared.TheConstants.{MESSAGE_LIMIT};
@@ -22,7 +23,7 @@ use trace_log::{Config, Fault, Summary};
 use trace_run::{Glimpse, Machine, NoAnswer, Seen, run};
 use uds_exchange::JudgedOrderer;
 
-/// Reads a log and writes the canonical lines of its messages, each as soon as its place is known.
+/// Reads a log and writes the canonical lines of its messages, each as soon as all that come before it are known.
 ///
 /// The target is not flushed.
 pub fn normalise<R: Source, W: Target>(
@@ -34,15 +35,12 @@ pub fn normalise<R: Source, W: Target>(
     requires reader { HasLowCounts R.Source reader.old }
     requires writer { IsLowCount (W.failures writer.old) }
 
-    // The other commands share what they promise; `normalise` alone writes a canonical log, so its clauses stand here.
-    //
     // What is answered and written, for each log with which the bytes that were read agree.
     ensures answer { (log : List ℕ) → AgreesWith R.Source reader.old reader.new log
         → Answers MESSAGE_LIMIT config.now log (bytes_given R.Source reader.old reader.new)
         result (W.taken writer.old) (W.taken writer.new) }
 
-    // For who follows a log that is still being recorded: before each read all is written whose place the lines so far
-    // decide.
+    // For who follows a log that is still being recorded: before each read all is written that the lines so far decide.
     ensures eager { (log : List ℕ) → AgreesWith R.Source reader.old reader.new log
         → WritesEagerly MESSAGE_LIMIT config.now log (bytes_given R.Source reader.old reader.new)
         (W.taken writer.old) (W.taken writer.new) }
@@ -83,7 +81,7 @@ pub fn normalise<R: Source, W: Target>(
     run(alloc, config, machine, reader, writer)
 }
 
-/// Says the canonical lines of the messages, each as soon as its place is known.
+/// Says the canonical lines of the messages, each as soon as all that come before it are known.
 #[derive(Drop)]
 pub(crate) struct Normaliser {
     pub orderer: JudgedOrderer,

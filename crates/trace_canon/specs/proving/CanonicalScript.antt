@@ -47,7 +47,7 @@ pub record StandsCanonical (settings : Settings) (T : List Entry) (orderer : Jud
   pub same : config ≡ settings
   pub at : progress ≡ progress_behind settings (early (messages MESSAGE_LIMIT T))
 
--- the lines of the messages of a trace whose place is known, as far as there is room
+-- the lines of the messages of a trace that are early, as far as there is room
 abbrev pub text_of_early : Settings → List Entry → List ℕ
 text_of_early settings T =
     text_from settings (start_of settings.max_bytes) (all_frames MESSAGE_LIMIT (early (messages MESSAGE_LIMIT T)))

@@ -1,4 +1,4 @@
--- Devices of proof: frames, and the messages whose place is known with one more, said as canonical lines.
+-- Devices of proof: frames, and the messages that are due with one more, said as canonical lines.
 use Rattle.std.specs.Prelude.{◌≡◌, ℕ, List, ◌++◌}
 use Rattle.direction.specs.Dir.{Message}
 use Rattle.direction.specs.declared.Dir.{Dir}

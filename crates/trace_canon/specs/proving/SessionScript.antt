@@ -20,13 +20,13 @@ use Rattle.trace_canon.specs.proving.Measuring.{HaveLengths}
 abbrev pub fits_within : Settings → List ItemValue → Bool
 fits_within settings items = nat_le (length (canonical_log MESSAGE_LIMIT settings (flattened items))) settings.max_bytes
 
--- a message with this step has a place in the meaning
-abbrev pub has_place : Step → Bool
-has_place (step.Request service) = true
-has_place step.Answer = true
-has_place step.Removed = false
-has_place step.Hold = true
-has_place step.Pass = true
+-- a message with this step is in the meaning
+abbrev pub is_in_meaning : Step → Bool
+is_in_meaning (step.Request service) = true
+is_in_meaning step.Answer = true
+is_in_meaning step.Removed = false
+is_in_meaning step.Hold = true
+is_in_meaning step.Pass = true
 
 -- What is kept of these messages: all that they mean and how long its canonical log is, while that is within the limit;
 -- else no item, and that it is longer. So what is held never has a canonical log above the limit.

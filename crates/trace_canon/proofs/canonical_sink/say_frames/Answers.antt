@@ -2,7 +2,7 @@
 use Rattle.std.proofs.Common.{◌∷◌, refl, ap, sym, ◌∙◌}
 use Rattle.trace_canon.specs.proving.Saying.{SaysFront}
 use Rattle.trace_canon.specs.proving.Writing.{text_from, progress_after}
-use Rattle.trace_canon.proofs.CanonicalWriting.{text_none, place_none, text_full, place_full}
+use Rattle.trace_canon.proofs.CanonicalWriting.{text_none, progress_none, text_full, progress_full}
 use Rattle.trace_canon.proofs.SaidFrames.{more_said, all_lines_said}
 use Rattle.trace_canon.proofs.canonical_sink.say_frames.Given.{Over}
 use Rattle.trace_canon.proofs.canonical_sink.say_frames.Goals.{After-say_frame}
@@ -29,7 +29,7 @@ returns-then-not-say_frame-clause-progress g c =
     let settings = c.args.config.now in
     let full = c.say_frame.ensures.over c.if-not-say_frame.true in
     let front = one_more g (goal.at.returns-then-not-say_frame-clause-progress g c).After-say_frame in
-    sym (front.stands ∙ ap (λ p. progress_after settings p c.next.new.self) full ∙ place_full settings c.frames.progress c.next.new.self ∙ sym full)
+    sym (front.stands ∙ ap (λ p. progress_after settings p c.next.new.self) full ∙ progress_full settings c.frames.progress c.next.new.self ∙ sym full)
 
 pub frames-preserved-then-ne : goal.frames-preserved-then-ne
 frames-preserved-then-ne g c =
@@ -49,4 +49,4 @@ returns-clause-says g c =
 pub returns-clause-progress : goal.returns-clause-progress
 returns-clause-progress g c =
     let settings = c.args.config.now in
-    sym (c.frames.invariant.stands ∙ ap (progress_after settings c.frames.progress) c.in_default.ensures.steps.0 ∙ place_none settings c.frames.progress)
+    sym (c.frames.invariant.stands ∙ ap (progress_after settings c.frames.progress) c.in_default.ensures.steps.0 ∙ progress_none settings c.frames.progress)

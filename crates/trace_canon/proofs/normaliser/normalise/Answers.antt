@@ -2,13 +2,13 @@
 use Rattle.std.proofs.Common.{refl, sym, ◌∙◌}
 use Rattle.trace_canon.specs.proving.Writing.{start_of}
 use Rattle.trace_canon.proofs.CanonicalScripts.{canonical_tells_the_same, unwritten_some, canonical_again, recording_again, answer_is_certificate, writes_eagerly_told}
-use Rattle.trace_canon.proofs.CanonicalWriting.{place_none}
+use Rattle.trace_canon.proofs.CanonicalWriting.{progress_none}
 use Rattle.trace_canon.proofs.normaliser.normalise.Goals as goal
 
 pub run-requires-clause-machine : goal.run-requires-clause-machine
 run-requires-clause-machine g c =
     let settings = c.args.config.now in
-    record { ordered = c.new.ensures; same = refl; at = c.start.ensures.progress ∙ sym (place_none settings (start_of settings.max_bytes)) }
+    record { ordered = c.new.ensures; same = refl; at = c.start.ensures.progress ∙ sym (progress_none settings (start_of settings.max_bytes)) }
 
 pub returns-clause-answer : goal.returns-clause-answer
 returns-clause-answer g c = λ log agrees.
