@@ -150,9 +150,9 @@ told_in_memory of_frame at_the_end refusal needs NeedsMemory limit settings log 
     (λ why. unwritten (subst (λ (f : Fault). AnswersAndWrites (command (lenient of_frame at_the_end) refusal answers_counts needs) limit settings log given (Err f) old taken) why is))
 
 -- the lines of messages
-pub placed_in_memory : (notation : Notation) (limit : ℕ) (settings : Settings) (log : List ℕ) (given : ℕ) (old new : List ℕ)
+pub message_lines_in_memory : (notation : Notation) (limit : ℕ) (settings : Settings) (log : List ℕ) (given : ℕ) (old new : List ℕ)
     → FailsToWrite (command (placing_script notation limit) says_no_refusal answers_counts needs_none) limit settings log given old new → NeedsMemoryForPlacing notation limit settings log
-placed_in_memory notation limit settings log given old new fails = inr (told_some ((placing_script notation limit).of_frame) limit settings log given old new fails)
+message_lines_in_memory notation limit settings log given old new fails = inr (told_some ((placing_script notation limit).of_frame) limit settings log given old new fails)
 
 pub meaning_in_memory : (limit : ℕ) (settings : Settings) (log : List ℕ) (answer : Result (List ItemValue) Fault) → FailedIf Read answer 0 0
     → IfErr answer (λ fault. fault ≢ Write) → (answer ≡ Err Memory → NeedsMemoryToCollect limit settings log) → GivesMeaning limit settings log answer → MeansInMemory limit settings log answer

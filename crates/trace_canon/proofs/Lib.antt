@@ -13,7 +13,7 @@ pub mod CanonicalScripts
 pub mod MovedStarts
 pub mod MessagePlaces
 pub mod FirstFrames
-pub mod PlacingScripts
+pub mod SaidMessages
 pub mod Collecting
 pub mod SessionScripts
 pub mod WatchScripts

@@ -35,8 +35,8 @@ pub record IsOfMemory (NeedsMemory : Type 0) (fault : Fault) : Type 0 where
   pub no_write : fault ≢ Write
   pub memory : fault ≡ Memory → NeedsMemory
 
--- the log is refused for what the fault tells, or memory was refused, which it needs. Here and below a need is said of a
--- limit, settings and a log, so that a clause tells these once and names its need by one word.
+-- the log is refused for what the fault tells, or memory was refused, which it needs. Here and below a need is said of
+-- a limit, settings and a log, so that a clause tells these once and names its need by one word.
 abbrev pub IsRefused : (ℕ → Settings → List ℕ → Type 0) → ℕ → Settings → List ℕ → Fault → Type 0
 IsRefused NeedsMemory limit settings log fault =
     TellsOutcome limit settings log fault × IsOfMemory (NeedsMemory limit settings log) fault
@@ -63,7 +63,7 @@ IsToldWith script limit settings log text summary =
     (meanings : List (Option Stamped)) × IsReadAs settings log (Ok meanings)
     × (summary ≡ summary_of limit settings log meanings) × (text ≡ whole_of_lines script limit settings log meanings)
 
--- the log can be read and has these counts, and this places its messages in this notation
+-- the log can be read and has these counts, and these are the lines of its messages in this notation
 abbrev pub IsPlacingWith : Notation → ℕ → Settings → List ℕ → List ℕ → Summary → Type 0
 IsPlacingWith notation limit = IsToldWith (placing_script notation limit) limit
 

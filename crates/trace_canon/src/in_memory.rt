@@ -13,8 +13,8 @@ use crate::comparing::{Compared, Comparison, compare};
 use crate::explainer::explain;
 use crate::finding::find;
 use crate::lister::list;
+use crate::message_lines::messages;
 use crate::normaliser::normalise;
-use crate::placer::messages;
 use std::alloc::Global;
 use trace_io::{Bytes, Writing};
 use trace_log::{CompareFault, Config, Fault, Summary};
@@ -70,7 +70,7 @@ pub fn item_list(
     counted_text(answer, writer.into_inner())
 }
 
-/// A line for each message of a log, with its place, as [`messages`](crate::messages) writes them.
+/// The line of each message of a log, as [`messages`](crate::messages) writes them.
 pub fn message_lines(
     alloc: Global,
     config: &Config,

@@ -30,7 +30,7 @@
 //! |---|---|---|
 //! | [`normalise`] | `normaliser`, `canonical_sink`, `progress`, `length` | `Answers`, `Outcome`, `CanonicalLog` of `trace_log` |
 //! | [`explain`] | `explainer` | `ExplainScript` |
-//! | [`messages`] | `placer`, `reception_starts`, `message_objects`, `message_parts` | `MessageLines`, `ReceptionStarts` |
+//! | [`messages`] | `message_lines`, `reception_starts`, `message_objects`, `message_parts` | `MessageLines`, `ReceptionStarts` |
 //! | [`watch`] | `watcher` | `WatchScript` |
 //! | [`meaning_of`] | `collector`, `length` | `Sessions` |
 //! | [`compare`] | `comparing` | `Compared` |
@@ -66,10 +66,10 @@ mod item_text;
 pub mod laws;
 mod length;
 mod lister;
+mod message_lines;
 mod message_objects;
 mod message_parts;
 mod normaliser;
-mod placer;
 mod progress;
 pub mod reception_starts;
 mod watcher;
@@ -81,6 +81,6 @@ pub use explainer::explain;
 pub use finding::find;
 pub use item_text::{ItemText, write_items};
 pub use lister::list;
+pub use message_lines::messages;
 pub use normaliser::normalise;
-pub use placer::messages;
 pub use watcher::watch;

@@ -1,7 +1,7 @@
 -- The parts that are said are the object of the definition.
 use Rattle.std.proofs.Common.{subst}
 use Rattle.uds_exchange.specs.Judging.{sent}
-use Rattle.trace_canon.proofs.PlacingScripts.{object_parts}
+use Rattle.trace_canon.proofs.SaidMessages.{object_parts}
 use Rattle.trace_canon.proofs.message_objects.say_message_object.Goals as goal
 
 pub returns : goal.returns

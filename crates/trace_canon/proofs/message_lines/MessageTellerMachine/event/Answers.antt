@@ -1,8 +1,8 @@
 -- The message that a frame completes is said with the place of its first frame; then the starts are moved.
 use Rattle.std.proofs.Common.{subst, sym}
 use Rattle.trace_run.proofs.Promises.{completes_judged}
-use Rattle.trace_canon.proofs.PlacingScripts.{judged_said, nothing_said}
-use Rattle.trace_canon.proofs.placer.PlacerMachine.event.Goals as goal
+use Rattle.trace_canon.proofs.SaidMessages.{judged_said, nothing_said}
+use Rattle.trace_canon.proofs.message_lines.MessageTellerMachine.event.Goals as goal
 
 pub returns-in-Some-clause-ok : goal.returns-in-Some-clause-ok
 returns-in-Some-clause-ok g c = λ start T e seen stood.

@@ -1,4 +1,5 @@
-//! `messages`: a machine that says each message with its place in the log, as it is delivered.
+//! `messages`: a machine that says the line of each message, as it is delivered: with the places of its first frame and
+//! of its last one, which are where these stand in the log.
 ghost use Rattle.isotp_receive.specs.declared.TheConstants.{MESSAGE_LIMIT};
 ghost use Rattle.trace_canon.specs.MessageLines.{judged_at, placed_line, placed_text, placing_script};
 ghost use Rattle.trace_run.specs.Script.{answers_counts, command, needs_none, says_no_refusal};
@@ -38,7 +39,7 @@ pub fn messages<R: Source, W: Target>(
         (command (placing_script notation MESSAGE_LIMIT) says_no_refusal answers_counts needs_none)
         config.now reader.old writer.old result reader.new writer.new }
 {
-    let machine = Placer {
+    let machine = MessageTeller {
         notation,
         begun: ReceptionStarts::start(),
     };
@@ -47,20 +48,20 @@ pub fn messages<R: Source, W: Target>(
 
 /// Says the line of each message. It keeps no message.
 #[derive(Drop)]
-pub(crate) struct Placer {
+pub(crate) struct MessageTeller {
     pub notation: Notation,
     pub begun: ReceptionStarts,
 }
 
-impl Machine for Placer {
+impl Machine for MessageTeller {
     ghost use Rattle.isotp_receive.specs.declared.TheConstants.{MESSAGE_LIMIT};
-    ghost use Rattle.trace_canon.specs.proving.ReceptionStarts.{PlacesMessages};
+    ghost use Rattle.trace_canon.specs.proving.MessageTelling.{TellsMessages};
     ghost use Rattle.trace_canon.specs.MessageLines.{placing_script};
     ghost use Rattle.trace_run.specs.Script.{answers_counts, needs_none};
 
     type Answer = Summary;
 
-    ghost stands = { λ start T now. PlacesMessages start.notation T now.notation now.begun };
+    ghost stands = { λ start T now. TellsMessages start.notation T now.notation now.begun };
 
     ghost script = { λ start. placing_script start.notation MESSAGE_LIMIT };
 
