@@ -1,7 +1,7 @@
--- The credit lines of a log, whatever identifiers it has, and the text of them that `find` writes. An answer is credited
--- to the identifier that last asked for its service; a credit line is a pair of identifiers, one that asks and one that
--- answers it, with the number of the answers so credited. No length that is announced refuses a log, and of the settings
--- the limit alone counts.
+-- The credit lines of a log, whatever identifiers it has, and the text of them that `find` writes. An answer is
+-- credited to the identifier that last asked for its service; a *credit line* is a pair of identifiers, one that asks
+-- and one that answers it, with the number of the answers so credited. No length that is announced refuses a log, and
+-- of the settings the limit alone counts.
 use Rattle.std.specs.Prelude.{◌≡◌, ℕ, List, [], ◌∷◌, ◌++◌, length, codes, Option, Some, None, Result, Ok, Err}
 use Rattle.std.specs.Fmt.{decimal}
 use Rattle.std.specs.List.{flat_map}

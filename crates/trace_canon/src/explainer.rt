@@ -21,7 +21,7 @@ use trace_text::{Notation, Remark, say_remark};
 /// Reads a log and writes a line for each reception that ended without its message and for each frame that was dropped,
 /// as they come; then the receptions that stand at the end, and the counts. In words or as objects of JSON.
 ///
-/// The target is not flushed.
+/// The writer is not flushed.
 pub fn explain<R: Source, W: Target>(
     alloc: Global,
     config: &Config,

@@ -1,8 +1,5 @@
-//! `find`: the credit lines of a log, written once it has ended.
-//!
-//! An answer is credited to the identifier that last asked for its service. A *credit line* is a pair of identifiers,
-//! one that asks and one that answers it, with the number of the answers so credited. `hearing` reads the log and gives
-//! its credit lines, `credit_lines` has their text, and here the one is joined to the other.
+//! `find`: the credit lines of a log (`specs/Finding.antt` says what they are), written once it has ended. `hearing`
+//! reads the log and gives them, `credit_lines` has their text, and here the one is joined to the other.
 ghost use Rattle.trace_canon.specs.Finding.{RanToFind};
 ghost use Rattle.trace_io.specs.Counted.{IsLowCount};
 ghost use Rattle.trace_log.specs.Devices.{HasLowCounts};
@@ -17,10 +14,9 @@ use trace_run::print;
 use trace_text::Notation;
 use uds_find::CreditLine;
 
-/// Reads a log, and then writes its credit lines in this notation: one for each pair of identifiers of which one
-/// answered the other. Of the configuration the limit alone counts.
+/// Reads a log, and then writes its credit lines in this notation. Of the configuration the limit alone counts.
 ///
-/// The target is not flushed.
+/// The writer is not flushed.
 pub fn find<R: Source, W: Target>(
     alloc: Global,
     config: &Config,

@@ -13,7 +13,9 @@ use trace_log::{Config, Fault, Summary};
 use trace_run::print;
 use uds_exchange::Meaning;
 
-/// A text of items. A command that writes one is an `ItemText`, and a call of [`write_items`].
+/// A text of items. A command that writes one is an `ItemText`, and a call of [`write_items`]. Of those here that is
+/// [`list`](crate::list) alone. It is a trait, and public, for who adds an output: their text, in whichever crate, is
+/// written with all that is promised of the list, and they prove no more than that they say it.
 pub trait ItemText: Copy {
     ghost use Rattle.std.specs.Prelude.{List, ℕ};
     ghost use Rattle.uds_exchange.specs.Meaning.{ItemValue};
@@ -28,7 +30,7 @@ pub trait ItemText: Copy {
 
 /// Reads a log, and then writes this text of the items of its meaning. Where the log is refused nothing is written.
 ///
-/// The target is not flushed.
+/// The writer is not flushed.
 pub fn write_items<T: ItemText, R: Source, W: Target>(
     alloc: Global,
     config: &Config,

@@ -46,9 +46,8 @@
 //! What tells of a log while it comes is a machine of [`trace_run`](trace_run::Machine): those of the first four rows.
 //! So is what collects the meaning of a log: on it stand [`meaning_of`], [`compare`] and [`write_items`].
 //!
-//! [`find`] is none: it hears every frame, whatever its identifier, and has no receiver. It credits an answer to the
-//! identifier that last asked for its service; a *credit line* is a pair of identifiers, one that asks and one that
-//! answers it, with the number of the answers so credited.
+//! [`find`] is none: it hears every frame, whatever its identifier, and has no receiver. What the credit lines are that
+//! it writes, `Finding` says.
 #![tactic(auto)]
 
 mod canonical_sink;

@@ -14,7 +14,7 @@ use uds_exchange::Meaning;
 
 /// Reads a log, and then writes a line for each item of its meaning, in this style.
 ///
-/// The target is not flushed.
+/// The writer is not flushed.
 pub fn list<R: Source, W: Target>(
     alloc: Global,
     config: &Config,

@@ -23,7 +23,7 @@ use uds_exchange::Judged;
 /// number that [`list`](crate::list) gives its item, its role in that item, its direction, the lines and the time
 /// stamps of its first frame and its last one, and its bytes.
 ///
-/// The target is not flushed.
+/// The writer is not flushed.
 pub fn messages<R: Source, W: Target>(
     alloc: Global,
     config: &Config,

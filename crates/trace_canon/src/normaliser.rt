@@ -25,7 +25,7 @@ use uds_exchange::JudgedOrderer;
 
 /// Reads a log and writes the canonical lines of its messages, each as soon as all that come before it are known.
 ///
-/// The target is not flushed.
+/// The writer is not flushed.
 pub fn normalise<R: Source, W: Target>(
     alloc: Global,
     config: &Config,

@@ -24,7 +24,7 @@ use uds_exchange::{Decider, Item, ItemSink, Judged};
 /// Reads a log and writes the lines of [`list`](crate::list), each as soon as its item is decided: an exchange when its
 /// answer comes or the next request does, and the strays after it then too. What is not decided is written at the end.
 ///
-/// The target is not flushed.
+/// The writer is not flushed.
 pub fn watch<R: Source, W: Target>(
     alloc: Global,
     config: &Config,
