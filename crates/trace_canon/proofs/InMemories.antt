@@ -18,12 +18,12 @@ use Rattle.trace_log.specs.declared.summary.Summary.{Summary}
 use Rattle.trace_log.specs.Answers.{Answers, TellsOutcome}
 use Rattle.trace_canon.specs.Sessions.{GivesMeaning}
 use Rattle.trace_log.specs.Failing.{FailedIf}
-use Rattle.trace_canon.specs.InMemory.{IsOfMemory, HasBytes, IsRefused, IsUnread, IsCanonicalLogWith, IsToldWith, NeedsMemoryForCanonicalLog, NeedsMemoryForPlacing, MeansInMemory, ComparesWithCounts, counted_comparison, fault_in_memory}
+use Rattle.trace_canon.specs.InMemory.{IsOfMemory, HasBytes, IsRefused, IsUnread, IsCanonicalLogWith, IsToldWith, NeedsMemoryForCanonicalLog, NeedsMemoryForMessageLines, MeansInMemory, ComparesWithCounts, counted_comparison, fault_in_memory}
 use Rattle.trace_log.specs.CanonicalLog.{canonical_log_of_lines}
 use Rattle.trace_log.specs.Needing.{HasTextOf}
 use Rattle.trace_log.specs.Outcome.{Accepted, IsOutcome}
 use Rattle.trace_canon.specs.MemoryNeeded.{NeedsMemoryToCollect, NeedsMemoryToOrder}
-use Rattle.trace_canon.specs.MessageLines.{placing_script}
+use Rattle.trace_canon.specs.MessageLines.{messages_script}
 use Rattle.trace_canon.specs.WrittenAtEnd.{LeavesOnce, TextOfLog, WritesOnce}
 use Rattle.trace_log.specs.Settings.{Settings}
 use Rattle.trace_run.specs.Script.{Needing, RefusalText, answers_counts, command, needs_none, says_no_refusal, said_of_lines, whole_of_lines}
@@ -151,8 +151,8 @@ told_in_memory of_frame at_the_end refusal needs NeedsMemory limit settings log 
 
 -- the lines of messages
 pub message_lines_in_memory : (notation : Notation) (limit : ℕ) (settings : Settings) (log : List ℕ) (given : ℕ) (old new : List ℕ)
-    → FailsToWrite (command (placing_script notation limit) says_no_refusal answers_counts needs_none) limit settings log given old new → NeedsMemoryForPlacing notation limit settings log
-message_lines_in_memory notation limit settings log given old new fails = inr (told_some ((placing_script notation limit).of_frame) limit settings log given old new fails)
+    → FailsToWrite (command (messages_script notation limit) says_no_refusal answers_counts needs_none) limit settings log given old new → NeedsMemoryForMessageLines notation limit settings log
+message_lines_in_memory notation limit settings log given old new fails = inr (told_some ((messages_script notation limit).of_frame) limit settings log given old new fails)
 
 pub meaning_in_memory : (limit : ℕ) (settings : Settings) (log : List ℕ) (answer : Result (List ItemValue) Fault) → FailedIf Read answer 0 0
     → IfErr answer (λ fault. fault ≢ Write) → (answer ≡ Err Memory → NeedsMemoryToCollect limit settings log) → GivesMeaning limit settings log answer → MeansInMemory limit settings log answer

@@ -22,7 +22,7 @@ use Rattle.trace_text.specs.ItemLines.{list_text}
 use Rattle.trace_log.specs.CanonicalLog.{canonical_log_of_lines}
 use Rattle.trace_log.specs.Needing.{HasTextOf, NeedsMemoryToReceive}
 use Rattle.trace_log.specs.Outcome.{IsOutcome}
-use Rattle.trace_canon.specs.MessageLines.{placing_script}
+use Rattle.trace_canon.specs.MessageLines.{messages_script}
 use Rattle.trace_log.specs.Settings.{Settings}
 use Rattle.trace_log.specs.Summing.{summary_of}
 use Rattle.trace_run.specs.Script.{Script, said_of_lines, whole_of_lines}
@@ -64,8 +64,8 @@ IsToldWith script limit settings log text summary =
     × (summary ≡ summary_of limit settings log meanings) × (text ≡ whole_of_lines script limit settings log meanings)
 
 -- the log can be read and has these counts, and these are the lines of its messages in this notation
-abbrev pub IsPlacingWith : Notation → ℕ → Settings → List ℕ → List ℕ → Summary → Type 0
-IsPlacingWith notation limit = IsToldWith (placing_script notation limit) limit
+abbrev pub AreMessageLinesWith : Notation → ℕ → Settings → List ℕ → List ℕ → Summary → Type 0
+AreMessageLinesWith notation limit = IsToldWith (messages_script notation limit) limit
 
 -- the log can be read and has these counts, and this explains it in this notation
 abbrev pub IsExplanationWith : Notation → ℕ → Settings → List ℕ → List ℕ → Summary → Type 0
@@ -91,9 +91,9 @@ NeedsMemoryForList style limit settings log =
     NeedsMemoryToCollect limit settings log ⊎ HasBytes (IsListWith style limit settings log)
 
 -- Memory is needed to gather the lines of messages: to read the log, or since its first lines deliver one.
-abbrev pub NeedsMemoryForPlacing : Notation → ℕ → Settings → List ℕ → Type 0
-NeedsMemoryForPlacing notation limit settings log =
-    NeedsMemoryToReceive limit settings log ⊎ HasTextOf (said_of_lines (placing_script notation limit) settings) log
+abbrev pub NeedsMemoryForMessageLines : Notation → ℕ → Settings → List ℕ → Type 0
+NeedsMemoryForMessageLines notation limit settings log =
+    NeedsMemoryToReceive limit settings log ⊎ HasTextOf (said_of_lines (messages_script notation limit) settings) log
 
 -- Memory is needed to gather what explains a log, whichever it is, for each has its counts.
 abbrev pub NeedsMemoryForExplanation : ℕ → Settings → List ℕ → Type 0

@@ -104,8 +104,8 @@ delivered_line notation limit T e flowed = []
 delivered_line notation limit T e (dropped reason) = []
 
 -- what `messages` tells: of each frame the line of the message that it completes, and nothing at the end
-abbrev pub placing_script : Notation → ℕ → Script
-placing_script notation limit = record {
+abbrev pub messages_script : Notation → ℕ → Script
+messages_script notation limit = record {
   strict = false;
   of_frame = λ T e. delivered_line notation limit T e (verdict limit T e).verdict;
   at_the_end = λ T summary. [];

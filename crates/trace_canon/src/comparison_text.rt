@@ -23,18 +23,18 @@ pub struct ComparisonStyle {
 
 /// Writes how two logs compare, in this style.
 ///
-/// The target is not flushed.
+/// The writer is not flushed.
 pub fn write_comparison<W: Target>(
     compared: &Compared,
     style: ComparisonStyle,
-    target: &mut W,
+    writer: &mut W,
 ) -> Result<(), Fault>
-    requires { IsLowCount (W.failures target.old) }
+    requires { IsLowCount (W.failures writer.old) }
 
-    // Its text was written, or a front of it where writing failed; and what that did with the target.
-    ensures printed { Prints W.Target (comparison_text style compared.now) target.old result target.new }
+    // Its text was written, or a front of it where writing failed; and what that did with the writer.
+    ensures printed { Prints W.Target (comparison_text style compared.now) writer.old result writer.new }
 {
-    print(InStyle { compared, style }, target)
+    print(InStyle { compared, style }, writer)
 }
 
 /// A comparison in a style.

@@ -2,9 +2,9 @@
 //! device is asked: so what has no answer is refused, or memory was.
 ghost use Rattle.std.specs.Prelude.{◌≡◌, Ok, Err, MatchResult};
 ghost use Rattle.isotp_receive.specs.declared.TheConstants.{MESSAGE_LIMIT};
-ghost use Rattle.trace_canon.specs.InMemory.{IsCanonicalLogWith, IsListWith, IsPlacingWith, IsExplanationWith};
+ghost use Rattle.trace_canon.specs.InMemory.{IsCanonicalLogWith, IsListWith, AreMessageLinesWith, IsExplanationWith};
 ghost use Rattle.trace_canon.specs.InMemory.{IsFindingWith, MeansInMemory, ComparesWithCounts, fault_in_memory};
-ghost use Rattle.trace_canon.specs.InMemory.{NeedsMemoryForCanonicalLog, NeedsMemoryForList, NeedsMemoryForPlacing};
+ghost use Rattle.trace_canon.specs.InMemory.{NeedsMemoryForCanonicalLog, NeedsMemoryForList, NeedsMemoryForMessageLines};
 ghost use Rattle.trace_canon.specs.InMemory.{NeedsMemoryForExplanation, NeedsMemoryForFinding, IsRefused, IsUnread};
 ghost use Rattle.trace_canon.specs.InMemory as Spec;
 
@@ -78,8 +78,8 @@ pub fn message_lines(
     log: &[u8],
 ) -> Result<CountedText, Fault>
     ensures { MatchResult result
-        (λ counted. IsPlacingWith notation MESSAGE_LIMIT config.now log.now counted.text.items counted.summary)
-        (IsUnread (NeedsMemoryForPlacing notation) MESSAGE_LIMIT config.now log.now) }
+        (λ counted. AreMessageLinesWith notation MESSAGE_LIMIT config.now log.now counted.text.items counted.summary)
+        (IsUnread (NeedsMemoryForMessageLines notation) MESSAGE_LIMIT config.now log.now) }
 {
     let mut writer = Writing::new(Vec::new(alloc));
     let answer = messages(alloc, config, notation, &mut Bytes::new(log), &mut writer);

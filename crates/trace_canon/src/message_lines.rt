@@ -1,7 +1,7 @@
 //! `messages`: a machine that says the line of each message, as it is delivered: with the places of its first frame and
 //! of its last one, which are where these stand in the log.
 ghost use Rattle.isotp_receive.specs.declared.TheConstants.{MESSAGE_LIMIT};
-ghost use Rattle.trace_canon.specs.MessageLines.{judged_at, placed_line, placed_text, placing_script};
+ghost use Rattle.trace_canon.specs.MessageLines.{judged_at, placed_line, placed_text, messages_script};
 ghost use Rattle.trace_run.specs.Script.{answers_counts, command, needs_none, says_no_refusal};
 ghost use Rattle.trace_run.specs.Ran.{RanLenient};
 ghost use Rattle.trace_io.specs.Counted.{IsLowCount};
@@ -36,7 +36,7 @@ pub fn messages<R: Source, W: Target>(
 
     // What is answered and written; that it is written before more is read; and what was done with the devices.
     ensures ran { RanLenient R.Source W.Target
-        (command (placing_script notation MESSAGE_LIMIT) says_no_refusal answers_counts needs_none)
+        (command (messages_script notation MESSAGE_LIMIT) says_no_refusal answers_counts needs_none)
         config.now reader.old writer.old result reader.new writer.new }
 {
     let machine = MessageTeller {
@@ -56,14 +56,14 @@ pub(crate) struct MessageTeller {
 impl Machine for MessageTeller {
     ghost use Rattle.isotp_receive.specs.declared.TheConstants.{MESSAGE_LIMIT};
     ghost use Rattle.trace_canon.specs.proving.MessageTelling.{TellsMessages};
-    ghost use Rattle.trace_canon.specs.MessageLines.{placing_script};
+    ghost use Rattle.trace_canon.specs.MessageLines.{messages_script};
     ghost use Rattle.trace_run.specs.Script.{answers_counts, needs_none};
 
     type Answer = Summary;
 
     ghost stands = { λ start T now. TellsMessages start.notation T now.notation now.begun };
 
-    ghost script = { λ start. placing_script start.notation MESSAGE_LIMIT };
+    ghost script = { λ start. messages_script start.notation MESSAGE_LIMIT };
 
     ghost answers = { λ start. answers_counts };
 

@@ -16,7 +16,7 @@ use Rattle.trace_canon.specs.ExplainScript.{explain_script}
 use Rattle.trace_canon.specs.Finding.{Finds, NeedsMemoryToFind, RanToFind}
 use Rattle.trace_text.specs.ItemLines.{list_text}
 use Rattle.trace_canon.specs.ItemText.{RanOverItems, TextOfItems, WritesItems}
-use Rattle.trace_canon.specs.MessageLines.{placing_script}
+use Rattle.trace_canon.specs.MessageLines.{messages_script}
 use Rattle.trace_log.specs.Needing.{HasFrame, IsKeptForMessage, NeedsMemoryToReceive}
 use Rattle.trace_canon.specs.MemoryNeeded.{CompletesKept, NeedsMemoryToCollect, NeedsMemoryToOrder}
 use Rattle.trace_log.specs.Refusal.{HasNoBadPlaceWithin, IsNotRefusedWithin}
@@ -218,7 +218,7 @@ engine_of job.Normalise name seen = normalises
 engine_of (job.List style) name seen = writes (list_text style)
 engine_of (job.Watch style) name seen = runs (watching_script style) CompletesKept
 engine_of (job.Explain notation) name seen = runs (explain_script notation) (λ limit. needs_none)
-engine_of (job.Messages notation) name seen = runs (placing_script notation) (λ limit. needs_none)
+engine_of (job.Messages notation) name seen = runs (messages_script notation) (λ limit. needs_none)
 engine_of job.Report name seen =
     runs_in_style (λ style settings limit. report_script (page_title style name settings) limit)
     (λ style settings limit. refused_text (page_title style name settings) limit seen)

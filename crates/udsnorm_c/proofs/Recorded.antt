@@ -5,8 +5,8 @@ use Rattle.can_log.specs.declared.frame.Stamped.{Stamped}
 use Rattle.can_log.proofs.Promises.{log_means_at_most_one}
 use Rattle.direction.specs.declared.Dir.{Dir}
 use Rattle.isotp_receive.specs.declared.TheConstants.{MESSAGE_LIMIT}
-use Rattle.trace_canon.specs.InMemory.{IsCanonicalLogWith, IsExplanationWith, IsListWith, IsPlacingWith, IsRefused, IsUnread}
-use Rattle.trace_canon.specs.InMemory.{NeedsMemoryForCanonicalLog, NeedsMemoryForExplanation, NeedsMemoryForList, NeedsMemoryForPlacing}
+use Rattle.trace_canon.specs.InMemory.{IsCanonicalLogWith, IsExplanationWith, IsListWith, AreMessageLinesWith, IsRefused, IsUnread}
+use Rattle.trace_canon.specs.InMemory.{NeedsMemoryForCanonicalLog, NeedsMemoryForExplanation, NeedsMemoryForList, NeedsMemoryForMessageLines}
 use Rattle.trace_canon.specs.Sessions.{IsAcceptedWith}
 use Rattle.trace_log.specs.Laws.{Certifies, CleanLogHasBothSides}
 use Rattle.trace_log.specs.Outcome.{IsOutcome}
@@ -104,7 +104,7 @@ module _ (has_both_sides : CleanLogHasBothSides) where
   pub clean_messages : CleanMessagesAreRecorded
   clean_messages style tester unit max_bytes log old new answer (Ok settings, (is, are), told) clean =
       subst (λ (s : Settings). IsRecorded s log) is
-      (clean_styled settings log Notation (λ notation. IsPlacingWith notation MESSAGE_LIMIT settings log) (λ notation. IsUnread (NeedsMemoryForPlacing notation) MESSAGE_LIMIT settings log) old new answer
+      (clean_styled settings log Notation (λ notation. AreMessageLinesWith notation MESSAGE_LIMIT settings log) (λ notation. IsUnread (NeedsMemoryForMessageLines notation) MESSAGE_LIMIT settings log) old new answer
       (λ notation text summary placing. (placing.0, placing.1.1, placing.2)) (notation_of style) told clean)
   clean_messages style tester unit max_bytes log old new answer (Err fault, configures, (same, says)) clean =
       absurd (never_clean answer (so_has answer (refusal_of fault) says (of_refusal fault)) clean)

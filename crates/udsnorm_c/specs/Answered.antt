@@ -11,7 +11,7 @@ use Rattle.trace_log.specs.declared.fault.Fault.TheVariants.{BadLine, Oversize, 
 use Rattle.trace_log.specs.declared.fault.ConfigFault.{ConfigFault}
 use Rattle.trace_log.specs.declared.fault.ConfigFault.TheVariants.{IdRange, SameId, LimitRange}
 use Rattle.trace_log.specs.declared.summary.Summary.{Summary}
-use Rattle.trace_canon.specs.InMemory.{IsCanonicalLogWith, IsListWith, IsPlacingWith, IsExplanationWith, IsFindingWith, IsRefused, IsUnread, NeedsMemoryForCanonicalLog, NeedsMemoryForList, NeedsMemoryForPlacing, NeedsMemoryForExplanation, NeedsMemoryForFinding, ComparesWithCounts}
+use Rattle.trace_canon.specs.InMemory.{IsCanonicalLogWith, IsListWith, AreMessageLinesWith, IsExplanationWith, IsFindingWith, IsRefused, IsUnread, NeedsMemoryForCanonicalLog, NeedsMemoryForList, NeedsMemoryForMessageLines, NeedsMemoryForExplanation, NeedsMemoryForFinding, ComparesWithCounts}
 use Rattle.trace_difference.specs.InMemory.{HasNoDifferenceText, IsDifferenceWith}
 use Rattle.trace_difference.specs.declared.in_memory.CountedDifference.{CountedDifference}
 use Rattle.trace_log.specs.Settings.{Settings, Configures}
@@ -181,7 +181,7 @@ ListAnswers limit tester unit max_bytes style log old new answer = UnderSettings
 -- the messages of a log that can be read with their places, or why it can't be
 abbrev pub MessagesAnswers : ℕ → ℕ → ℕ → ℕ → ℕ → List ℕ → List ℕ → List ℕ → UdsnormAnswer → Type 0
 MessagesAnswers limit tester unit max_bytes style log old new answer = UnderSettings tester unit max_bytes
-    (λ settings. Styled (notation_of style) (λ notation. TextAnswers (IsPlacingWith notation limit settings log) (IsUnread (NeedsMemoryForPlacing notation) limit settings log) old new answer) old new answer)
+    (λ settings. Styled (notation_of style) (λ notation. TextAnswers (AreMessageLinesWith notation limit settings log) (IsUnread (NeedsMemoryForMessageLines notation) limit settings log) old new answer) old new answer)
     (AnswersRefusal old new answer)
 
 -- what explains a log that can be read, or why it can't be
