@@ -27,12 +27,12 @@ is_blank page well blank = λ i. record { held = sym blank i; failed = sym well 
 
 module _ {W : Type 0} (target : Ghosts W) where
   -- nothing was said to a page with nothing on it
-  pub nothing_said : (start : W) (page : Page) → target.failures start ≤ 2 ^ 62 → page.failed ≡ false → page.held ≡ [] → Carries target start [] page start
-  nothing_said start page low well blank =
+  pub carries_at_start : (start : W) (page : Page) → target.failures start ≤ 2 ^ 62 → page.failed ≡ false → page.held ≡ [] → Carries target start [] page start
+  carries_at_start start page low well blank =
       subst (λ p. Carries target start [] p start) (is_blank page well blank) (record {
         low = low;
         held_some = λ some. absurd (omega arith);
-        spoke = λ is. absurd (cc is);
+        failed_some = λ is. absurd (cc is);
         still = λ none. refl;
         failures = refl;
         no_empty_write = refl;
@@ -59,7 +59,7 @@ module _ {W : Type 0} (target : Ghosts W) where
       subst (λ held. Carries target start (said ++ text) (record page { held = held }) now) (sym is) (record {
         low = so_far.low;
         held_some = some_more said text page.held so_far.held_some;
-        spoke = λ has. omega (arith, so_far.spoke has, length-append said text);
+        failed_some = λ has. omega (arith, so_far.failed_some has, length-append said text);
         still = λ none. so_far.still (omega (arith, none, length-append said text));
         failures = so_far.failures;
         no_empty_write = so_far.no_empty_write;
@@ -76,7 +76,7 @@ module _ {W : Type 0} (target : Ghosts W) where
       subst (λ b. Carries target start (said ++ text) (record page { failed = b }) now) (sym wrong) (record {
         low = so_far.low;
         held_some = λ some. omega (arith, so_far.held_some some, length-append said text);
-        spoke = λ is. omega (arith, so_far.spoke refl, length-append said text);
+        failed_some = λ is. omega (arith, so_far.failed_some refl, length-append said text);
         still = λ none. so_far.still (omega (arith, none, length-append said text));
         failures = so_far.failures;
         no_empty_write = so_far.no_empty_write;
@@ -92,7 +92,7 @@ module _ {W : Type 0} (target : Ghosts W) where
       record {
         low = so_far.low;
         held_some = λ some. absurd (omega arith);
-        spoke = so_far.spoke;
+        failed_some = so_far.failed_some;
         still = so_far.still;
         failures = so_far.failures;
         no_empty_write = so_far.no_empty_write;

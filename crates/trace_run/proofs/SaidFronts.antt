@@ -130,7 +130,7 @@ pub only_more : {W : Type 0} {target : Ghosts W} {start now : W} {said : List �
 only_more carries = (carries.took.bytes, carries.took.grown)
 
 -- also where a run ends with a fault
-pub more_at_fault : {W : Type 0} {target : Ghosts W} (name answer : Fault) (start : W) (said : List ℕ) (new : W) → EndsAs name target start said answer new
+pub more_at_fault : {W : Type 0} {target : Ghosts W} (name answer : Fault) (start : W) (said : List ℕ) (new : W) → EndsAs target name start said answer new
     → Begins (target.taken start) (target.taken new)
 more_at_fault name answer start said new (inl well) = only_more well.1
 more_at_fault name answer start said new (inr wrong) = only_more wrong.1

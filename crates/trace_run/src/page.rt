@@ -149,12 +149,12 @@ impl<'a, W: Target> TextSink for PageSink<'a, W> {
     ghost use Rattle.std.specs.Prelude.{◌≡◌};
     ghost use Rattle.std.proofs.Common.{refl, ◌∙◌};
     ghost use Rattle.trace_run.specs.proving.Carrying.{Says};
-    ghost use Rattle.trace_run.specs.proving.PageSinks.{says_nothing, says_onward};
+    ghost use Rattle.trace_run.specs.proving.PageSinks.{says_empty_text, says_onward};
 
     ghost says = { λ s text t. (t.target.ghost_name ≡ s.target.ghost_name) × (t.page.ghost_name ≡ s.page.ghost_name)
         × Says W.Target s.page.now s.target.now text t.page.now t.target.now };
 
-    ghost nothing = { λ s. (refl, refl, says_nothing W.Target s.page.now s.target.now) };
+    ghost nothing = { λ s. (refl, refl, says_empty_text W.Target s.page.now s.target.now) };
 
     ghost onward = { λ s m t a b one two. (
       two.0 ∙ one.0,

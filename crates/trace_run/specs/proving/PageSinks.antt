@@ -5,8 +5,8 @@ use Rattle.trace_run.specs.declared.page.Page.{Page}
 use Rattle.trace_run.specs.proving.Carrying.{Carries, Says}
 
 -- nothing is said where the page and its target stay as they are
-pub says_nothing : {W : Type 0} (target : Ghosts W) (page : Page) (now : W) → Says target page now [] page now
-says_nothing target page now start said carries = subst (λ text. Carries target start text page now) (sym (append-nil said)) carries
+pub says_empty_text : {W : Type 0} (target : Ghosts W) (page : Page) (now : W) → Says target page now [] page now
+says_empty_text target page now start said carries = subst (λ text. Carries target start text page now) (sym (append-nil said)) carries
 
 -- one text is said, and then another: that is the two as one text
 pub says_onward : {W : Type 0} (target : Ghosts W) (page page_then page_now : Page) (old mid new : W) (a b : List ℕ)

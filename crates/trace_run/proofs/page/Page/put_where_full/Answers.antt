@@ -17,7 +17,7 @@ returns-in-Err g c = λ start said carries.
     record {
       low = so_far.low;
       held_some = λ some. omega (arith, some_text, length-append said c.args.text.now);
-      spoke = λ is. omega (arith, some_text, length-append said c.args.text.now);
+      failed_some = λ is. omega (arith, some_text, length-append said c.args.text.now);
       still = λ none. absurd (omega (arith, none, some_text, length-append said c.args.text.now));
       failures = failed.failures ∙ ap (λ n. n + 1) so_far.failures;
       no_empty_write = failed.no_empty_write ∙ so_far.no_empty_write;
@@ -37,7 +37,7 @@ returns-in_default g c = λ start said carries.
     subst (λ b. Carries W start (said ++ c.args.text.now) (record { held = c.gather.new.held; failed = b }) c.gather.new.target) (sym (c.may_write.ensures.well c.if-not-may_write.false)) (record {
       low = so_far.low;
       held_some = λ some. omega (arith, some_text, length-append said c.args.text.now);
-      spoke = λ is. absurd (cc is);
+      failed_some = λ is. absurd (cc is);
       still = λ none. absurd (omega (arith, none, some_text, length-append said c.args.text.now));
       failures = put.failures ∙ so_far.failures;
       no_empty_write = put.no_empty_write ∙ so_far.no_empty_write;

@@ -21,7 +21,7 @@ returns-in-Err-clause-settled g c = λ start said carries.
     record {
       low = so_far.low;
       held_some = λ some. absurd (omega arith);
-      spoke = λ is. so_far.held_some (c.is_empty.ensures.some c.if-is_empty.false);
+      failed_some = λ is. so_far.held_some (c.is_empty.ensures.some c.if-is_empty.false);
       still = λ none. absurd (omega (arith, none, so_far.held_some (c.is_empty.ensures.some c.if-is_empty.false)));
       failures = failed.failures ∙ ap (λ n. n + 1) so_far.failures;
       no_empty_write = failed.no_empty_write ∙ so_far.no_empty_write;
@@ -41,7 +41,7 @@ returns-clause-settled g c = λ start said carries.
     record {
       low = so_far.low;
       held_some = λ some. absurd (omega arith);
-      spoke = λ is. absurd (cc is);
+      failed_some = λ is. absurd (cc is);
       still = λ none. absurd (omega (arith, none, so_far.held_some (c.is_empty.ensures.some c.if-is_empty.false)));
       failures = wrote.failures ∙ so_far.failures;
       no_empty_write = wrote.no_empty_write ∙ so_far.no_empty_write;
@@ -59,8 +59,8 @@ returns-in-Err-clause-no_more g c = λ start said carries.
     let done = returns-in-Err-clause-settled g c start said carries in
     record {
       low = done.low;
-      held_some = λ some. done.spoke refl;
-      spoke = done.spoke;
+      held_some = λ some. done.failed_some refl;
+      failed_some = done.failed_some;
       still = done.still;
       failures = done.failures;
       no_empty_write = done.no_empty_write;
