@@ -2,7 +2,6 @@
 ghost use Rattle.std.specs.Prelude.{◌≡◌, ◌^◌, ◌<◌, List, [], ◌∷◌, ◌++◌, length, OnOk, OnErr};
 ghost use Rattle.direction.specs.Dir.{Message};
 ghost use Rattle.isotp_receive.specs.declared.TheConstants.{MESSAGE_LIMIT};
-ghost use Rattle.isotp_receive.specs.Capacities.{KeepsWithin};
 ghost use Rattle.isotp_receive.specs.EventSeen.{seen_verdict};
 ghost use Rattle.isotp_receive.specs.Events.{announced_by};
 ghost use Rattle.isotp_receive.specs.StandingReception.{receptions_after};
@@ -183,7 +182,7 @@ pub(crate) fn tell_end<M: Machine, W: Target>(
     summary: &Summary,
 ) -> Result<M::Answer, NoAnswer>
     ensures says { (machine_start : M) (T : List Entry) → M.stands machine_start T machine
-        → pair.now.receptions ≡ receptions_after MESSAGE_LIMIT T → KeepsWithin MESSAGE_LIMIT T pair.now
+        → pair.now.receptions ≡ receptions_after MESSAGE_LIMIT T
         → Says W.Target page.old target.old ((M.script machine_start).at_the_end T summary.now) page.new target.new }
     ensures answered { (machine_start : M) (T : List Entry) → M.stands machine_start T machine
         → pair.now.receptions ≡ receptions_after MESSAGE_LIMIT T

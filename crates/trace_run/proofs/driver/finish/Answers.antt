@@ -16,7 +16,7 @@ returns-then-not-settle-clause-ends g c = λ start settings log meanings receive
     let counted = c.summary-summary.ensures settings log meanings received feed tells.judged in
     subst (λ b. Carries W start.target (whole_since M W start settings log meanings) (blank_page (not b)) c.settle.new.target) c.if-not-settle.true
     (carried_at_the_end M W start settings log meanings _ _ _ _ _ c.settle.result c.summary-summary.result tells counted
-    (c.tell_end-answer.ensures.says start.machine (trace settings meanings) tells.machine_stands received.pair_is received.keeps) c.settle.ensures.settled)
+    (c.tell_end-answer.ensures.says start.machine (trace settings meanings) tells.machine_stands received.pair_is) c.settle.ensures.settled)
 
 pub returns-clause-ends : goal.returns-clause-ends
 returns-clause-ends g c = λ start settings log meanings received feed tells.
@@ -27,7 +27,7 @@ returns-clause-ends g c = λ start settings log meanings received feed tells.
           (c.in_ok-answer.ensures.answered start.machine (trace settings meanings) tells.machine_stands received.pair_is),
       subst (λ b. Carries W start.target (whole_since M W start settings log meanings) (blank_page (not b)) c.settle.new.target) c.if-not-settle.false
           (carried_at_the_end M W start settings log meanings _ _ _ _ _ c.settle.result c.summary-summary.result tells counted
-          (c.tell_end-answer.ensures.says start.machine (trace settings meanings) tells.machine_stands received.pair_is received.keeps) c.settle.ensures.settled),
+          (c.tell_end-answer.ensures.says start.machine (trace settings meanings) tells.machine_stands received.pair_is) c.settle.ensures.settled),
     )
 
 pub returns-in_err-answer-clause-ends : goal.returns-in_err-answer-clause-ends
@@ -41,20 +41,20 @@ returns-in_err-answer-clause-ends g c = λ start settings log meanings received 
           (c.in_err-answer.ensures.answered start.machine (trace settings meanings) tells.machine_stands received.pair_is)),
       subst (λ b. Carries W start.target (whole_since M W start settings log meanings) (blank_page (not b)) c.settle.new.target) c.if-not-settle.false
           (carried_at_the_end M W start settings log meanings _ _ _ _ _ c.settle.result c.summary-summary.result tells counted
-          (c.tell_end-answer.ensures.says start.machine (trace settings meanings) tells.machine_stands received.pair_is received.keeps) c.settle.ensures.settled),
+          (c.tell_end-answer.ensures.says start.machine (trace settings meanings) tells.machine_stands received.pair_is) c.settle.ensures.settled),
     )
 
 pub returns-then-not-settle-clause-more : goal.returns-then-not-settle-clause-more
 returns-then-not-settle-clause-more g c = λ mid said first settings meanings received stands carried.
-    let told = c.tell_end-answer.ensures.says first (trace settings meanings) stands received.pair_is received.keeps in
+    let told = c.tell_end-answer.ensures.says first (trace settings meanings) stands received.pair_is in
     only_more (c.settle.ensures.settled mid _ (told mid said carried))
 
 pub returns-clause-more : goal.returns-clause-more
 returns-clause-more g c = λ mid said first settings meanings received stands carried.
-    let told = c.tell_end-answer.ensures.says first (trace settings meanings) stands received.pair_is received.keeps in
+    let told = c.tell_end-answer.ensures.says first (trace settings meanings) stands received.pair_is in
     only_more (c.settle.ensures.settled mid _ (told mid said carried))
 
 pub returns-in_err-answer-clause-more : goal.returns-in_err-answer-clause-more
 returns-in_err-answer-clause-more g c = λ mid said first settings meanings received stands carried.
-    let told = c.tell_end-answer.ensures.says first (trace settings meanings) stands received.pair_is received.keeps in
+    let told = c.tell_end-answer.ensures.says first (trace settings meanings) stands received.pair_is in
     only_more (c.settle.ensures.settled mid _ (told mid said carried))
