@@ -1,7 +1,6 @@
 -- Nothing is held, all that was is written, or a front of it, where writing failed.
 use Rattle.std.proofs.Common.{arith, refl, ◌+◌, ◌++◌, append-nil, false, [], Err, ap, sym, subst, ◌∙◌}
 use Rattle.trace_io.proofs.Promises.{took_more}
-use Rattle.trace_io.specs.Written.{HasFront}
 use Rattle.trace_run.specs.proving.Carrying.{Carries, blank_page}
 use Rattle.trace_run.proofs.Carryings.{let_go}
 use Rattle.trace_run.proofs.WrittenFronts.{held_written, gathered_written, rest_along}
@@ -27,8 +26,9 @@ returns-in-Err-clause-settled g c = λ start said carries.
       no_empty_write = failed.no_empty_write ∙ so_far.no_empty_write;
       flushes = failed.flushes ∙ so_far.flushes;
       took = took_more so_far.took failed.took;
-      written = gathered_written {A = Unit {0}} (Err c.in-Err._fault) (W.taken start) said (W.taken c.args.target.now) page.held (W.taken c.write_all.new.target) so_far.written
-          (subst (λ t. HasFront (W.taken c.args.target.now) t (W.taken c.write_all.new.target)) c.as_slice.ensures.value failed.taken);
+      written =
+          gathered_written {A = Unit {0}} (Err c.in-Err._fault) (W.taken start) said (W.taken c.args.target.now) page.held (W.taken c.write_out.new.target)
+          so_far.written failed.taken;
     }
 
 pub returns-clause-settled : goal.returns-clause-settled
@@ -47,9 +47,9 @@ returns-clause-settled g c = λ start said carries.
       no_empty_write = wrote.no_empty_write ∙ so_far.no_empty_write;
       flushes = wrote.flushes ∙ so_far.flushes;
       took = took_more so_far.took wrote.took;
-      written = held_written (W.taken start) said (W.taken c.args.target.now) page.held [] (W.taken c.write_all.new.target)
+      written = held_written (W.taken start) said (W.taken c.args.target.now) page.held [] (W.taken c.write_out.new.target)
           (rest_along (W.taken start) said (W.taken c.args.target.now) page.held (page.held ++ []) so_far.written (sym (append-nil page.held)))
-          (wrote.taken ∙ ap (λ t. W.taken c.args.target.now ++ t) c.as_slice.ensures.value);
+          wrote.taken;
     }
 
 pub returns-in-Err-clause-no_more : goal.returns-in-Err-clause-no_more
@@ -72,5 +72,5 @@ returns-in-Err-clause-no_more g c = λ start said carries.
 pub returns-clause-no_more : goal.returns-clause-no_more
 returns-clause-no_more g c = λ start said carries.
     let W = g.W.Target in
-    subst (λ h. Carries W start said (record c.args.self.now { held = h }) c.write_all.new.target) (sym c.clear.ensures)
-    (subst (λ b. Carries W start said (blank_page b) c.write_all.new.target) (sym (c.may_write.ensures.well c.if-not-may_write.false)) (returns-clause-settled g c start said carries))
+    subst (λ h. Carries W start said (record c.args.self.now { held = h }) c.write_out.new.target) (sym c.write_out.ensures.blank)
+    (subst (λ b. Carries W start said (blank_page b) c.write_out.new.target) (sym (c.may_write.ensures.well c.if-not-may_write.false)) (returns-clause-settled g c start said carries))
