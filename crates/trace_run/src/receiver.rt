@@ -1,6 +1,10 @@
-//! The frames of a log received: what each does, and what is counted.
-ghost use Rattle.std.specs.Prelude.{◌≡◌, IfErr};
+//! The frames of a log received: what each does, and what is counted and summed up.
+ghost use Rattle.std.specs.Prelude.{◌≡◌, List, IfErr};
 ghost use Rattle.isotp_receive.specs.EventSeen.{seen_event};
+ghost use Rattle.isotp_receive.specs.Events.{unfinished_in};
+ghost use Rattle.isotp_receive.specs.StandingReception.{receptions_after};
+ghost use Rattle.isotp_receive.specs.Trace.{Entry};
+ghost use Rattle.isotp_receive.specs.declared.TheConstants.{MESSAGE_LIMIT};
 ghost use Rattle.trace_run.specs.proving.Telling.{TellsEvent};
 ghost use Rattle.trace_log.specs.Summing.{counted_more};
 ghost use Rattle.trace_log.specs.Feeding.{IsOfTaker};
@@ -27,10 +31,16 @@ pub(crate) struct Receiver<M, W> {
 }
 
 impl<M, W> Receiver<M, W> {
-    ghost use Rattle.std.specs.Prelude.{◌≡◌};
+    ghost use Rattle.std.specs.Prelude.{◌≡◌, ℕ, List, Option};
+    ghost use Rattle.can_log.specs.declared.frame.Stamped.{Stamped};
     ghost use Rattle.isotp_receive.specs.Capacities.{new_pair};
     ghost use Rattle.isotp_receive.specs.declared.TheConstants.{MESSAGE_LIMIT};
-    ghost use Rattle.trace_log.specs.proving.Receiving.{IsReceiverStart};
+    ghost use Rattle.trace_log.specs.Messages.{messages_of_lines};
+    ghost use Rattle.trace_log.specs.Settings.{Settings};
+    ghost use Rattle.trace_log.specs.Summing.{summary_of};
+    ghost use Rattle.trace_log.specs.Summing as Spec;
+    ghost use Rattle.trace_log.specs.proving.Receiving.{IsReceiverStart, Receives};
+    ghost use Rattle.uds_exchange.specs.Judging.{IsJudgeOf};
 
     /// Before the first line, with a pair that has received no frame and keeps no memory.
     pub(crate) fn start(config: &Config, pair: Pair, telling: Telling<M>) -> Receiver<M, W>
@@ -44,6 +54,33 @@ impl<M, W> Receiver<M, W> {
             counts: Summary::nothing(),
             telling,
             target: PhantomData,
+        }
+    }
+
+    /// The summary of the lines received so far, as of a log that has no others, and that ended in a line feed or not.
+    pub(crate) fn summary(&self, ends_in_line_feed: bool) -> Summary
+        ensures { (settings : Settings) (log : List ℕ) (meanings : List (Option Stamped))
+            → Receives settings meanings self.now.pair self.now.lines self.now.counts
+            → ends_in_line_feed ≡ Spec.ends_in_line_feed log
+            → IsJudgeOf (messages_of_lines MESSAGE_LIMIT settings meanings) self.now.telling.judge
+            → result ≡ summary_of MESSAGE_LIMIT settings log meanings }
+    {
+        let Receiver {
+            pair,
+            lines,
+            counts,
+            telling,
+            ..
+        } = self;
+        let judge = &telling.judge;
+        Summary {
+            lines: *lines,
+            frames: counts.tester_frames.saturating_add(counts.unit_frames),
+            unfinished: unfinished(pair),
+            pending: judge.removed(),
+            ends_in_line_feed,
+            looks_exchanged: judge.sides().look_exchanged(),
+            ..*counts
         }
     }
 }
@@ -191,4 +228,12 @@ fn count_and_tell<M: Machine, W: Target>(
 {
     counts.count(frame.dir, frame.event);
     telling.take(target, frame)
+}
+
+/// How many receptions stand.
+fn unfinished(pair: &Pair) -> u64
+    ensures { (T : List Entry) → pair.now.receptions ≡ receptions_after MESSAGE_LIMIT T
+        → result ≡ unfinished_in MESSAGE_LIMIT T }
+{
+    u64::from(pair.open(Dir::Tester).is_some()) + u64::from(pair.open(Dir::Unit).is_some())
 }
