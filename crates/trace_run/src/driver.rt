@@ -44,7 +44,7 @@ pub fn run<M: Machine + Drop, R: Source, W: Target>(
     }
 }
 
-/// [`run`], of a machine that no announced length stops, and that has an answer at the end of each log: so more is known.
+/// [`run`] of a machine that is not strict, and that has an answer at the end of each log. More is known of such a run.
 pub fn run_lenient<M: Machine + Drop, R: Source, W: Target>(
     alloc: Global,
     config: &Config,
