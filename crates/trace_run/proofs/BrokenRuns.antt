@@ -24,10 +24,11 @@ module _ {A M W : Type 0} {machine : MachineGhosts M A} {target : TargetGhosts W
   answers_failed_read (meanings, taken, few, inside, (standing, stood)) is same =
       let settings = begun.settings in
       let so_far = (taken settings begun.first begun.is).1 in
-      let carries = subst (λ w. Carries target begun.state.target (text begun meanings) (blank_page false) w) (sym same) so_far.carried in
+      let carries =
+      subst (λ w. Carries target begun.state.target (text begun meanings) (blank_page false) w) (sym same) so_far.carried in
       subst (Answers begun glimpse log given new) (sym is)
-      (writes_to_failed_read (passes begun) (text begun) settings log given meanings (old begun) (target.taken new) (take given log) (drop given log) standing stood
-      (sym (take-append-drop given log)) (each_passes begun meanings so_far.within)
+      (writes_to_failed_read (passes begun) (text begun) settings log given meanings (old begun) (target.taken new)
+      (take given log) (drop given log) standing stood (sym (take-append-drop given log)) (each_passes begun meanings so_far.within)
       (wrote_all target begun.state.target new (text begun meanings) carries) (length-take-le given log inside) few)
 
   -- a write failed before a read: a front of it is
@@ -36,9 +37,12 @@ module _ {A M W : Type 0} {machine : MachineGhosts M A} {target : TargetGhosts W
   answers_failed_write (meanings, taken, few, inside, (standing, stood)) is same =
       let settings = begun.settings in
       let so_far = (taken settings begun.first begun.is).1 in
-      let carries = subst (λ w. Carries target begun.state.target (text begun meanings) (blank_page true) w) (sym same) so_far.carried in
+      let carries =
+      subst (λ w. Carries target begun.state.target (text begun meanings) (blank_page true) w) (sym same) so_far.carried in
       subst (Answers begun glimpse log given new) (sym is)
-      (front_of_read (command_of machine glimpse begun.first) MESSAGE_LIMIT settings log given fault.Read meanings (old begun) (target.taken new)
-      (writes_to_failed_read (passes begun) (text begun) settings log given meanings [] (text begun meanings) (take given log) (drop given log) standing stood
-      (sym (take-append-drop given log)) (each_passes begun meanings so_far.within) refl (length-take-le given log inside) few)
+      (front_of_read (command_of machine glimpse begun.first) MESSAGE_LIMIT settings log given fault.Read meanings
+      (old begun) (target.taken new)
+      (writes_to_failed_read (passes begun) (text begun) settings log given meanings [] (text begun meanings)
+      (take given log) (drop given log) standing stood (sym (take-append-drop given log)) (each_passes begun meanings so_far.within)
+      refl (length-take-le given log inside) few)
       (wrote_front target begun.state.target new (text begun meanings) true carries) (carries.failed_some refl))

@@ -36,7 +36,8 @@ writes_or_fails target start new answer said true carries write =
 -- what was done with a target to which a text was carried, where writing failed or not
 pub wrote_to : {A W : Type 0} (target : Ghosts W) (start new : W) (result : Result A Fault) (said : List ℕ) (failed : Bool)
     → Carries target start said (blank_page failed) new
-    → FailedIf fault.Write result (target.failures start) (target.failures new) → WroteTo target fault.Write result start new
+    → FailedIf fault.Write result (target.failures start) (target.failures new)
+    → WroteTo target fault.Write result start new
 wrote_to {A = A} {W = W} target start new result said failed carries writes = record {
   took = carries.took;
   no_empty_write = carries.no_empty_write;
@@ -55,15 +56,20 @@ wrote_to {A = A} {W = W} target start new result said failed carries writes = re
         carries.still (omega (arith, long, parts))
 
 -- the source did not fail, and that is not the fault
-reads_other : {A : Type 0} (answer : Fault) (before after : ℕ) → after ≡ before → answer ≢ fault.Read → FailedIf {A = A} fault.Read (Err answer) before after
-reads_other answer before after same_count apart = record { risen = λ is. (let same : answer ≡ fault.Read = cc in absurd (apart same)); same = λ _. same_count }
+reads_other : {A : Type 0} (answer : Fault) (before after : ℕ) → after ≡ before → answer ≢ fault.Read
+    → FailedIf {A = A} fault.Read (Err answer) before after
+reads_other answer before after same_count apart =
+    record { risen = λ is. (let same : answer ≡ fault.Read = cc in absurd (apart same)); same = λ _. same_count }
 
 -- the fault of the source is answered exactly where it failed
-pub reads_or_fails : {A : Type 0} (why : Fault) (answer : Fault) (before after : ℕ) → CountsRead why before after → FollowsRead why answer
+pub reads_or_fails : {A : Type 0} (why : Fault) (answer : Fault) (before after : ℕ) → CountsRead why before after
+    → FollowsRead why answer
     → FailedIf {A = A} fault.Read (Err answer) before after
-reads_or_fails fault.Read answer before after counts is = record { risen = λ _. counts; same = λ other. absurd (other (ap Err is)) }
+reads_or_fails fault.Read answer before after counts is =
+    record { risen = λ _. counts; same = λ other. absurd (other (ap Err is)) }
 reads_or_fails (fault.BadLine line column) answer before after counts apart = reads_other answer before after counts apart
-reads_or_fails (fault.Oversize line announced) answer before after counts apart = reads_other answer before after counts apart
+reads_or_fails (fault.Oversize line announced) answer before after counts apart =
+    reads_other answer before after counts apart
 reads_or_fails fault.LogLimit answer before after counts apart = reads_other answer before after counts apart
 reads_or_fails fault.OutputLimit answer before after counts apart = reads_other answer before after counts apart
 reads_or_fails fault.Write answer before after counts apart = reads_other answer before after counts apart

@@ -32,7 +32,8 @@ use Rattle.trace_run.proofs.StoppedLines.{all_pass, read_to_end}
 module _ {A M W : Type 0} (machine : MachineGhosts M A) (target : TargetGhosts W) (start : Start M W) (settings : Settings)
     (log : List ℕ) (meanings : List (Option Stamped)) where
   -- what it answers at the end of the log
-  pub answers_at_the_end : (glimpse : GlimpseValue) (given : ℕ) (result : Result A Fault) (new : W) → length log ≤ settings.max_bytes
+  pub answers_at_the_end : (glimpse : GlimpseValue) (given : ℕ) (result : Result A Fault) (new : W)
+      → length log ≤ settings.max_bytes
       → given ≡ length log → LogMeans log meanings → AreWithin machine start.machine (trace settings meanings)
       → EndsSaying machine target start settings log meanings result new
       → AnswersAndWrites (command_of machine glimpse start.machine) MESSAGE_LIMIT settings log given result
@@ -46,7 +47,8 @@ module _ {A M W : Type 0} (machine : MachineGhosts M A) (target : TargetGhosts W
       each = all_pass script.strict settings meanings within
 
       with_answer : (reply : Result A NoAnswer) → EndsAnswering machine target start settings log meanings reply new
-          → EndsWith (command_of machine glimpse start.machine) MESSAGE_LIMIT settings log given reply (target.taken start.target) (target.taken new)
+          → EndsWith (command_of machine glimpse start.machine) MESSAGE_LIMIT settings log given reply
+          (target.taken start.target) (target.taken new)
       with_answer reply ends = (
         omega (arith, all),
         meanings,
@@ -56,14 +58,17 @@ module _ {A M W : Type 0} (machine : MachineGhosts M A) (target : TargetGhosts W
       )
 
       by : (result : Result A Fault) → EndsSaying machine target start settings log meanings result new
-          → AnswersAndWrites (command_of machine glimpse start.machine) MESSAGE_LIMIT settings log given result (target.taken start.target) (target.taken new)
+          → AnswersAndWrites (command_of machine glimpse start.machine) MESSAGE_LIMIT settings log given result
+          (target.taken start.target) (target.taken new)
       by (Ok value) ends = with_answer (Ok value) ends
       by (Err fault.OutputLimit) ends = with_answer (Err no_answer.OutputLimit) ends
       by (Err fault.Write) ends =
-          let front = wrote_front target start.target new (whole_since machine target start settings log meanings) true ends in
+          let whole = whole_since machine target start settings log in
+          let front = wrote_front target start.target new (whole meanings) true ends in
           inl (
-            writes_front_of_all (passing script.strict MESSAGE_LIMIT settings) (λ m. whole_since machine target start settings log m) settings log given meanings
-                (target.taken start.target) (target.taken new) fault.Write front.front means (le-min (omega arith) short) refl each front.wrote (front.rest, front.parts),
+            writes_front_of_all (passing script.strict MESSAGE_LIMIT settings) whole settings log given meanings
+                (target.taken start.target) (target.taken new) fault.Write front.front means (le-min (omega arith) short) refl each
+                front.wrote (front.rest, front.parts),
             inr (record {
               meanings = meanings;
               read = read_to_end settings log script.strict meanings short means each;
@@ -78,14 +83,18 @@ module _ {A M W : Type 0} (machine : MachineGhosts M A) (target : TargetGhosts W
       by (Err (fault.Oversize line announced)) ends = absurd ends
 
   -- what was done with the target
-  pub wrote_at_the_end : (result : Result A Fault) (new : W) → EndsSaying machine target start settings log meanings result new
+  pub wrote_at_the_end : (result : Result A Fault) (new : W)
+      → EndsSaying machine target start settings log meanings result new
       → WroteTo target fault.Write result start.target new
   wrote_at_the_end (Ok value) new ends =
-      wrote_to target start.target new (Ok value) _ false ends.1 (record { risen = λ is. absurd (cc is); same = λ _. ends.1.failures })
+      wrote_to target start.target new (Ok value) _ false ends.1
+      (record { risen = λ is. absurd (cc is); same = λ _. ends.1.failures })
   wrote_at_the_end (Err fault.OutputLimit) new ends =
-      wrote_to target start.target new (Err fault.OutputLimit) _ false ends.1 (record { risen = λ is. absurd (cc is); same = λ _. ends.1.failures })
+      wrote_to target start.target new (Err fault.OutputLimit) _ false ends.1
+      (record { risen = λ is. absurd (cc is); same = λ _. ends.1.failures })
   wrote_at_the_end (Err fault.Write) new ends =
-      wrote_to target start.target new (Err fault.Write) _ true ends (record { risen = λ _. ends.failures; same = λ other. absurd (other refl) })
+      wrote_to target start.target new (Err fault.Write) _ true ends
+      (record { risen = λ _. ends.failures; same = λ other. absurd (other refl) })
   wrote_at_the_end (Err fault.Read) new ends = absurd ends
   wrote_at_the_end (Err fault.Memory) new ends = absurd ends
   wrote_at_the_end (Err fault.LogLimit) new ends = absurd ends
@@ -93,7 +102,8 @@ module _ {A M W : Type 0} (machine : MachineGhosts M A) (target : TargetGhosts W
   wrote_at_the_end (Err (fault.Oversize line announced)) new ends = absurd ends
 
   -- no read failed, and memory was not refused
-  pub neither_read_nor_memory : (result : Result A Fault) (new : W) → EndsSaying machine target start settings log meanings result new
+  pub neither_read_nor_memory : (result : Result A Fault) (new : W)
+      → EndsSaying machine target start settings log meanings result new
       → (result ≢ Err fault.Read) × (result ≢ Err fault.Memory)
   neither_read_nor_memory (Ok value) new ends = (λ is. absurd (cc is), λ is. absurd (cc is))
   neither_read_nor_memory (Err fault.OutputLimit) new ends = (λ is. absurd (cc is), λ is. absurd (cc is))
@@ -106,7 +116,8 @@ module _ {A M W : Type 0} (machine : MachineGhosts M A) (target : TargetGhosts W
 
   -- all that is said at the end is carried to the page and settled, or that failed
   pub carried_at_the_end : (telling : Telling M) (page_then : Page) (old mid new : W) (settled : Bool) (summary : Summary)
-      → HasTold machine target start (trace settings meanings) telling old → summary ≡ summary_of MESSAGE_LIMIT settings log meanings
+      → HasTold machine target start (trace settings meanings) telling old
+      → summary ≡ summary_of MESSAGE_LIMIT settings log meanings
       → Says target telling.page old ((machine.script start.machine).at_the_end (trace settings meanings) summary) page_then mid
       → Settles target page_then mid settled new
       → Carries target start.target (whole_since machine target start settings log meanings) (blank_page (not settled)) new

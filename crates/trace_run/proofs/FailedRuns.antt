@@ -18,7 +18,7 @@ use Rattle.trace_run.proofs.DeviceFaults.{FollowsRead, FollowsWriting}
 use Rattle.trace_run.proofs.MemoryRuns.{answers_memory, frame_needed}
 use Rattle.trace_run.proofs.OversizeRuns.{answers_oversize}
 use Rattle.trace_run.proofs.RefusedRuns.{answers_bad_line, answers_log_limit, refuses_all, settles_refusal}
-use Rattle.trace_run.proofs.Runs.{Begun, Fed, FedSome, Answers, script, text}
+use Rattle.trace_run.proofs.Runs.{Begun, Fed, FedSome, Answers, script, text, old}
 use Rattle.trace_run.proofs.SaidFronts.{more_at_fault, only_more, writes_said_eagerly}
 
 -- What is carried to the target where a run ends with this answer on a fault, and what the answer tells.
@@ -29,37 +29,47 @@ pub record EndsCarrying {W : Type 0} (target : TargetGhosts W) (old : W) (why an
   pub writing : FollowsWriting failed answer
   pub reading : FollowsRead why answer
 
-module _ {A M W : Type 0} {machine : MachineGhosts M A} {target : TargetGhosts W} (begun : Begun machine target) (now : RunState M W) where
+module _ {A M W : Type 0} {machine : MachineGhosts M A} {target : TargetGhosts W}
+    (begun : Begun machine target) (now : RunState M W) where
   -- what was written before the last piece, and what came after it
   pub eagerly : (log : List ℕ) (given : ℕ)
-      → WroteBefore (of_pairs (IsSureOf machine target)) (begun.state.receiver, begun.state.target) log given (now.receiver, now.target) → (new : W)
-      → ((mid : W) (said : List ℕ) → Carries target mid said now.receiver.telling.page now.target → Begins (target.taken mid) (target.taken new))
-      → WritesSaidEagerly (script begun) MESSAGE_LIMIT begun.settings log given (target.taken begun.state.target) (target.taken new)
+      → WroteBefore (of_pairs (IsSureOf machine target)) (begun.state.receiver, begun.state.target) log given
+      (now.receiver, now.target)
+      → (new : W)
+      → ((mid : W) (said : List ℕ) → Carries target mid said now.receiver.telling.page now.target
+      → Begins (target.taken mid) (target.taken new))
+      → WritesSaidEagerly (script begun) MESSAGE_LIMIT begun.settings log given (old begun) (target.taken new)
   eagerly log given before new more =
       let wrote = before.written begun.settings begun.first begun.is in
       writes_said_eagerly (script begun) begun.settings log given before.front before.rest before.meanings before.standing
-      (target.taken begun.state.target) (target.taken wrote.mid) (target.taken new)
+      (old begun) (target.taken wrote.mid) (target.taken new)
       before.stands before.parts before.near wrote.within wrote.wrote (more wrote.mid wrote.said wrote.carried)
 
   module _ (glimpse : GlimpseValue) (answer : Fault) (new : W) where
     -- only more is written
     pub ends_behind : (why : Fault) → FedSome machine target begun.state (Err why) now
         → GivesUp machine target glimpse why now.receiver now.target answer new
-        → (mid : W) (said : List ℕ) → Carries target mid said now.receiver.telling.page now.target → Begins (target.taken mid) (target.taken new)
+        → (mid : W) (said : List ℕ) → Carries target mid said now.receiver.telling.page now.target
+        → Begins (target.taken mid) (target.taken new)
     ends_behind (fault.BadLine line column) (meanings, taken) up mid said carries =
         more_at_fault (fault.BadLine line column) answer mid _ new
         (settles_refusal begun now glimpse answer new (fault.BadLine line column) meanings taken up mid said carries)
     ends_behind fault.LogLimit (meanings, taken) up mid said carries =
-        more_at_fault fault.LogLimit answer mid _ new (settles_refusal begun now glimpse answer new fault.LogLimit meanings taken up mid said carries)
+        more_at_fault fault.LogLimit answer mid _ new
+        (settles_refusal begun now glimpse answer new fault.LogLimit meanings taken up mid said carries)
     ends_behind (fault.Oversize line announced) takes up mid said carries =
         more_at_fault (fault.Oversize line announced) answer mid said new (up mid said carries)
     ends_behind fault.OutputLimit takes up mid said carries = absurd takes
-    ends_behind fault.Memory takes up mid said carries = more_at_fault fault.Memory answer mid said new (up mid said carries)
-    ends_behind fault.Read takes up mid said carries = subst (λ w. Begins (target.taken mid) (target.taken w)) (sym up.1) (only_more carries)
-    ends_behind fault.Write takes up mid said carries = subst (λ w. Begins (target.taken mid) (target.taken w)) (sym up.1) (only_more carries)
+    ends_behind fault.Memory takes up mid said carries =
+        more_at_fault fault.Memory answer mid said new (up mid said carries)
+    ends_behind fault.Read takes up mid said carries =
+        subst (λ w. Begins (target.taken mid) (target.taken w)) (sym up.1) (only_more carries)
+    ends_behind fault.Write takes up mid said carries =
+        subst (λ w. Begins (target.taken mid) (target.taken w)) (sym up.1) (only_more carries)
 
     -- the fault is of no device: what is said before it is written, or that failed
-    ends_written : (why : Fault) (said : List ℕ) → why ≢ fault.Write → why ≢ fault.Read → (answer ≢ fault.Read → FollowsRead why answer)
+    ends_written : (why : Fault) (said : List ℕ) → why ≢ fault.Write → why ≢ fault.Read
+        → (answer ≢ fault.Read → FollowsRead why answer)
         → EndsAs target why begun.state.target said answer new → EndsCarrying target begun.state.target why answer new
     ends_written why said not_write not_read follows (inl well) = record {
       said = said;
@@ -78,7 +88,8 @@ module _ {A M W : Type 0} {machine : MachineGhosts M A} {target : TargetGhosts W
 
     -- what is carried then, whatever the fault
     pub ends_carrying : (why : Fault) → FedSome machine target begun.state (Err why) now
-        → GivesUp machine target glimpse why now.receiver now.target answer new → EndsCarrying target begun.state.target why answer new
+        → GivesUp machine target glimpse why now.receiver now.target answer new
+        → EndsCarrying target begun.state.target why answer new
     ends_carrying (fault.BadLine line column) (meanings, taken) up =
         ends_written (fault.BadLine line column) _ (λ is. absurd (cc is)) (λ is. absurd (cc is)) (λ apart. apart)
         (refuses_all begun now glimpse answer new (fault.BadLine line column) meanings taken up)
@@ -114,23 +125,28 @@ module _ {A M W : Type 0} {machine : MachineGhosts M A} {target : TargetGhosts W
     module _ (log : List ℕ) (given : ℕ) where
       -- what is answered, and written
       pub answers_on_fault : (why : Fault) → Fed machine target begun.state begun.settings.max_bytes log given (Err why) now
-          → GivesUp machine target glimpse why now.receiver now.target answer new → Answers begun glimpse log given new answer
-      answers_on_fault (fault.BadLine line column) read up = answers_bad_line begun now glimpse answer new log given line column read up
+          → GivesUp machine target glimpse why now.receiver now.target answer new
+          → Answers begun glimpse log given new answer
+      answers_on_fault (fault.BadLine line column) read up =
+          answers_bad_line begun now glimpse answer new log given line column read up
       answers_on_fault fault.LogLimit read up = answers_log_limit begun now glimpse answer new log given read up
-      answers_on_fault (fault.Oversize line announced) read up = answers_oversize begun now glimpse answer new log given line announced read up
+      answers_on_fault (fault.Oversize line announced) read up =
+          answers_oversize begun now glimpse answer new log given line announced read up
       answers_on_fault fault.OutputLimit read up = absurd read
       answers_on_fault fault.Memory read up = answers_memory begun now log given glimpse answer new read up
       answers_on_fault fault.Read read up = answers_failed_read begun now glimpse answer new log given read up.0 up.1
       answers_on_fault fault.Write read up = answers_failed_write begun now glimpse answer new log given read up.0 up.1
 
       -- another fault than refused memory is answered as itself, or as that of writing
-      apart_from_memory : (why : Fault) (said : List ℕ) → why ≢ fault.Memory → EndsAs target why begun.state.target said answer new
+      apart_from_memory : (why : Fault) (said : List ℕ) → why ≢ fault.Memory
+          → EndsAs target why begun.state.target said answer new
           → answer ≢ fault.Memory
       apart_from_memory why said apart (inl well) = λ refused. apart (sym well.0 ∙ refused)
       apart_from_memory why said apart (inr wrong) = λ refused. absurd (cc (wrong.0, refused))
 
       -- where memory is refused, a frame of the log needed it
-      pub memory_was_needed : (why : Fault) → Fed machine target begun.state begun.settings.max_bytes log given (Err why) now
+      pub memory_was_needed : (why : Fault)
+          → Fed machine target begun.state begun.settings.max_bytes log given (Err why) now
           → GivesUp machine target glimpse why now.receiver now.target answer new → answer ≡ fault.Memory
           → HasFrame (λ T e. IsKeptForMessage MESSAGE_LIMIT T e ⊎ machine.needs begun.first T e) begun.settings log
       memory_was_needed (fault.BadLine line column) (meanings, taken, place) up refused =

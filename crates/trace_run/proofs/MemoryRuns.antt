@@ -42,7 +42,8 @@ module _ {A M W : Type 0} {machine : MachineGhosts M A} {target : TargetGhosts W
         let T = trace settings meanings in
         let e = entry_in meanings at.stamped at.dir in (
           of_frame T e,
-          ap (said_of_frames of_frame) (trace_next settings meanings what at.stamped at.dir at.means at.direction) ∙ one_more_said of_frame T e,
+          ap (said_of_frames of_frame) (trace_next settings meanings what at.stamped at.dir at.means at.direction)
+              ∙ one_more_said of_frame T e,
         )
 
     -- and that line had come
@@ -53,7 +54,8 @@ module _ {A M W : Type 0} {machine : MachineGhosts M A} {target : TargetGhosts W
         let next = trace_next settings meanings what at.stamped at.dir at.means at.direction in
         have_come (passes begun) settings log given meanings what place
         (each_passes begun (meanings ++ what ∷ []) (λ strict. subst (AllByRecursion AnnouncesWithin) (sym next)
-        (each_more (trace settings meanings) (entry_in meanings at.stamped at.dir) (at.stopped.within strict) (at.stopped.reason.0 strict))))
+        (each_more (trace settings meanings) (entry_in meanings at.stamped at.dir) (at.stopped.within strict)
+        (at.stopped.reason.0 strict))))
 
     -- so a front of what is said of them was written
     writes_front : (failed : Bool) (why : Fault) (new : W) → counts_last why ≡ true
@@ -61,7 +63,8 @@ module _ {A M W : Type 0} {machine : MachineGhosts M A} {target : TargetGhosts W
         → WritesFrontOfSaid (script begun) MESSAGE_LIMIT begun.settings log given why (old begun) (target.taken new)
     writes_front failed why new last carries =
         let more = goes_on in
-        writes_front_of_said (script begun) MESSAGE_LIMIT begun.settings log given why (meanings ++ what ∷ []) (old begun) (target.taken new) last had_come
+        writes_front_of_said (script begun) MESSAGE_LIMIT begun.settings log given why (meanings ++ what ∷ []) (old begun)
+        (target.taken new) last had_come
         (subst (λ said. HasFront (old begun) said (target.taken new)) (sym more.1)
         (front_longer (old begun) (text begun meanings) more.0 (target.taken new)
         (wrote_front target begun.state.target new (text begun meanings) failed carries)))
@@ -79,8 +82,10 @@ module _ {A M W : Type 0} {machine : MachineGhosts M A} {target : TargetGhosts W
       → SettlesAs target fault.Memory now.receiver.telling.page now.target answer new
       → Answers begun glimpse log given new answer
   answers_memory glimpse answer new (meanings, what, halted, place) settles =
-      elim (settles begun.state.target (text begun meanings) (halted begun.settings begun.first begun.is).stopped.carried) [
-        | inl well ↦ subst (Answers begun glimpse log given new) (sym well.0) (writes_front meanings what halted place false fault.Memory new refl well.1)
+      let carried = (halted begun.settings begun.first begun.is).stopped.carried in
+      elim (settles begun.state.target (text begun meanings) carried) [
+        | inl well ↦ subst (Answers begun glimpse log given new) (sym well.0)
+            (writes_front meanings what halted place false fault.Memory new refl well.1)
         | inr wrong ↦ subst (Answers begun glimpse log given new) (sym wrong.0) (inl (
           front_of_whole (script begun) MESSAGE_LIMIT begun.settings log given fault.Write (old begun) (target.taken new)
               (writes_front meanings what halted place true fault.Write new refl wrong.1),
@@ -93,5 +98,5 @@ module _ {A M W : Type 0} {machine : MachineGhosts M A} {target : TargetGhosts W
       → HasFrame (λ T e. IsKeptForMessage MESSAGE_LIMIT T e ⊎ machine.needs begun.first T e) begun.settings log
   frame_needed (meanings, what, halted, place) =
       let at = halted begun.settings begun.first begun.is in
-      has_frame (λ T e. IsKeptForMessage MESSAGE_LIMIT T e ⊎ machine.needs begun.first T e) begun.settings log given meanings what
-      at.stamped at.dir place at.means at.direction at.stopped.reason.1
+      has_frame (λ T e. IsKeptForMessage MESSAGE_LIMIT T e ⊎ machine.needs begun.first T e) begun.settings log given
+      meanings what at.stamped at.dir place at.means at.direction at.stopped.reason.1

@@ -32,16 +32,18 @@ module _ {A M W : Type 0} {machine : MachineGhosts M A} {target : TargetGhosts W
       let found = oversize_stops MESSAGE_LIMIT settings log given line announced meanings what place (omega arith)
       (each_within settings meanings (at.stopped.within strict))
       (line_announces settings what at.stamped at.dir (Some announced) at.means at.direction at.stopped.reason.2) in
-      let read : AreLinesRead (passing (machine.script begun.first).strict MESSAGE_LIMIT settings) true (min given settings.max_bytes) log meanings =
-      subst (λ b. AreLinesRead (passing b MESSAGE_LIMIT settings) true (min given settings.max_bytes) log meanings) (sym strict)
-      (read_before_oversize MESSAGE_LIMIT settings true (min given settings.max_bytes) log line announced meanings found.0 found.2 found.1) in
+      let count = min given settings.max_bytes in
+      let read : AreLinesRead (passing (machine.script begun.first).strict MESSAGE_LIMIT settings) true count log meanings =
+      subst (λ b. AreLinesRead (passing b MESSAGE_LIMIT settings) true count log meanings) (sym strict)
+      (read_before_oversize MESSAGE_LIMIT settings true count log line announced meanings found.0 found.2 found.1) in
       elim (settles begun.state.target (text begun meanings) at.stopped.carried) [
         | inl well ↦ subst (Answers begun glimpse log given new) (sym well.0) (
           subst (λ b. IsUnreadFor b MESSAGE_LIMIT settings log (fault.Oversize line announced)) (sym strict) found.2.over,
           record { meanings = meanings; read = read; wrote = wrote_all target begun.state.target new (text begun meanings) well.1 },
         )
         | inr wrong ↦ subst (Answers begun glimpse log given new) (sym wrong.0)
-            (front_of_read (command_of machine glimpse begun.first) MESSAGE_LIMIT settings log given (fault.Oversize line announced) meanings (old begun) (target.taken new)
+            (front_of_read (command_of machine glimpse begun.first) MESSAGE_LIMIT settings log given
+            (fault.Oversize line announced) meanings (old begun) (target.taken new)
             (record { meanings = meanings; read = read; wrote = refl })
             (wrote_front target begun.state.target new (text begun meanings) true wrong.1) (wrong.1.failed_some refl))
       ]

@@ -22,7 +22,8 @@ use Rattle.trace_log.proofs.Promises.{each_more, messages_more}
 -- ---- what is said of one more frame
 
 -- of some frames and of more behind them
-pub said-append : (of_frame : List Entry → Entry → List ℕ) (past xs ys : List Entry) → said_after of_frame past (xs ++ ys) ≡ said_after of_frame past xs ++ said_after of_frame (past ++ xs) ys
+pub said-append : (of_frame : List Entry → Entry → List ℕ) (past xs ys : List Entry)
+    → said_after of_frame past (xs ++ ys) ≡ said_after of_frame past xs ++ said_after of_frame (past ++ xs) ys
 said-append of_frame past [] ys = ap (λ l. said_after of_frame l ys) (sym (append-nil past))
 said-append of_frame past (e ∷ xs) ys =
     ap (λ l. of_frame past e ++ l) (said-append of_frame (past ++ e ∷ []) xs ys
@@ -30,12 +31,16 @@ said-append of_frame past (e ∷ xs) ys =
     ∙ sym (append_assoc (of_frame past e) (said_after of_frame (past ++ e ∷ []) xs) (said_after of_frame (past ++ (e ∷ xs)) ys))
 
 -- and of one more
-pub one_more_said : (of_frame : List Entry → Entry → List ℕ) (T : List Entry) (e : Entry) → said_of_frames of_frame (T ++ e ∷ []) ≡ said_of_frames of_frame T ++ of_frame T e
-one_more_said of_frame T e = said-append of_frame [] T (e ∷ []) ∙ ap (λ l. said_of_frames of_frame T ++ l) (append-nil (of_frame T e))
+pub one_more_said : (of_frame : List Entry → Entry → List ℕ) (T : List Entry) (e : Entry)
+    → said_of_frames of_frame (T ++ e ∷ []) ≡ said_of_frames of_frame T ++ of_frame T e
+one_more_said of_frame T e =
+    said-append of_frame [] T (e ∷ []) ∙ ap (λ l. said_of_frames of_frame T ++ l) (append-nil (of_frame T e))
 
 -- what one more frame's message counts
-pub counts_next : (T : List Entry) (e : Entry) (d : Dir) (event : EventValue) (judge : Judge) → e.dir ≡ d → event ≡ verdict MESSAGE_LIMIT T e
-    → IsJudgeOf (messages MESSAGE_LIMIT T ++ told_message d event.verdict) judge → IsJudgeOf (messages MESSAGE_LIMIT (T ++ e ∷ [])) judge
+pub counts_next : (T : List Entry) (e : Entry) (d : Dir) (event : EventValue) (judge : Judge) → e.dir ≡ d
+    → event ≡ verdict MESSAGE_LIMIT T e
+    → IsJudgeOf (messages MESSAGE_LIMIT T ++ told_message d event.verdict) judge
+    → IsJudgeOf (messages MESSAGE_LIMIT (T ++ e ∷ [])) judge
 counts_next T e d event judge dir_is is counts =
     subst (λ M. IsJudgeOf M judge)
     (ap (λ v. messages MESSAGE_LIMIT T ++ told_message d v) (ap (λ (x : EventValue). x.verdict) is)
