@@ -22,11 +22,11 @@ pub record RunState (M W : Type 0) : Type 0 where
 abbrev pub run_state : {M W : Type 0} → Receiver M W × W → RunState M W
 run_state pair = record { receiver = pair.0; target = pair.1 }
 
--- what is known of two states and of the lines between them, of such pairs
+-- a word for two states and the lines between them, as one for such pairs
 abbrev pub of_pairs : {M W : Type 0} → Took (RunState M W) → Took (Receiver M W × W)
 of_pairs Known before meanings now = Known (run_state before) meanings (run_state now)
 
--- and where it stopped
+-- the same where a run stopped on the next line
 abbrev pub stop_of_pairs : {M W : Type 0} → Stopped (RunState M W) → Stopped (Receiver M W × W)
 stop_of_pairs Known before meanings what why now = Known (run_state before) meanings what why (run_state now)
 
@@ -37,7 +37,8 @@ pub record HasReceived {M W : Type 0} (settings : Settings) (meanings : List (Op
   pub lines : Receives settings meanings receiver.pair receiver.lines receiver.counts
 
 module _ {A M W : Type 0} (machine : MachineGhosts M A) (target : TargetGhosts W) where
-  -- A run begins so, with these settings and with the machine `first`: nothing was received and nothing told.
+  -- A run begins so, with these settings and with the machine `first`: nothing was received, nothing told, and the
+  -- target's count of failures leaves room for one run.
   pub record IsRunStart (settings : Settings) (first : M) (begun : RunState M W) : Type 0 where
     pub config : begun.receiver.config ≡ settings
     pub nothing : IsStart begun.receiver.pair begun.receiver.lines begun.receiver.counts
@@ -54,7 +55,8 @@ module _ {A M W : Type 0} (machine : MachineGhosts M A) (target : TargetGhosts W
     pub stopped : HasStopped machine target start (trace settings meanings) (entry_in meanings stamped dir) why
         now.receiver.telling now.target
 
-  -- The five words below say what is so where a run began `before`, with whatever settings and machine.
+  -- The four words below, of which the five members of a taker of lines are made, say what is so where a run began
+  -- `before`, with whatever settings and machine.
 
   -- the lines were taken, and their frames told
   abbrev pub HasTaken : Took (RunState M W)

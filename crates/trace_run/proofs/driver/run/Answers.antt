@@ -71,7 +71,8 @@ returns-in-Err g c =
     let takes = c.in-Err.ensures.takes start none in
     let fed : (log : List ℕ) → AgreesWith g.R.Source c.args.source.now c.feed_lines.new.reader log
     → Fed M W run.state c.args.config.now.max_bytes log given (Err why) now =
-    λ log agrees. subst (λ most. Fed M W run.state most log given (Err why) now) c.max_bytes.ensures.value (c.in-Err.ensures.lines log agrees start none) in
+    λ log agrees.
+    subst (λ most. Fed M W run.state most log given (Err why) now) c.max_bytes.ensures.value (c.in-Err.ensures.lines log agrees start none) in
     let carries = ends_carrying run now glimpse answer new why takes (gives_up g c) in
     record {
       ran = record {

@@ -73,4 +73,5 @@ pub returns-clause-no_more : goal.returns-clause-no_more
 returns-clause-no_more g c = λ start said carries.
     let W = g.W.Target in
     subst (λ h. Carries W start said (record c.args.self.now { held = h }) c.write_out.new.target) (sym c.write_out.ensures.blank)
-    (subst (λ b. Carries W start said (blank_page b) c.write_out.new.target) (sym (c.may_write.ensures.well c.if-not-may_write.false)) (returns-clause-settled g c start said carries))
+    (subst (λ b. Carries W start said (blank_page b) c.write_out.new.target)
+    (sym (c.may_write.ensures.well c.if-not-may_write.false)) (returns-clause-settled g c start said carries))

@@ -32,7 +32,8 @@ returns-in_default-direction_of-clause-ok g c = λ start meanings number few too
     let self = c.args.self.now in
     let stamped = c.in-Some.stamped in
     let none : None ≡ direction_of settings stamped.frame.id =
-    sym c.in_default-direction_of.is ∙ c.direction_of.ensures ∙ ap (direction_of self.config) c.id.ensures ∙ ap (λ s. direction_of s stamped.frame.id) so_far.0.config in
+    sym c.in_default-direction_of.is ∙ c.direction_of.ensures ∙ ap (direction_of self.config) c.id.ensures
+    ∙ ap (λ s. direction_of s stamped.frame.id) so_far.0.config in
     let same = trace_same_foreign settings meanings c.args.what.now stamped c.in-Some.is none in (
       record {
         config = so_far.0.config;
@@ -51,7 +52,8 @@ returns-clause-ok g c =
     four_ok c.receive.result (λ stands grew counts taken start meanings number few took settings first begun.
     let so_far = took settings first begun in
     let direction : Some d ≡ direction_of settings stamped.frame.id =
-    sym c.in-Some-direction_of.is ∙ c.direction_of.ensures ∙ ap (direction_of self.config) c.id.ensures ∙ ap (λ s. direction_of s stamped.frame.id) so_far.0.config in
+    sym c.in-Some-direction_of.is ∙ c.direction_of.ensures ∙ ap (direction_of self.config) c.id.ensures
+    ∙ ap (λ s. direction_of s stamped.frame.id) so_far.0.config in
     let next = trace_next settings meanings c.args.what.now stamped d c.in-Some.is direction in
     let line : c.args.line ≡ 1 + length meanings = omega arith in
     let here : at c.args.line ≡ entry_in meanings stamped d = ap at line in
@@ -61,8 +63,8 @@ returns-clause-ok g c =
       record {
         config = c.receive.ensures.same.0 ∙ so_far.0.config;
         lines =
-            receives_next settings meanings c.args.what.now (entry_in meanings stamped d) self.pair now.pair self.lines now.lines self.counts now.counts
-            next (c.receive.ensures.same.1 ∙ number) few
+            receives_next settings meanings c.args.what.now (entry_in meanings stamped d) self.pair now.pair self.lines now.lines
+            self.counts now.counts next (c.receive.ensures.same.1 ∙ number) few
             (stands T so_far.0.lines.pair_is ∙ ap (λ (e : Entry). receptions_after MESSAGE_LIMIT (T ++ e ∷ [])) here)
             grew
             (counts T so_far.0.lines.pair_is ∙ ap (λ (e : Entry). counted_more d (verdict MESSAGE_LIMIT T e) self.counts) here) so_far.0.lines;

@@ -16,22 +16,33 @@ returns g c =
       well = λ is start T tells.
           let now : HasToldAndWritten M W start T self false c.settle.new.target =
           subst (λ b. HasToldAndWritten M W start T self (not b) c.settle.new.target) is
-          (settled_as M W start T self _ _ c.settle.result tells c.settle.ensures.settled) in
-          (now, same_page M W start T self c.settle.new.self c.settle.new.target now (c.settle.ensures.well is) (c.settle.ensures.blank is));
+          (settled_as M W start T self _ _ c.settle.result tells c.settle.ensures.settled) in (
+            now,
+            same_page M W start T self c.settle.new.self c.settle.new.target now (c.settle.ensures.well is) (c.settle.ensures.blank is),
+          );
       wrong = λ is start T tells.
           subst (λ b. HasToldAndWritten M W start T self (not b) c.settle.new.target) is
           (settled_as M W start T self _ _ c.settle.result tells c.settle.ensures.settled);
       sure = λ is start T tells.
           let text = said_since M start.machine T in
           let written : Carries W start.target text (blank_page false) c.settle.new.target =
-          subst (λ b. Carries W start.target text (blank_page (not b)) c.settle.new.target) is (c.settle.ensures.settled start.target text tells.carried) in
+          subst (λ b. Carries W start.target text (blank_page (not b)) c.settle.new.target) is
+          (c.settle.ensures.settled start.target text tells.carried) in
           record {
             within = tells.within;
             mid = c.settle.new.target;
             said = [];
             wrote = wrote_all W start.target c.settle.new.target text written;
-            carried = carries_at_start W c.settle.new.target c.settle.new.self (omega (arith, written.failures)) (c.settle.ensures.well is) (c.settle.ensures.blank is);
+            carried =
+                carries_at_start W c.settle.new.target c.settle.new.self (omega (arith, written.failures))
+                (c.settle.ensures.well is) (c.settle.ensures.blank is);
           };
       kept = λ start earlier sure.
-          record { within = sure.within; mid = sure.mid; said = sure.said; wrote = sure.wrote; carried = c.settle.ensures.no_more sure.mid sure.said sure.carried };
+          record {
+            within = sure.within;
+            mid = sure.mid;
+            said = sure.said;
+            wrote = sure.wrote;
+            carried = c.settle.ensures.no_more sure.mid sure.said sure.carried;
+          };
     }
