@@ -13,7 +13,7 @@ use Rattle.trace_report.proofs.Steps.{few_rows}
 use Rattle.trace_report.proofs.reporter.ReporterMachine.end.Goals as goal
 
 pub returns-clause-says : goal.returns-clause-says
-returns-clause-says g c = λ start T known stand within.
+returns-clause-says g c = λ start T known stand.
     let origin = c.say_front_before-origin.ensures.first T known.times refl in
     let rows = c.end.ensures T known.follows stand in
     let low : length (rows_of MESSAGE_LIMIT T) < 2 ^ 64 - 3 = omega (arith, known.few, few_rows MESSAGE_LIMIT T) in
