@@ -1,9 +1,10 @@
+pub mod FirstFrames
 pub mod ReadOnly
 pub mod MemoryNeeded
 pub mod WrittenAtEnd
 pub mod ExplainScript
-pub mod MessageLines
 pub mod ReceptionStarts
+pub mod MessageLines
 pub mod WatchScript
 pub mod Sessions
 pub mod Compared

@@ -8,6 +8,7 @@ use Rattle.uds_exchange.specs.Orderer.{IsHeld}
 use Rattle.trace_log.specs.Settings.{Settings}
 use Rattle.trace_log.specs.Needing.{HasFrame, IsKeptForMessage}
 use Rattle.trace_log.specs.Refusal.{IsNotRefusedWithin}
+use Rattle.trace_canon.specs.FirstFrames.{CompletesMessage}
 use Rattle.trace_canon.specs.ReadOnly.{WayOfReading}
 
 -- The frame completes a message which is such behind the messages so far.
@@ -22,10 +23,6 @@ CompletesHeld limit T e = CompletesSuch IsHeld limit T e
 -- The frame completes a message that is kept: a request, or a stray behind a request that waits for its answer.
 abbrev pub CompletesKept : ℕ → List Entry → Entry → Type 0
 CompletesKept limit T e = CompletesSuch IsKept limit T e
-
--- The frame completes a message.
-abbrev pub CompletesMessage : ℕ → List Entry → Entry → Type 0
-CompletesMessage limit T e = (bytes : List ℕ) × ((verdict limit T e).verdict ≡ message bytes)
 
 -- the log has a frame whose bytes are kept, or one that completes a message which is held
 abbrev pub NeedsMemoryToOrder : ℕ → Settings → List ℕ → Type 0

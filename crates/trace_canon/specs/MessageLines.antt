@@ -1,26 +1,21 @@
 -- What `messages` writes: a line for each message that is delivered, in the order of delivery, in words or as an object
--- of JSON. It tells the places of the first frame of the message and of its last one. A *place* is that of a frame: its
--- line and its time.
-use Rattle.std.specs.Prelude.{ℕ, Bool, true, false, List, [], ◌∷◌, ◌++◌, codes, if◌then◌else◌}
+-- of JSON, with the places of the first frame of the message and of its last one.
+use Rattle.std.specs.Prelude.{ℕ, false, List, [], ◌++◌, codes}
 use Rattle.std.specs.Fmt.{decimal}
 use Rattle.direction.specs.Dir.{Message}
-use Rattle.direction.specs.declared.Dir.{Dir}
-use Rattle.isotp_receive.specs.Trace.{Entry, FrameRole, single, first, consecutive, continue_or_wait, overflow, no_part, role}
+use Rattle.isotp_receive.specs.Trace.{Entry}
 use Rattle.isotp_receive.specs.Verdict.{VerdictValue, message, began, stored, flowed, dropped, messages, verdict}
 use Rattle.uds_exchange.specs.Judging.{sent, step_after, number_after}
 use Rattle.uds_exchange.specs.declared.judge.Judged.{Judged}
 use Rattle.uds_exchange.specs.declared.step.Step.{Step}
 use Rattle.trace_text.specs.Json.{Members, nothing, member, object_line}
 use Rattle.trace_text.specs.Json as json
+use Rattle.trace_canon.specs.FirstFrames.{first_frame, place_of}
 use Rattle.trace_canon.specs.declared.reception_starts.FramePlace.{FramePlace}
 use Rattle.trace_text.specs.declared.notation.Notation.{Notation}
 use Rattle.trace_text.specs.declared.notation.Notation.TheVariants.{Text, Json}
 use Rattle.trace_run.specs.Script.{Script}
 use Rattle.trace_text.specs.Words.{bytes_text, direction_text, role_text, stamp_text}
-
--- the place of a frame
-abbrev pub place_of : Entry → FramePlace
-place_of e = record { line = e.line; micros = e.micros }
 
 -- the lines and the stamps of the first frame of a message and of its last one
 abbrev pub extent_text : FramePlace → FramePlace → List ℕ
@@ -75,24 +70,6 @@ placed_behind M sent start end =
       start = place_of start;
       end = place_of end;
     }
-
--- a frame of this role starts a message: a single frame or a first frame
-abbrev pub starts : FrameRole → Bool
-starts (single whole) = true
-starts (first start) = true
-starts (consecutive sequence_number can_dl bytes) = false
-starts continue_or_wait = false
-starts overflow = false
-starts no_part = false
-
--- the last of these frames that starts a message of the direction; the frame `earlier` where none of them does
-abbrev pub last_start : Dir → Entry → List Entry → Entry
-last_start d earlier [] = earlier
-last_start d earlier (e ∷ rest) = last_start d (if starts (role d e) then e else earlier) rest
-
--- the first frame of a message that the frame e completes after the frames T: no other one starts between the two
-abbrev pub first_frame : List Entry → Entry → Entry
-first_frame T e = last_start e.dir e (T ++ e ∷ [])
 
 -- the line of the message that the frame e completes after the frames T, where it does this
 abbrev pub delivered_line : Notation → ℕ → List Entry → Entry → VerdictValue → List ℕ

@@ -30,13 +30,14 @@
 //! |---|---|---|
 //! | [`normalise`] | `normaliser`, `canonical_sink`, `progress`, `length` | `Answers`, `Outcome`, `CanonicalLog` of `trace_log` |
 //! | [`explain`] | `explainer` | `ExplainScript` |
-//! | [`messages`] | `message_lines`, `reception_starts`, `message_objects`, `message_parts` | `MessageLines`, `ReceptionStarts` |
+//! | [`messages`] | `message_lines`, `message_objects`, `message_parts` | `MessageLines` |
 //! | [`watch`] | `watcher` | `WatchScript` |
 //! | [`meaning_of`] | `collector`, `length` | `Sessions` |
 //! | [`compare`] | `comparing` | `Compared` |
 //! | [`write_comparison`] | `comparison_text`, `comparison_objects`, `compared_items` | `ComparisonText` |
 //! | [`list`], [`write_items`] | `lister`, `item_text` | `ItemText` |
 //! | [`find`] | `finding`, `hearing`, `credit_lines` | `Finding` |
+//! | where messages began, for [`messages`] and for a page | [`reception_starts`] | `FirstFrames`, `ReceptionStarts` |
 //! | over logs in memory, seven of these | [`in_memory`] | `InMemory` |
 //! | laws of [`watch`] and of [`messages`] | [`laws`] | `Laws` |
 //!

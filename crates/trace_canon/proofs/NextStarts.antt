@@ -21,8 +21,7 @@ use Rattle.isotp_receive.specs.Trace.{Entry, role, own_role, other_role, same_di
 use Rattle.isotp_receive.specs.Verdict.{message, on_layout, on_fit, verdict}
 use Rattle.isotp_receive.proofs.Promises.{one_more, same-self, other-apart, apart-flipped}
 use Rattle.trace_run.specs.Seen.{IsEventOf}
-use Rattle.trace_canon.specs.MemoryNeeded.{CompletesMessage}
-use Rattle.trace_canon.specs.MessageLines.{place_of, starts, last_start, first_frame}
+use Rattle.trace_canon.specs.FirstFrames.{CompletesMessage, place_of, starts, last_start, first_frame}
 use Rattle.trace_canon.specs.ReceptionStarts.{AreStartsAfter, IsBegunAt, reception_start, start_after_event, message_start}
 use Rattle.trace_canon.specs.declared.reception_starts.FramePlace.{FramePlace}
 use Rattle.trace_canon.specs.declared.reception_starts.ReceptionStarts.{ReceptionStarts}
