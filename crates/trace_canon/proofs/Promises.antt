@@ -2,4 +2,4 @@
 -- over memory.
 pub use Rattle.trace_canon.proofs.NextStarts.{role_own, role_other}
 pub use Rattle.trace_canon.proofs.CanonicalMachines.{messages_next}
-pub use Rattle.trace_canon.proofs.InMemories.{agrees_in_memory, gathered, reads_well, taken_is_held, told_in_memory}
+pub use Rattle.trace_canon.proofs.InMemories.{agrees_in_memory, gathered, reads_well, taken_is_held, said_in_memory}

@@ -24,7 +24,7 @@ use Rattle.trace_run.specs.Script.{answers_counts, command, says_no_refusal, sai
 use Rattle.trace_run.specs.Ran.{AnswersAndWrites}
 use Rattle.trace_log.specs.Trace.{trace}
 use Rattle.trace_canon.specs.WatchScript.{decided_of, newly_decided, text_behind, watching_script, WritesTheList}
-use Rattle.trace_canon.specs.Laws.{WatchTellsDecided, WatchTellsTheList}
+use Rattle.trace_canon.specs.Laws.{WatchSaysDecided, WatchSaysTheList}
 use Rattle.trace_canon.specs.proving.Watching.{SaysLines, SaysDecided, WatchesItems}
 use Rattle.trace_log.specs.declared.fault.Fault.{Fault}
 use Rattle.trace_text.specs.declared.item_style.ItemStyle.{ItemStyle}
@@ -138,7 +138,7 @@ module _ {S : Type 0} (says : S → List ℕ → S → Type 0) (style kept : Ite
       let few = stood.few in
       subst (λ text. says out text out_now) (λ i. list_text_from (same i) (numbered i) (undecided (messages MESSAGE_LIMIT T))) (lines (omega arith)).1
 
--- ---- all that is told
+-- ---- all that is said
 
 module _ (style : ItemStyle) (limit : ℕ) where
   -- the list of items, and the text of those behind them
@@ -146,10 +146,10 @@ module _ (style : ItemStyle) (limit : ℕ) where
       → list_text style (decided_of limit T) ++ text_behind style limit T items ≡ list_text style (decided_of limit T ++ items)
   joined T items = sym (lines-append style 1 (decided_of limit T) items)
 
-  -- the list so far, and what is told of one more frame
-  next_told : (T : List Entry) (e : Entry)
+  -- the list so far, and what is said of one more frame
+  next_said : (T : List Entry) (e : Entry)
       → list_text style (decided_of limit T) ++ text_behind style limit T (newly_decided limit T e) ≡ list_text style (decided_of limit (T ++ e ∷ []))
-  next_told T e =
+  next_said T e =
       let M = messages limit T in
       let grows = decided_grows M (told_message e.dir (verdict limit T e).verdict) in
       let longer : decided_of limit (T ++ e ∷ []) ≡ decided M ++ grows.0 = ap decided (messages_more limit T e) ∙ grows.1 in
@@ -163,16 +163,16 @@ module _ (style : ItemStyle) (limit : ℕ) where
   from_there past (e ∷ rest) =
       let word = text_behind style limit past (newly_decided limit past e) in
       let later = said_after ((watching_script style limit).of_frame) (past ++ e ∷ []) rest in
-      sym (append_assoc (list_text style (decided_of limit past)) word later) ∙ ap (λ x. x ++ later) (next_told past e) ∙ from_there (past ++ e ∷ []) rest
+      sym (append_assoc (list_text style (decided_of limit past)) word later) ∙ ap (λ x. x ++ later) (next_said past e) ∙ from_there (past ++ e ∷ []) rest
       ∙ ap (λ T. list_text style (decided_of limit T)) (append_assoc past (e ∷ []) rest)
 
-pub watch_tells_decided : WatchTellsDecided
-watch_tells_decided style limit T = from_there style limit [] T
+pub watch_says_decided : WatchSaysDecided
+watch_says_decided style limit T = from_there style limit [] T
 
-pub watch_tells_the_list : WatchTellsTheList
-watch_tells_the_list style limit T summary =
+pub watch_says_the_list : WatchSaysTheList
+watch_says_the_list style limit T summary =
     let M = messages limit T in
-    ap (λ x. x ++ text_behind style limit T (undecided M)) (watch_tells_decided style limit T) ∙ joined style limit T (undecided M)
+    ap (λ x. x ++ text_behind style limit T (undecided M)) (watch_says_decided style limit T) ∙ joined style limit T (undecided M)
     ∙ ap (list_text style) (decided_then_undecided M)
 
 -- so where a run comes to the end of the log, that was written
@@ -182,6 +182,6 @@ pub writes_the_list : (style : ItemStyle) (settings : Settings) (log : List ℕ)
 writes_the_list style settings log given (Ok summary) old new (all, meanings, is, counted, wrote) = (
   meaning_of_lines MESSAGE_LIMIT settings meanings,
   record { meanings = meanings; means = is.1; found = refl },
-  wrote ∙ ap (λ x. old ++ x) (watch_tells_the_list style MESSAGE_LIMIT (trace settings meanings) (summary_of MESSAGE_LIMIT settings log meanings)),
+  wrote ∙ ap (λ x. old ++ x) (watch_says_the_list style MESSAGE_LIMIT (trace settings meanings) (summary_of MESSAGE_LIMIT settings log meanings)),
 )
 writes_the_list style settings log given (Err why) old new answers = tt

@@ -47,7 +47,7 @@ comparison_lines shows Same left right = codes "same\n"
 comparison_lines shows (Different index) left right =
     codes "different at item " ++ decimal (index + 1) ++ codes "\n" ++ (if shows then shown_lines index left right else [])
 
--- the members of two logs that differ at this index, and what else is told of them
+-- the members of two logs that differ at this index, and what else is said of them
 abbrev pub different_members : ℕ → Members → Members
 different_members index later =
     member (codes "same") (json.truth false) (member (codes "item") (json.number (index + 1)) later)

@@ -36,7 +36,7 @@ pub record IsOfMemory (NeedsMemory : Type 0) (fault : Fault) : Type 0 where
   pub memory : fault ≡ Memory → NeedsMemory
 
 -- the log is refused for what the fault tells, or memory was refused, which it needs. Here and below a need is said of
--- a limit, settings and a log, so that a clause tells these once and names its need by one word.
+-- a limit, settings and a log, so that a clause says these once and names its need by one word.
 abbrev pub IsRefused : (ℕ → Settings → List ℕ → Type 0) → ℕ → Settings → List ℕ → Fault → Type 0
 IsRefused NeedsMemory limit settings log fault =
     TellsOutcome limit settings log fault × IsOfMemory (NeedsMemory limit settings log) fault
@@ -57,19 +57,19 @@ abbrev pub IsListWith : ItemStyle → ℕ → Settings → List ℕ → List ℕ
 IsListWith style limit settings log text summary =
     (items : List ItemValue) × IsAcceptedWith limit settings log items summary × (text ≡ list_text style items)
 
--- the log can be read and has these counts, and this is all that a script tells of it
-abbrev pub IsToldWith : Script → ℕ → Settings → List ℕ → List ℕ → Summary → Type 0
-IsToldWith script limit settings log text summary =
+-- the log can be read and has these counts, and this is all that a script says of it
+abbrev pub IsSaidWith : Script → ℕ → Settings → List ℕ → List ℕ → Summary → Type 0
+IsSaidWith script limit settings log text summary =
     (meanings : List (Option Stamped)) × IsReadAs settings log (Ok meanings)
     × (summary ≡ summary_of limit settings log meanings) × (text ≡ whole_of_lines script limit settings log meanings)
 
 -- the log can be read and has these counts, and these are the lines of its messages in this notation
 abbrev pub AreMessageLinesWith : Notation → ℕ → Settings → List ℕ → List ℕ → Summary → Type 0
-AreMessageLinesWith notation limit = IsToldWith (messages_script notation limit) limit
+AreMessageLinesWith notation limit = IsSaidWith (messages_script notation limit) limit
 
 -- the log can be read and has these counts, and this explains it in this notation
 abbrev pub IsExplanationWith : Notation → ℕ → Settings → List ℕ → List ℕ → Summary → Type 0
-IsExplanationWith notation limit = IsToldWith (explain_script notation limit) limit
+IsExplanationWith notation limit = IsSaidWith (explain_script notation limit) limit
 
 -- the log can be read and has these counts, and this is the text of its credit lines in this notation
 abbrev pub IsFindingWith : Notation → Settings → List ℕ → List ℕ → Summary → Type 0

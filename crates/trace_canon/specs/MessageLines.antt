@@ -80,7 +80,7 @@ delivered_line notation limit T e stored = []
 delivered_line notation limit T e flowed = []
 delivered_line notation limit T e (dropped reason) = []
 
--- what `messages` tells: of each frame the line of the message that it completes, and nothing at the end
+-- what `messages` says: of each frame the line of the message that it completes, and nothing at the end
 abbrev pub messages_script : Notation → ℕ → Script
 messages_script notation limit = record {
   strict = false;

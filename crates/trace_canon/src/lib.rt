@@ -44,7 +44,8 @@
 //! How a log is read, and what a run comes to that writes nothing, is in `ReadOnly`; what one comes to that writes a
 //! text at the end, in `WrittenAtEnd`; for which frames a command needs memory, in `MemoryNeeded`.
 //!
-//! What tells of a log while it comes is a machine of [`trace_run`](trace_run::Machine): those of the first four rows.
+//! What says text of a log while it comes is a machine of [`trace_run`](trace_run::Machine): those of the first four
+//! rows.
 //! So is what collects the meaning of a log: on it stand [`meaning_of`], [`compare`] and [`write_items`].
 //!
 //! [`find`] is none: it hears every frame, whatever its identifier, and has no receiver. What the credit lines are that

@@ -39,7 +39,7 @@ pub fn messages<R: Source, W: Target>(
         (command (messages_script notation MESSAGE_LIMIT) says_no_refusal answers_counts needs_none)
         config.now reader.old writer.old result reader.new writer.new }
 {
-    let machine = MessageTeller {
+    let machine = MessageSayer {
         notation,
         begun: ReceptionStarts::start(),
     };
@@ -48,20 +48,20 @@ pub fn messages<R: Source, W: Target>(
 
 /// Says the line of each message. It keeps no message.
 #[derive(Drop)]
-pub(crate) struct MessageTeller {
+pub(crate) struct MessageSayer {
     pub notation: Notation,
     pub begun: ReceptionStarts,
 }
 
-impl Machine for MessageTeller {
+impl Machine for MessageSayer {
     ghost use Rattle.isotp_receive.specs.declared.TheConstants.{MESSAGE_LIMIT};
-    ghost use Rattle.trace_canon.specs.proving.MessageTelling.{TellsMessages};
+    ghost use Rattle.trace_canon.specs.proving.MessageSaying.{SaysMessages};
     ghost use Rattle.trace_canon.specs.MessageLines.{messages_script};
     ghost use Rattle.trace_run.specs.Script.{answers_counts, needs_none};
 
     type Answer = Summary;
 
-    ghost stands = { λ start T now. TellsMessages start.notation T now.notation now.begun };
+    ghost stands = { λ start T now. SaysMessages start.notation T now.notation now.begun };
 
     ghost script = { λ start. messages_script start.notation MESSAGE_LIMIT };
 

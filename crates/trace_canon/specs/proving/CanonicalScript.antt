@@ -1,4 +1,4 @@
--- Devices of proof: what is told of a log by its canonical lines, and what holds of it.
+-- Devices of proof: what is said of a log by its canonical lines, and what holds of it.
 use Rattle.std.specs.Prelude.{◌≡◌, Bool, Result, Ok, Err, if◌then◌else◌, ℕ, true, List, [], ◌∷◌, ◌++◌, length, drop}
 use Rattle.direction.specs.Dir.{Message}
 use Rattle.isotp_receive.specs.declared.TheConstants.{MESSAGE_LIMIT}
@@ -53,8 +53,8 @@ text_of_early settings T =
     text_from settings (start_of settings.max_bytes) (all_frames MESSAGE_LIMIT (early (messages MESSAGE_LIMIT T)))
 
 -- what this script says of a trace are the lines of its early messages
-abbrev pub CanonicalTellsEarly : Type 0
-CanonicalTellsEarly = (settings : Settings) (T : List Entry)
+abbrev pub CanonicalSaysEarly : Type 0
+CanonicalSaysEarly = (settings : Settings) (T : List Entry)
     → said_of_frames ((canonical_script settings).of_frame) T ≡ text_of_early settings T
 
 -- the canonical log of the trace is longer than the limit
@@ -72,8 +72,8 @@ canonical_command settings =
     command (canonical_script settings) says_no_refusal (answers_canonical settings) (CompletesHeld MESSAGE_LIMIT)
 
 -- what a run of this command answers and writes is the canonical log
-abbrev pub CanonicalTellsTheSame : Type 0
-CanonicalTellsTheSame = (settings : Settings) (log : List ℕ) (given : ℕ) (result : Result Summary Fault) (old new : List ℕ)
+abbrev pub CanonicalIsTheSame : Type 0
+CanonicalIsTheSame = (settings : Settings) (log : List ℕ) (given : ℕ) (result : Result Summary Fault) (old new : List ℕ)
     → AnswersAndWrites (canonical_command settings) MESSAGE_LIMIT settings log given result old new
     → WritesSaidEagerly (canonical_script settings) MESSAGE_LIMIT settings log given old new
     → Answers MESSAGE_LIMIT settings log given result old new

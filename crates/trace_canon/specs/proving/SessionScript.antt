@@ -1,4 +1,4 @@
--- Devices of proof: what is answered with a log's meaning and its counts, where nothing is told of it.
+-- Devices of proof: what is answered with a log's meaning and its counts, where nothing is said of it.
 use Rattle.std.specs.Prelude.{◌≡◌, ℕ, ◌<◌, ◌≤◌, Bool, true, false, nat_le, List, [], length, Result, Ok, Err}
 use Rattle.isotp_receive.specs.declared.TheConstants.{MESSAGE_LIMIT}
 use Rattle.direction.specs.Dir.{Message}

@@ -1,4 +1,4 @@
--- Devices of proof: what the machine that tells of messages keeps.
+-- Devices of proof: what the machine that says the lines of messages keeps.
 use Rattle.std.specs.Prelude.{◌≡◌, List}
 use Rattle.isotp_receive.specs.declared.TheConstants.{MESSAGE_LIMIT}
 use Rattle.isotp_receive.specs.Trace.{Entry}
@@ -6,7 +6,7 @@ use Rattle.trace_canon.specs.ReceptionStarts.{AreStartsAfter}
 use Rattle.trace_canon.specs.declared.reception_starts.ReceptionStarts.{ReceptionStarts}
 use Rattle.trace_text.specs.declared.notation.Notation.{Notation}
 
--- This is what the machine that tells of messages in a notation keeps of the frames T.
-pub record TellsMessages (notation : Notation) (T : List Entry) (kept : Notation) (starts : ReceptionStarts) : Type 0 where
+-- This is what the machine that says the lines of messages in a notation keeps of the frames T.
+pub record SaysMessages (notation : Notation) (T : List Entry) (kept : Notation) (starts : ReceptionStarts) : Type 0 where
   pub same : kept ≡ notation
   pub begun : AreStartsAfter MESSAGE_LIMIT T starts
