@@ -177,10 +177,10 @@ messages_are_read_as_meant placed =
               tt,
               (
                 plain (codes "start") refl,
-                stamp_plain placed.start.micros,
+                stamp_plain placed.first.micros,
                 (
                   plain (codes "end") refl,
-                  stamp_plain placed.end.micros,
+                  stamp_plain placed.last.micros,
                   (
                     plain (codes "message") refl,
                     bytes_plain placed.sent.1,

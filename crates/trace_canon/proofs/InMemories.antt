@@ -24,7 +24,7 @@ use Rattle.trace_log.specs.Needing.{HasTextOf}
 use Rattle.trace_log.specs.Outcome.{Accepted, IsOutcome}
 use Rattle.trace_canon.specs.MemoryNeeded.{NeedsMemoryToCollect, NeedsMemoryToOrder}
 use Rattle.trace_canon.specs.MessageLines.{messages_script}
-use Rattle.trace_canon.specs.WrittenAtEnd.{LeavesOnce, TextOfLog, WritesOnce}
+use Rattle.trace_canon.specs.WrittenAtEnd.{LeavesAtEnd, TextOfLog, WritesAtEnd}
 use Rattle.trace_log.specs.Settings.{Settings}
 use Rattle.trace_run.specs.Script.{Needing, RefusalText, answers_counts, command, needs_none, says_no_refusal, said_of_lines, whole_of_lines}
 use Rattle.trace_run.specs.proving.Scripts.{lenient}
@@ -101,14 +101,14 @@ abbrev IsTextWith : {V : Type 0} → TextOfLog V → List ℕ → List ℕ → S
 IsTextWith {V = V} of log text summary = (value : V) × of.gives log value summary × (text ≡ of.text value)
 
 -- where a text is written at the end alone, a failed write leaves one that has bytes
-left_some : {V : Type 0} (of : TextOfLog V) (log old new : List ℕ) (fault : Fault) → fault ≡ Write → LeavesOnce of log fault old new → HasBytes (IsTextWith of log)
-left_some of log old new fault is left = by (subst (λ (f : Fault). LeavesOnce of log f old new) is left)
+left_some : {V : Type 0} (of : TextOfLog V) (log old new : List ℕ) (fault : Fault) → fault ≡ Write → LeavesAtEnd of log fault old new → HasBytes (IsTextWith of log)
+left_some of log old new fault is left = by (subst (λ (f : Fault). LeavesAtEnd of log f old new) is left)
   where
-    by : LeavesOnce of log Write old new → HasBytes (IsTextWith of log)
+    by : LeavesAtEnd of log Write old new → HasBytes (IsTextWith of log)
     by (value, summary, known_is, some, front) = (of.text value, summary, (value, known_is, refl), some)
 
 pub written_in_memory : {V : Type 0} (of : TextOfLog V) (log : List ℕ) (answer : Result Summary Fault) (old taken held : List ℕ)
-    → of.lacks log Memory → old ≡ [] → taken ≡ held → FailedIf Read answer 0 0 → (answer ≡ Err Memory → of.reading.needs log) → WritesOnce of log answer old taken
+    → of.lacks log Memory → old ≡ [] → taken ≡ held → FailedIf Read answer 0 0 → (answer ≡ Err Memory → of.reading.needs log) → WritesAtEnd of log answer old taken
     → MatchResult answer (λ summary. IsTextWith of log held summary)
     (λ fault. of.lacks log (fault_in_memory fault) × IsOfMemory (of.reading.needs log ⊎ HasBytes (IsTextWith of log)) (fault_in_memory fault))
 written_in_memory of log (Ok summary) old taken held memory old_is held_is failed refused (value, is, wrote) =
@@ -165,12 +165,12 @@ abbrev pub counted_in : Result Compared CompareFault → Result CountedCompariso
 counted_in (Ok compared) = Ok (counted_comparison compared)
 counted_in (Err fault) = Err fault
 
-pub comparison_in_memory : (limit : ℕ) (settings : Settings) (one other : List ℕ) (answer : Result Compared CompareFault)
+pub comparison_in_memory : (limit : ℕ) (settings : Settings) (left right : List ℕ) (answer : Result Compared CompareFault)
     → FailedIf (Left Read) answer 0 0 → FailedIf (Right Read) answer 0 0 → IfErr answer (λ fault. fault_in fault ≢ Write)
-    → (answer ≡ Err (Left Memory) → NeedsMemoryToCollect limit settings one) → (answer ≡ Err (Right Memory) → NeedsMemoryToCollect limit settings other)
-    → Compares limit settings one other answer → ComparesWithCounts limit settings one other (counted_in answer)
-comparison_in_memory limit settings one other (Ok compared) left right written left_refused right_refused is = (compared, is, refl)
-comparison_in_memory limit settings one other (Err (Left fault)) left right written left_refused right_refused is =
-    (is, record { no_read = λ read. reads_well left (ap (λ f. Err (Left f)) read); no_write = written; memory = λ why. left_refused (ap (λ f. Err (Left f)) why) })
-comparison_in_memory limit settings one other (Err (Right fault)) left right written left_refused right_refused is =
-    (is, record { no_read = λ read. reads_well right (ap (λ f. Err (Right f)) read); no_write = written; memory = λ why. right_refused (ap (λ f. Err (Right f)) why) })
+    → (answer ≡ Err (Left Memory) → NeedsMemoryToCollect limit settings left) → (answer ≡ Err (Right Memory) → NeedsMemoryToCollect limit settings right)
+    → Compares limit settings left right answer → ComparesWithCounts limit settings left right (counted_in answer)
+comparison_in_memory limit settings left right (Ok compared) left_failed right_failed written left_refused right_refused is = (compared, is, refl)
+comparison_in_memory limit settings left right (Err (Left fault)) left_failed right_failed written left_refused right_refused is =
+    (is, record { no_read = λ read. reads_well left_failed (ap (λ f. Err (Left f)) read); no_write = written; memory = λ why. left_refused (ap (λ f. Err (Left f)) why) })
+comparison_in_memory limit settings left right (Err (Right fault)) left_failed right_failed written left_refused right_refused is =
+    (is, record { no_read = λ read. reads_well right_failed (ap (λ f. Err (Right f)) read); no_write = written; memory = λ why. right_refused (ap (λ f. Err (Right f)) why) })

@@ -168,13 +168,13 @@ other_begun d T line micros frame begun is earlier =
     (other_next line micros (here_at line micros) d (stands MESSAGE_LIMIT d T) (stands MESSAGE_LIMIT o T) (place_of (last_start o earlier T)) (layout_of frame))
 
 -- so that of either
-begun_by : (d x : Dir) (T : List Entry) (line micros : ℕ) (frame : FrameValue) (kept : ReceptionStarts) → AreStartsAfter MESSAGE_LIMIT T kept
+begun_by : (d x : Dir) (T : List Entry) (line micros : ℕ) (frame : FrameValue) (before : ReceptionStarts) → AreStartsAfter MESSAGE_LIMIT T before
     → IsBegunAt MESSAGE_LIMIT x (T ++ entry_at line micros d frame ∷ [])
-    (start_after_event x d (verdict MESSAGE_LIMIT T (entry_at line micros d frame)) (here_at line micros) (reception_start kept x))
-begun_by Tester Tester T line micros frame kept are = own_begun Tester T line micros frame kept.tester (are Tester)
-begun_by Tester Unit T line micros frame kept are = other_begun Tester T line micros frame kept.unit (are Unit)
-begun_by Unit Tester T line micros frame kept are = other_begun Unit T line micros frame kept.tester (are Tester)
-begun_by Unit Unit T line micros frame kept are = own_begun Unit T line micros frame kept.unit (are Unit)
+    (start_after_event x d (verdict MESSAGE_LIMIT T (entry_at line micros d frame)) (here_at line micros) (reception_start before x))
+begun_by Tester Tester T line micros frame before are = own_begun Tester T line micros frame before.tester (are Tester)
+begun_by Tester Unit T line micros frame before are = other_begun Tester T line micros frame before.unit (are Unit)
+begun_by Unit Tester T line micros frame before are = other_begun Unit T line micros frame before.tester (are Tester)
+begun_by Unit Unit T line micros frame before are = own_begun Unit T line micros frame before.unit (are Unit)
 
 -- where the message began that a frame completed is the place of its first frame
 first_of : (d : Dir) (T : List Entry) (line micros : ℕ) (frame : FrameValue) (begun : Option FramePlace) (whole : List ℕ) → IsBegunAt MESSAGE_LIMIT d T begun
@@ -187,18 +187,18 @@ first_of d T line micros frame begun whole is completes =
     (first_found line micros (here_at line micros) d (stands MESSAGE_LIMIT d T) (stands MESSAGE_LIMIT (other_direction d) T) (place_of (last_start d e T)) (layout_of frame) whole completes)
 
 module _ (T : List Entry) (e : Entry) (here : FramePlace) (d : Dir) (event : Event) (is : IsEventOf T e here.line here.micros d event)
-    (kept : ReceptionStarts) (are : AreStartsAfter MESSAGE_LIMIT T kept) where
+    (before : ReceptionStarts) (are : AreStartsAfter MESSAGE_LIMIT T before) where
   -- what one more frame moves them to are the starts after it
-  pub starts_next : (moved : ReceptionStarts) → ((x : Dir) → reception_start moved x ≡ start_after_event x d (seen_event event) here (reception_start kept x))
+  pub starts_next : (moved : ReceptionStarts) → ((x : Dir) → reception_start moved x ≡ start_after_event x d (seen_event event) here (reception_start before x))
       → AreStartsAfter MESSAGE_LIMIT (T ++ e ∷ []) moved
   starts_next moved by x =
       subst (λ b. IsBegunAt MESSAGE_LIMIT x (T ++ e ∷ []) b)
-      (sym (by x ∙ (λ i. start_after_event x (sym is.dir i) (is.did i) (here_at (sym is.line i) (sym is.micros i)) (reception_start kept x))))
-      (begun_by e.dir x T e.line e.micros e.frame kept are)
+      (sym (by x ∙ (λ i. start_after_event x (sym is.dir i) (is.did i) (here_at (sym is.line i) (sym is.micros i)) (reception_start before x))))
+      (begun_by e.dir x T e.line e.micros e.frame before are)
 
   -- and a message that it completes begins where its first frame stands
-  pub begins_at : CompletesMessage MESSAGE_LIMIT T e → (first : FramePlace) → first ≡ message_start d (seen_event event) here (reception_start kept d)
+  pub begins_at : CompletesMessage MESSAGE_LIMIT T e → (first : FramePlace) → first ≡ message_start d (seen_event event) here (reception_start before d)
       → first ≡ place_of (first_frame T e)
   begins_at (whole, completes) first first_is =
-      first_is ∙ (λ i. message_start (sym is.dir i) (is.did i) (here_at (sym is.line i) (sym is.micros i)) (reception_start kept (sym is.dir i)))
-      ∙ first_of e.dir T e.line e.micros e.frame (reception_start kept e.dir) whole (are e.dir) completes
+      first_is ∙ (λ i. message_start (sym is.dir i) (is.did i) (here_at (sym is.line i) (sym is.micros i)) (reception_start before (sym is.dir i)))
+      ∙ first_of e.dir T e.line e.micros e.frame (reception_start before e.dir) whole (are e.dir) completes

@@ -89,12 +89,12 @@ pub completes_kept : (T : List Entry) (e : Entry) (judged : Judged) → Complete
 completes_kept T e judged completes kept =
     (judged.bytes.now, completes.did, subst (λ d. IsKept (messages MESSAGE_LIMIT T) (d, judged.bytes.now)) (sym completes.dir) kept)
 
-module _ {S : Type 0} (says : S → List ℕ → S → Type 0) (style kept : ItemStyle) (T : List Entry) where
+module _ {S : Type 0} (says : S → List ℕ → S → Type 0) (style own_style : ItemStyle) (T : List Entry) where
   -- a message: the lines of what it decides were said
   pub watches_next : (e : Entry) (message : Message) (decider decider_now : DeciderValue) (number number_now : ℕ) (out out_now : S) → length T < 2 ^ 62
-      → messages MESSAGE_LIMIT (T ++ e ∷ []) ≡ messages MESSAGE_LIMIT T ++ message ∷ [] → WatchesItems style T decider kept number
-      → decider_now ≡ decider_after (messages MESSAGE_LIMIT T ++ message ∷ []) → SaysDecided says kept (messages MESSAGE_LIMIT T) message number out number_now out_now
-      → WatchesItems style (T ++ e ∷ []) decider_now kept number_now × says out (text_behind style MESSAGE_LIMIT T (newly_decided MESSAGE_LIMIT T e)) out_now
+      → messages MESSAGE_LIMIT (T ++ e ∷ []) ≡ messages MESSAGE_LIMIT T ++ message ∷ [] → WatchesItems style T decider own_style number
+      → decider_now ≡ decider_after (messages MESSAGE_LIMIT T ++ message ∷ []) → SaysDecided says own_style (messages MESSAGE_LIMIT T) message number out number_now out_now
+      → WatchesItems style (T ++ e ∷ []) decider_now own_style number_now × says out (text_behind style MESSAGE_LIMIT T (newly_decided MESSAGE_LIMIT T e)) out_now
   watches_next e message decider decider_now number number_now out out_now few next stood decides (items, are, lines) =
       let before = decided_of MESSAGE_LIMIT T in
       let longer : decided_of MESSAGE_LIMIT (T ++ e ∷ []) ≡ before ++ items = ap decided next ∙ are in
@@ -111,8 +111,8 @@ module _ {S : Type 0} (says : S → List ℕ → S → Type 0) (style kept : Ite
 
   -- no message: nothing is
   pub watches_on : (nothing : (s : S) → says s [] s) (e : Entry) (decider : DeciderValue) (number : ℕ) (out : S) → length T < 2 ^ 62
-      → messages MESSAGE_LIMIT (T ++ e ∷ []) ≡ messages MESSAGE_LIMIT T → WatchesItems style T decider kept number
-      → WatchesItems style (T ++ e ∷ []) decider kept number × says out (text_behind style MESSAGE_LIMIT T (newly_decided MESSAGE_LIMIT T e)) out
+      → messages MESSAGE_LIMIT (T ++ e ∷ []) ≡ messages MESSAGE_LIMIT T → WatchesItems style T decider own_style number
+      → WatchesItems style (T ++ e ∷ []) decider own_style number × says out (text_behind style MESSAGE_LIMIT T (newly_decided MESSAGE_LIMIT T e)) out
   watches_on nothing e decider number out few next stood =
       let before = decided_of MESSAGE_LIMIT T in
       let same : messages MESSAGE_LIMIT (T ++ e ∷ []) ≡ messages MESSAGE_LIMIT T = next in
@@ -128,8 +128,8 @@ module _ {S : Type 0} (says : S → List ℕ → S → Type 0) (style kept : Ite
       )
 
   -- at the end what is not decided
-  pub watched : (decider : DeciderValue) (number number_now : ℕ) (out out_now : S) → WatchesItems style T decider kept number
-      → SaysLines says kept (undecided (messages MESSAGE_LIMIT T)) number out number_now out_now
+  pub watched : (decider : DeciderValue) (number number_now : ℕ) (out out_now : S) → WatchesItems style T decider own_style number
+      → SaysLines says own_style (undecided (messages MESSAGE_LIMIT T)) number out number_now out_now
       → says out (text_behind style MESSAGE_LIMIT T (undecided (messages MESSAGE_LIMIT T))) out_now
   watched decider number number_now out out_now stood lines =
       let all_few = few_items T in

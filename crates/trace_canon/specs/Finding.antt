@@ -18,7 +18,7 @@ use Rattle.trace_text.specs.Json.{Members, nothing, member, object_line}
 use Rattle.trace_text.specs.Json as json
 use Rattle.trace_log.specs.Needing.{BeginsWithLines}
 use Rattle.trace_canon.specs.ReadOnly.{WayOfReading}
-use Rattle.trace_canon.specs.WrittenAtEnd.{RanOnce, TextOfLog, WritesOnce}
+use Rattle.trace_canon.specs.WrittenAtEnd.{RanAtEnd, TextOfLog, WritesAtEnd}
 use Rattle.trace_log.specs.Refusal.{HasNoBadPlaceWithin}
 use Rattle.trace_io.specs.declared.device.Source.{Ghosts as SourceGhosts}
 use Rattle.trace_io.specs.declared.device.Target.{Ghosts as TargetGhosts}
@@ -97,9 +97,9 @@ text_of_credit_lines notation settings = record {
 -- What is answered on a log, and what is then written: its counts, and the text of its credit lines; else why it can't
 -- be read.
 abbrev pub Finds : Notation → Settings → List ℕ → Result Summary Fault → List ℕ → List ℕ → Type 0
-Finds notation settings = WritesOnce (text_of_credit_lines notation settings)
+Finds notation settings = WritesAtEnd (text_of_credit_lines notation settings)
 
 -- the run of a call that writes the text of a log's credit lines
 abbrev pub RanToFind : {R W : Type 0} → SourceGhosts R → TargetGhosts W → Notation → Settings
     → R → W → Result Summary Fault → R → W → Type 0
-RanToFind source target notation settings = RanOnce source target (text_of_credit_lines notation settings)
+RanToFind source target notation settings = RanAtEnd source target (text_of_credit_lines notation settings)

@@ -100,8 +100,8 @@ abbrev pub NeedsMemoryForExplanation : ℕ → Settings → List ℕ → Type 0
 NeedsMemoryForExplanation limit settings log = ⊤
 
 -- Memory is needed to gather the credit lines: to read the log, or since it has one, whatever the limit of a message.
-abbrev pub NeedsMemoryForFinding : Notation → ℕ → Settings → List ℕ → Type 0
-NeedsMemoryForFinding notation limit settings log = NeedsMemoryToFind log ⊎ HasBytes (IsFindingWith notation settings log)
+abbrev pub NeedsMemoryForCreditLines : Notation → ℕ → Settings → List ℕ → Type 0
+NeedsMemoryForCreditLines notation limit settings log = NeedsMemoryToFind log ⊎ HasBytes (IsFindingWith notation settings log)
 
 -- the meaning of the log, or why it has none
 abbrev pub MeansInMemory : ℕ → Settings → List ℕ → Result (List ItemValue) Fault → Type 0
@@ -110,8 +110,8 @@ MeansInMemory limit settings log (Err fault) = IsRefused NeedsMemoryToCollect li
 
 -- the log of which a fault tells needs memory
 abbrev pub NeedsMemoryOnSide : ℕ → Settings → List ℕ → List ℕ → CompareFault → Type 0
-NeedsMemoryOnSide limit settings one other (Left fault) = NeedsMemoryToCollect limit settings one
-NeedsMemoryOnSide limit settings one other (Right fault) = NeedsMemoryToCollect limit settings other
+NeedsMemoryOnSide limit settings left right (Left fault) = NeedsMemoryToCollect limit settings left
+NeedsMemoryOnSide limit settings left right (Right fault) = NeedsMemoryToCollect limit settings right
 
 -- how two logs compare, and the counts of each: what they mean is left out
 abbrev pub counted_comparison : Compared → CountedComparison
@@ -120,11 +120,11 @@ counted_comparison compared =
 
 -- how the meanings of the two logs compare, with the counts of each; or why one has none
 abbrev pub ComparesWithCounts : ℕ → Settings → List ℕ → List ℕ → Result CountedComparison CompareFault → Type 0
-ComparesWithCounts limit settings one other (Ok counted) =
-    (compared : Compared) × Compares limit settings one other (Ok compared) × (counted ≡ counted_comparison compared)
-ComparesWithCounts limit settings one other (Err fault) =
-    Compares limit settings one other (Err fault)
-    × IsOfMemory (NeedsMemoryOnSide limit settings one other fault) (fault_in fault)
+ComparesWithCounts limit settings left right (Ok counted) =
+    (compared : Compared) × Compares limit settings left right (Ok compared) × (counted ≡ counted_comparison compared)
+ComparesWithCounts limit settings left right (Err fault) =
+    Compares limit settings left right (Err fault)
+    × IsOfMemory (NeedsMemoryOnSide limit settings left right fault) (fault_in fault)
 
 -- the fault of a text that is gathered in memory, where a write fails for want of memory alone
 abbrev pub fault_in_memory : Fault → Fault

@@ -19,9 +19,9 @@ use Rattle.trace_text.specs.Words.{bytes_text, direction_text, role_text, stamp_
 
 -- the lines and the stamps of the first frame of a message and of its last one
 abbrev pub extent_text : FramePlace → FramePlace → List ℕ
-extent_text start end =
-    codes " lines " ++ decimal start.line ++ codes " to " ++ decimal end.line
-    ++ codes " at " ++ stamp_text start.micros ++ codes " to " ++ stamp_text end.micros
+extent_text first last =
+    codes " lines " ++ decimal first.line ++ codes " to " ++ decimal last.line
+    ++ codes " at " ++ stamp_text first.micros ++ codes " to " ++ stamp_text last.micros
 
 -- A message that is delivered, with its places.
 pub record PlacedMessage : Type 0 where
@@ -31,28 +31,28 @@ pub record PlacedMessage : Type 0 where
   -- who sent it, and its bytes
   pub sent : Message
   -- where its first frame stands, and its last one
-  pub start : FramePlace
-  pub end : FramePlace
+  pub first : FramePlace
+  pub last : FramePlace
 
 -- a message that was judged, from its first frame to its last one
 abbrev pub judged_at : Judged → FramePlace → FramePlace → PlacedMessage
-judged_at judged start end =
-    record { number = judged.item_number; step = judged.step; sent = sent judged; start = start; end = end }
+judged_at judged first last =
+    record { number = judged.item_number; step = judged.step; sent = sent judged; first = first; last = last }
 
 -- the line of a placed message in words
 abbrev pub placed_line : PlacedMessage → List ℕ
 placed_line placed =
     decimal placed.number ++ codes " " ++ role_text placed.step ++ codes " " ++ direction_text placed.sent.0
-    ++ extent_text placed.start placed.end ++ codes " " ++ bytes_text placed.sent.1 ++ codes "\n"
+    ++ extent_text placed.first placed.last ++ codes " " ++ bytes_text placed.sent.1 ++ codes "\n"
 
 -- the members of the object of a placed message
 abbrev pub placed_members : PlacedMessage → Members
 placed_members placed =
     member (codes "item") (json.number placed.number) (member (codes "role") (json.string (role_text placed.step))
     (member (codes "direction") (json.string (direction_text placed.sent.0))
-    (member (codes "first_line") (json.number placed.start.line) (member (codes "last_line") (json.number placed.end.line)
-    (member (codes "start") (json.string (stamp_text placed.start.micros))
-    (member (codes "end") (json.string (stamp_text placed.end.micros))
+    (member (codes "first_line") (json.number placed.first.line) (member (codes "last_line") (json.number placed.last.line)
+    (member (codes "start") (json.string (stamp_text placed.first.micros))
+    (member (codes "end") (json.string (stamp_text placed.last.micros))
     (member (codes "message") (json.string (bytes_text placed.sent.1)) nothing)))))))
 
 -- the line of a placed message in a notation
@@ -62,13 +62,13 @@ placed_text Json placed = object_line (placed_members placed)
 
 -- a message that comes behind the messages M, as it is judged there, from its first frame to its last one
 abbrev pub placed_behind : List Message → Message → Entry → Entry → PlacedMessage
-placed_behind M sent start end =
+placed_behind M sent first last =
     record {
       number = number_after M sent;
       step = step_after M sent;
       sent = sent;
-      start = place_of start;
-      end = place_of end;
+      first = place_of first;
+      last = place_of last;
     }
 
 -- the line of the message that the frame e completes after the frames T, where it does this

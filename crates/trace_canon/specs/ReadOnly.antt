@@ -23,9 +23,9 @@ module _ {R : Type 0} (source : SourceGhosts R) (reading : WayOfReading) (before
   StopsNear = (log : List ℕ) → AgreesWith source before after log
       → ReadsWhile (reading.unrefused log) (bytes_given source before after) (source.failures before) (source.failures after)
 
-  -- where memory is refused, which `IsRefused` says, the log needs some
+  -- where memory is refused, which `IsMemoryRefused` says, the log needs some
   abbrev pub NeedsMemoryWhere : Type 0 → Type 0
-  NeedsMemoryWhere IsRefused = (log : List ℕ) → AgreesWith source before after log → IsRefused → reading.needs log
+  NeedsMemoryWhere IsMemoryRefused = (log : List ℕ) → AgreesWith source before after log → IsMemoryRefused → reading.needs log
 
 -- All that a caller knows of a run that reads so. `Gives` says what it answers of a log.
 pub record RanToRead {R A : Type 0} (source : SourceGhosts R) (Gives : List ℕ → Result A Fault → Type 0)

@@ -5,7 +5,7 @@ ghost use Rattle.isotp_receive.specs.declared.TheConstants.{MESSAGE_LIMIT};
 ghost use Rattle.trace_canon.specs.InMemory.{IsCanonicalLogWith, IsListWith, AreMessageLinesWith, IsExplanationWith};
 ghost use Rattle.trace_canon.specs.InMemory.{IsFindingWith, MeansInMemory, ComparesWithCounts, fault_in_memory};
 ghost use Rattle.trace_canon.specs.InMemory.{NeedsMemoryForCanonicalLog, NeedsMemoryForList, NeedsMemoryForMessageLines};
-ghost use Rattle.trace_canon.specs.InMemory.{NeedsMemoryForExplanation, NeedsMemoryForFinding, IsRefused, IsUnread};
+ghost use Rattle.trace_canon.specs.InMemory.{NeedsMemoryForExplanation, NeedsMemoryForCreditLines, IsRefused, IsUnread};
 ghost use Rattle.trace_canon.specs.InMemory as Spec;
 
 use crate::collector::meaning_of;
@@ -111,7 +111,7 @@ pub fn credit_lines(
 ) -> Result<CountedText, Fault>
     ensures { MatchResult result
         (λ counted. IsFindingWith notation config.now log.now counted.text.items counted.summary)
-        (IsUnread (NeedsMemoryForFinding notation) MESSAGE_LIMIT config.now log.now) }
+        (IsUnread (NeedsMemoryForCreditLines notation) MESSAGE_LIMIT config.now log.now) }
 {
     let mut writer = Writing::new(Vec::new(alloc));
     let answer = find(alloc, config, notation, &mut Bytes::new(log), &mut writer);

@@ -41,7 +41,7 @@ pub fn messages<R: Source, W: Target>(
 {
     let machine = MessageSayer {
         notation,
-        begun: ReceptionStarts::start(),
+        starts: ReceptionStarts::start(),
     };
     run_lenient(alloc, config, machine, reader, writer)
 }
@@ -50,7 +50,7 @@ pub fn messages<R: Source, W: Target>(
 #[derive(Drop)]
 pub(crate) struct MessageSayer {
     pub notation: Notation,
-    pub begun: ReceptionStarts,
+    pub starts: ReceptionStarts,
 }
 
 impl Machine for MessageSayer {
@@ -61,7 +61,7 @@ impl Machine for MessageSayer {
 
     type Answer = Summary;
 
-    ghost stands = { λ start T now. SaysMessages start.notation T now.notation now.begun };
+    ghost stands = { λ start T now. SaysMessages start.notation T now.notation now.starts };
 
     ghost script = { λ start. messages_script start.notation MESSAGE_LIMIT };
 
@@ -80,7 +80,7 @@ impl Machine for MessageSayer {
             line: seen.line,
             micros: seen.micros,
         };
-        let first = self.begun.take(here, seen.dir, seen.event);
+        let first = self.starts.take(here, seen.dir, seen.event);
         if let Some(message) = seen.message {
             say_message(self.notation, &message, first, here, out);
         }

@@ -1,5 +1,5 @@
-//! `normalise`: a machine that says the canonical log. The other commands promise a record that several of them share;
-//! `normalise` alone writes a canonical log, so what it promises stands clause by clause at its call.
+//! `normalise`: a machine that says the canonical log. No other command writes one: so what it promises is no record that
+//! several of them share, but stands clause by clause at its call.
 ghost use Rattle.std.specs.Prelude.{◌≡◌, ◌++◌, ℕ, List, OnOk, IfOk, Err};
 ghost use Rattle.direction.specs.Dir.{Message};
 ghost use Rattle.isotp_receive.specs.declared.TheConstants.{MESSAGE_LIMIT};

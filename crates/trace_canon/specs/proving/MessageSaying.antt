@@ -7,6 +7,6 @@ use Rattle.trace_canon.specs.declared.reception_starts.ReceptionStarts.{Receptio
 use Rattle.trace_text.specs.declared.notation.Notation.{Notation}
 
 -- This is what the machine that says the lines of messages in a notation keeps of the frames T.
-pub record SaysMessages (notation : Notation) (T : List Entry) (kept : Notation) (starts : ReceptionStarts) : Type 0 where
-  pub same : kept ≡ notation
+pub record SaysMessages (notation : Notation) (T : List Entry) (own_notation : Notation) (starts : ReceptionStarts) : Type 0 where
+  pub same : own_notation ≡ notation
   pub begun : AreStartsAfter MESSAGE_LIMIT T starts

@@ -23,9 +23,9 @@ SaysDecided says style M message number out number_now out_now =
     (items : List ItemValue) × AreDecidedBy M message items × SaysLines says style items number out number_now out_now
 
 -- This is what a machine that watches keeps of the frames T.
-pub record WatchesItems (style : ItemStyle) (T : List Entry) (decider : DeciderValue) (kept : ItemStyle) (number : ℕ)
+pub record WatchesItems (style : ItemStyle) (T : List Entry) (decider : DeciderValue) (own_style : ItemStyle) (number : ℕ)
     : Type 0 where
   pub decides : decider ≡ decider_after (messages MESSAGE_LIMIT T)
-  pub same : kept ≡ style
+  pub same : own_style ≡ style
   pub numbered : number ≡ 1 + length (decided_of MESSAGE_LIMIT T)
   pub few : length T ≤ 2 ^ 62
