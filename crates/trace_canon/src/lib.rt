@@ -28,7 +28,7 @@
 //!
 //! | Command | Files | Definitions |
 //! |---|---|---|
-//! | [`normalise`] | `normaliser`, `canonical_sink`, `progress`, `length` | `Answers`, `Outcome`, `CanonicalLog` of `trace_log` |
+//! | [`normalise`] | `normaliser`, `canonical_sink`, `canonical_lines`, `progress`, `length` | `Answers`, `Outcome`, `CanonicalLog` of `trace_log` |
 //! | [`explain`] | `explainer` | `ExplainScript` |
 //! | [`messages`] | `message_lines`, `message_objects`, `message_parts` | `MessageLines` |
 //! | [`watch`] | `watcher` | `WatchScript` |
@@ -52,6 +52,7 @@
 //! it writes, `Finding` says.
 #![tactic(auto)]
 
+mod canonical_lines;
 mod canonical_sink;
 mod collector;
 mod compared_items;

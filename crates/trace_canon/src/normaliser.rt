@@ -1,5 +1,5 @@
-//! `normalise`: a machine that says the canonical log. No other command writes one: so what it promises is no record that
-//! several of them share, but stands clause by clause at its call.
+//! `normalise`: a machine that says the canonical log. No other command writes one: so what it promises is no record
+//! that several commands share, but stands clause by clause at its call.
 ghost use Rattle.std.specs.Prelude.{◌≡◌, ◌++◌, ℕ, List, OnOk, IfOk, Err};
 ghost use Rattle.direction.specs.Dir.{Message};
 ghost use Rattle.isotp_receive.specs.declared.TheConstants.{MESSAGE_LIMIT};
@@ -115,11 +115,11 @@ impl Machine for Normaliser {
             return Ok(());
         };
         say_due(
-            out,
             &self.config,
             &mut self.progress,
             &mut self.orderer,
             message,
+            out,
         )
     }
 
@@ -134,7 +134,7 @@ impl Machine for Normaliser {
             mut progress,
             config,
         } = self;
-        say_held(out, &config, &mut progress, orderer);
+        say_held(&config, &mut progress, orderer, out);
         if progress.is_full() {
             return Err(NoAnswer::OutputLimit);
         }

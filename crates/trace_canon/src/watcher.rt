@@ -89,11 +89,11 @@ impl Machine for Watcher {
             return Ok(());
         };
         say_decided(
-            out,
             self.style,
             &mut self.number,
             &mut self.decider,
             message,
+            out,
         )
     }
 
@@ -108,7 +108,7 @@ impl Machine for Watcher {
             style,
             mut number,
         } = self;
-        say_undecided(out, style, &mut number, decider);
+        say_undecided(style, &mut number, decider, out);
         Ok(*summary)
     }
 
@@ -146,11 +146,11 @@ impl<'a, S: TextSink> ItemSink for LineSink<'a, S> {
 
 /// Takes one more message, and says the lines of all items that are now decided.
 fn say_decided<S: TextSink>(
-    out: &mut S,
     style: ItemStyle,
     number: &mut u64,
     decider: &mut Decider,
     message: Judged<'_>,
+    out: &mut S,
 ) -> Result<(), AllocError>
     ensures stands { OnOk result ((M : List Message) → decider.old ≡ decider_after M → IsJudgedAfter M message.entry
         → decider.new ≡ decider_after (M ++ sent message.entry ∷ [])) }
@@ -165,7 +165,7 @@ fn say_decided<S: TextSink>(
 }
 
 /// Says the lines of the items that are not decided.
-fn say_undecided<S: TextSink>(out: &mut S, style: ItemStyle, number: &mut u64, decider: Decider)
+fn say_undecided<S: TextSink>(style: ItemStyle, number: &mut u64, decider: Decider, out: &mut S)
     ensures { (M : List Message) → decider ≡ decider_after M
         → SaysLines S.says style (undecided M) number.old out.old number.new out.new }
 {

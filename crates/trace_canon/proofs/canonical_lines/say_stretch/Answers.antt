@@ -8,12 +8,12 @@ use Rattle.trace_log.specs.Settings.{id_of}
 use Rattle.trace_canon.specs.proving.Saying.{SaysFront}
 use Rattle.trace_canon.specs.proving.Writing.{after_line, line_at}
 use Rattle.trace_canon.proofs.SaidFrames.{none_said, more_said, line_said, line_stops}
-use Rattle.trace_canon.proofs.canonical_sink.say_stretch.Goals as goal
+use Rattle.trace_canon.proofs.canonical_lines.say_stretch.Goals as goal
 
 pub stretch-init : goal.stretch-init
 stretch-init g c = record {
   says = none_said g.S.TextSink.says g.met.S.TextSink.nothing g.met.S.TextSink.onward c.args.config.now c.args.progress.now c.args.out.now c.args.frames;
-  fewer = omega arith;
+  no_more = omega arith;
 }
 
 pub returns-then-not-admit-clause-says : goal.returns-then-not-admit-clause-says
@@ -30,9 +30,9 @@ returns-then-not-admit-clause-says g c =
     c.args.out.now c.stretch.out c.stretch.out c.args.frames c.stretch.rest (frame ∷ c.next_full.new.self) c.next_full.new.self c.stretch.invariant.says c.in-Some.ensures.some refl
     (subst (λ p. SaysFront g.S.TextSink.says settings c.stretch.progress c.stretch.out (frame ∷ c.next_full.new.self) p c.stretch.out c.next_full.new.self) (sym none.1) stops)
 
-pub returns-then-not-admit-clause-fewer : goal.returns-then-not-admit-clause-fewer
-returns-then-not-admit-clause-fewer g c =
-    let so_far = c.stretch.invariant.fewer in
+pub returns-then-not-admit-clause-no_more : goal.returns-then-not-admit-clause-no_more
+returns-then-not-admit-clause-no_more g c =
+    let so_far = c.stretch.invariant.no_more in
     let step = ap length c.in-Some.ensures.some in
     omega arith
 
@@ -55,14 +55,14 @@ stretch-preserved g c =
     let one = line_said g.S.TextSink.says g.met.S.TextSink.nothing g.met.S.TextSink.onward settings c.stretch.progress c.stretch.out c.put_three.new.self frame
     c.next_full.new.self line (λ i. line) room said in
     let passed : c.after_line.new.self ≡ after_line c.stretch.progress line = c.after_line.ensures line (omega arith) ∙ ap (λ p. after_line p line) admitted.1 in
-    let so_far = c.stretch.invariant.fewer in
+    let so_far = c.stretch.invariant.no_more in
     let step = ap length c.in-Some.ensures.some in
     record {
       says = more_said g.S.TextSink.says g.met.S.TextSink.nothing g.met.S.TextSink.onward settings c.args.progress.now c.stretch.progress c.stretch.progress c.after_line.new.self
           c.args.out.now c.stretch.out c.put_three.new.self c.args.frames c.stretch.rest (frame ∷ c.next_full.new.self) c.next_full.new.self c.stretch.invariant.says
           c.in-Some.ensures.some refl
           (subst (λ p. SaysFront g.S.TextSink.says settings c.stretch.progress c.stretch.out (frame ∷ c.next_full.new.self) p c.put_three.new.self c.next_full.new.self) (sym passed) one);
-      fewer = omega arith;
+      no_more = omega arith;
     }
 
 pub returns-clause-says : goal.returns-clause-says
@@ -70,9 +70,9 @@ returns-clause-says g c =
     subst (λ fs. SaysFront g.S.TextSink.says c.args.config.now c.args.progress.now c.args.out.now c.args.frames c.stretch.progress c.stretch.out fs)
     (sym c.in_default.ensures.none) c.stretch.invariant.says
 
-pub returns-clause-fewer : goal.returns-clause-fewer
-returns-clause-fewer g c =
-    let so_far = c.stretch.invariant.fewer in
+pub returns-clause-no_more : goal.returns-clause-no_more
+returns-clause-no_more g c =
+    let so_far = c.stretch.invariant.no_more in
     let same = ap length c.in_default.ensures.none in
     omega arith
 

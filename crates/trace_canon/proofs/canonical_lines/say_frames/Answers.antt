@@ -4,9 +4,9 @@ use Rattle.trace_canon.specs.proving.Saying.{SaysFront}
 use Rattle.trace_canon.specs.proving.Writing.{text_from, progress_after}
 use Rattle.trace_canon.proofs.CanonicalWriting.{text_none, progress_none, text_full, progress_full}
 use Rattle.trace_canon.proofs.SaidFrames.{more_said, all_lines_said}
-use Rattle.trace_canon.proofs.canonical_sink.say_frames.Given.{Over}
-use Rattle.trace_canon.proofs.canonical_sink.say_frames.Goals.{After-say_frame}
-use Rattle.trace_canon.proofs.canonical_sink.say_frames.Goals as goal
+use Rattle.trace_canon.proofs.canonical_lines.say_frames.Given.{Over}
+use Rattle.trace_canon.proofs.canonical_lines.say_frames.Goals.{After-say_frame}
+use Rattle.trace_canon.proofs.canonical_lines.say_frames.Goals as goal
 
 -- with one more frame
 one_more : (g : Over) (c : After-say_frame g)

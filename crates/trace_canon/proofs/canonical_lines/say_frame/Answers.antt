@@ -7,7 +7,7 @@ use Rattle.trace_log.specs.Settings.{id_of}
 use Rattle.trace_canon.specs.proving.Saying.{SaysFront}
 use Rattle.trace_canon.specs.proving.Writing.{after_line, line_at}
 use Rattle.trace_canon.proofs.SaidFrames.{line_said, line_stops}
-use Rattle.trace_canon.proofs.canonical_sink.say_frame.Goals as goal
+use Rattle.trace_canon.proofs.canonical_lines.say_frame.Goals as goal
 
 pub returns-then-not-admit-clause-says : goal.returns-then-not-admit-clause-says
 returns-then-not-admit-clause-says g c = λ later.
