@@ -23,7 +23,7 @@ use Rattle.trace_text.specs.declared.remark.Remark.{Remark}
 use Rattle.trace_text.specs.declared.remark.Remark.TheVariants as remark
 use Rattle.trace_canon.specs.ComparisonText.{shown_members, shown_value, comparison_members}
 use Rattle.trace_text.specs.RemarkLines.{cause_text, layout_fault_text, reason_members, remark_members}
-use Rattle.trace_canon.specs.Finding.{credit_object}
+use Rattle.trace_canon.specs.CreditLines.{credit_object}
 use Rattle.trace_text.specs.Json.{Members, null, truth, number, string, object, nothing, member}
 use Rattle.trace_text.specs.ItemLines.{answer_members, outcome_members, item_members, item_object}
 use Rattle.trace_canon.specs.MessageLines.{placed_members}

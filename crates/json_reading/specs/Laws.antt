@@ -6,7 +6,7 @@ use Rattle.trace_text.specs.declared.item_style.Numbering.{Numbering}
 use Rattle.trace_text.specs.declared.remark.Remark.{Remark}
 use Rattle.trace_canon.specs.ComparisonText.{comparison_members}
 use Rattle.trace_text.specs.RemarkLines.{remark_members}
-use Rattle.trace_canon.specs.Finding.{credit_object}
+use Rattle.trace_canon.specs.CreditLines.{credit_object}
 use Rattle.trace_text.specs.ItemLines.{item_object}
 use Rattle.trace_canon.specs.MessageLines.{PlacedMessage, placed_members}
 use Rattle.uds_exchange.specs.Meaning.{ItemValue}

@@ -10,7 +10,9 @@ use Rattle.trace_log.specs.declared.fault.Fault.{Fault}
 use Rattle.trace_log.specs.declared.fault.Fault.TheVariants as fault
 use Rattle.trace_canon.specs.declared.hearing.Found.{Found}
 use Rattle.trace_canon.specs.declared.hearing.Hearing.{Hearing}
-use Rattle.trace_canon.specs.Finding.{frames_in, GivesFound, IsFoundOf, NeedsMemoryToFind}
+use Rattle.trace_canon.specs.Finding.{GivesFound, IsFoundOf}
+use Rattle.trace_canon.specs.MemoryNeeded.{NeedsMemoryToFind}
+use Rattle.trace_canon.specs.CreditLines.{frames_in}
 use Rattle.trace_log.specs.Settings.{Settings}
 use Rattle.trace_log.specs.Feeding.{FeedsLog, FeedsSome, Took, Stopped, StopsWithin}
 use Rattle.trace_canon.specs.proving.Hearing.{HasHeard}

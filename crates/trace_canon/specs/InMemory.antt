@@ -16,8 +16,9 @@ use Rattle.trace_canon.specs.Sessions.{GivesMeaning, IsAcceptedWith}
 use Rattle.trace_canon.specs.Compared.{Compares, fault_in}
 use Rattle.trace_log.specs.ReadAs.{IsReadAs}
 use Rattle.trace_canon.specs.ExplainScript.{explain_script}
-use Rattle.trace_canon.specs.Finding.{IsFoundIn, NeedsMemoryToFind, credit_lines_text}
-use Rattle.trace_canon.specs.MemoryNeeded.{NeedsMemoryToCollect, NeedsMemoryToOrder}
+use Rattle.trace_canon.specs.Finding.{IsFoundIn}
+use Rattle.trace_canon.specs.MemoryNeeded.{NeedsMemoryToCollect, NeedsMemoryToFind, NeedsMemoryToOrder}
+use Rattle.trace_canon.specs.CreditLines.{credit_lines_text}
 use Rattle.trace_text.specs.ItemLines.{list_text}
 use Rattle.trace_log.specs.CanonicalLog.{canonical_log_of_lines}
 use Rattle.trace_log.specs.Needing.{HasTextOf, NeedsMemoryToReceive}

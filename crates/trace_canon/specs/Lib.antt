@@ -1,9 +1,11 @@
 pub mod FirstFrames
-pub mod ReadOnly
+pub mod ReceptionStarts
+pub mod CreditLines
 pub mod MemoryNeeded
+pub mod WaysOfReading
+pub mod ReadOnly
 pub mod WrittenAtEnd
 pub mod ExplainScript
-pub mod ReceptionStarts
 pub mod MessageLines
 pub mod WatchScript
 pub mod Sessions

@@ -1,4 +1,4 @@
-//! `find`: the credit lines of a log (`specs/Finding.antt` says what they are), written once it has ended. `hearing`
+//! `find`: the credit lines of a log (`specs/CreditLines.antt` says what they are), written once it has ended. `hearing`
 //! reads the log and gives them, `credit_lines` has their text, and here the one is joined to the other.
 ghost use Rattle.trace_canon.specs.Finding.{RanToFind};
 ghost use Rattle.trace_io.specs.Counted.{IsLowCount};
@@ -46,7 +46,7 @@ struct CreditLines<'a> {
 }
 
 impl<'a> Part for CreditLines<'a> {
-    ghost use Rattle.trace_canon.specs.Finding.{credit_lines_text};
+    ghost use Rattle.trace_canon.specs.CreditLines.{credit_lines_text};
 
     ghost text = { λ part. credit_lines_text part.notation part.lines.now.items };
 

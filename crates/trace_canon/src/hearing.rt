@@ -3,7 +3,9 @@
 //! credit lines, and the counts of the log.
 ghost use Rattle.std.specs.Prelude.{◌≡◌, List, ℕ, [], length, IfErr, IfOk, Option};
 ghost use Rattle.can_log.specs.declared.frame.Stamped.{Stamped as StampedValue};
-ghost use Rattle.trace_canon.specs.Finding.{GivesFound, IsFoundOf, frames_in, reading_to_find, summary_of_lines};
+ghost use Rattle.trace_canon.specs.Finding.{GivesFound, IsFoundOf, summary_of_lines};
+ghost use Rattle.trace_canon.specs.CreditLines.{frames_in};
+ghost use Rattle.trace_canon.specs.WaysOfReading.{reading_to_find};
 ghost use Rattle.trace_canon.specs.ReadOnly.{RanToRead};
 ghost use Rattle.trace_canon.specs.proving.Hearing.{HasHeard};
 ghost use Rattle.trace_log.specs.Devices.{HasLowCounts};
@@ -88,7 +90,7 @@ fn summary(lines: u64, ends_in_line_feed: bool) -> Summary
 
 impl LineTaker for Hearing {
     ghost use Rattle.std.specs.Prelude.{◌≡◌, ⊤, [], ◌∷◌, ◌++◌};
-    ghost use Rattle.trace_canon.specs.Finding.{frames_in};
+    ghost use Rattle.trace_canon.specs.CreditLines.{frames_in};
     ghost use Rattle.trace_log.specs.declared.fault.Fault.TheVariants.{Memory};
     ghost use Rattle.trace_canon.specs.proving.Hearing.{HasHeard};
     ghost use Rattle.uds_find.specs.Credit.{HasCredit};

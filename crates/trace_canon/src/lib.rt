@@ -36,20 +36,20 @@
 //! | [`compare`] | `comparing` | `Compared` |
 //! | [`write_comparison`] | `comparison_text`, `comparison_objects`, `compared_items` | `ComparisonText` |
 //! | [`list`], [`write_items`] | `lister`, `item_text` | `ItemText` |
-//! | [`find`] | `finding`, `hearing`, `credit_lines` | `Finding` |
+//! | [`find`] | `finding`, `hearing`, `credit_lines` | `Finding`, `CreditLines` |
 //! | where messages began, for [`messages`] and for a page | [`reception_starts`] | `FirstFrames`, `ReceptionStarts` |
 //! | over logs in memory, seven of these | [`in_memory`] | `InMemory` |
 //! | laws of [`watch`] and of [`messages`] | [`laws`] | `Laws` |
 //!
-//! How a log is read, and what a run comes to that writes nothing, is in `ReadOnly`; what one comes to that writes a
-//! text at the end, in `WrittenAtEnd`; for which frames a command needs memory, in `MemoryNeeded`.
+//! How a log is read is in `WaysOfReading`, for which frames a command needs memory, in `MemoryNeeded`; what a run
+//! comes to that writes nothing, in `ReadOnly`, and what one that writes a text at the end, in `WrittenAtEnd`.
 //!
 //! What says text of a log while it comes is a machine of [`trace_run`](trace_run::Machine): those of the first four
 //! rows.
 //! So is what collects the meaning of a log: on it stand [`meaning_of`], [`compare`] and [`write_items`].
 //!
 //! [`find`] is none: it hears every frame, whatever its identifier, and has no receiver. What the credit lines are that
-//! it writes, `Finding` says.
+//! it writes, `CreditLines` says.
 #![tactic(auto)]
 
 mod canonical_lines;
