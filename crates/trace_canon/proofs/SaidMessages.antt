@@ -17,7 +17,7 @@ use Rattle.trace_text.specs.Json.{object_line}
 use Rattle.trace_text.specs.Words.{bytes_text, direction_text, role_text, stamp_text}
 use Rattle.trace_text.specs.declared.notation.Notation.{Notation}
 use Rattle.trace_text.proofs.Promises.{line_is}
-use Rattle.trace_canon.specs.MessageLines.{PlacedMessage, judged_at, placed_members, placed_text, placed_behind, delivered_line}
+use Rattle.trace_canon.specs.MessagesScript.{PlacedMessage, judged_at, placed_members, placed_text, placed_behind, delivered_line}
 use Rattle.trace_canon.specs.FirstFrames.{place_of, first_frame}
 use Rattle.trace_canon.specs.declared.reception_starts.FramePlace.{FramePlace}
 use Rattle.trace_canon.proofs.NextStarts.{here_at}

@@ -23,7 +23,7 @@ use Rattle.trace_log.specs.Summing.{summary_of}
 use Rattle.trace_run.specs.Script.{answers_counts, command, says_no_refusal, said_after}
 use Rattle.trace_run.specs.Ran.{AnswersAndWrites}
 use Rattle.trace_log.specs.Trace.{trace}
-use Rattle.trace_canon.specs.WatchScript.{decided_of, newly_decided, text_behind, watching_script, WritesTheList}
+use Rattle.trace_canon.specs.WatchScript.{decided_of, newly_decided, text_behind, watch_script, WritesTheList}
 use Rattle.trace_canon.specs.Laws.{WatchSaysDecided, WatchSaysTheList}
 use Rattle.trace_canon.specs.proving.Watching.{SaysLines, SaysDecided, WatchesItems}
 use Rattle.trace_log.specs.declared.fault.Fault.{Fault}
@@ -158,11 +158,11 @@ module _ (style : ItemStyle) (limit : ℕ) where
 
   -- and of all that follow
   from_there : (past rest : List Entry)
-      → list_text style (decided_of limit past) ++ said_after ((watching_script style limit).of_frame) past rest ≡ list_text style (decided_of limit (past ++ rest))
+      → list_text style (decided_of limit past) ++ said_after ((watch_script style limit).of_frame) past rest ≡ list_text style (decided_of limit (past ++ rest))
   from_there past [] = append-nil (list_text style (decided_of limit past)) ∙ ap (λ T. list_text style (decided_of limit T)) (sym (append-nil past))
   from_there past (e ∷ rest) =
       let word = text_behind style limit past (newly_decided limit past e) in
-      let later = said_after ((watching_script style limit).of_frame) (past ++ e ∷ []) rest in
+      let later = said_after ((watch_script style limit).of_frame) (past ++ e ∷ []) rest in
       sym (append_assoc (list_text style (decided_of limit past)) word later) ∙ ap (λ x. x ++ later) (next_said past e) ∙ from_there (past ++ e ∷ []) rest
       ∙ ap (λ T. list_text style (decided_of limit T)) (append_assoc past (e ∷ []) rest)
 
@@ -177,7 +177,7 @@ watch_says_the_list style limit T summary =
 
 -- so where a run comes to the end of the log, that was written
 pub writes_the_list : (style : ItemStyle) (settings : Settings) (log : List ℕ) (given : ℕ) (result : Result Summary Fault) (old new : List ℕ)
-    → AnswersAndWrites (command (watching_script style MESSAGE_LIMIT) says_no_refusal answers_counts (CompletesKept MESSAGE_LIMIT)) MESSAGE_LIMIT settings log given result old new
+    → AnswersAndWrites (command (watch_script style MESSAGE_LIMIT) says_no_refusal answers_counts (CompletesKept MESSAGE_LIMIT)) MESSAGE_LIMIT settings log given result old new
     → OnOk result (WritesTheList style MESSAGE_LIMIT settings log old new)
 writes_the_list style settings log given (Ok summary) old new (all, meanings, is, counted, wrote) = (
   meaning_of_lines MESSAGE_LIMIT settings meanings,

@@ -6,9 +6,9 @@ use Rattle.uds_exchange.specs.Meaning.{ItemValue}
 use Rattle.trace_text.specs.Json.{Value, Members, nothing, member, object_line, value_text}
 use Rattle.trace_text.specs.Json as json
 use Rattle.trace_text.specs.ItemLines.{item_object, worded_line}
-use Rattle.trace_canon.specs.declared.comparing.Compared.{Compared}
-use Rattle.trace_canon.specs.declared.comparing.Comparison.{Comparison}
-use Rattle.trace_canon.specs.declared.comparing.Comparison.TheVariants.{Same, Different}
+use Rattle.trace_canon.specs.declared.comparer.Compared.{Compared}
+use Rattle.trace_canon.specs.declared.comparer.Comparison.{Comparison}
+use Rattle.trace_canon.specs.declared.comparer.Comparison.TheVariants.{Same, Different}
 use Rattle.trace_canon.specs.declared.comparison_text.ComparisonStyle.{ComparisonStyle}
 use Rattle.trace_text.specs.declared.item_style.Numbering.TheVariants.{Shown}
 use Rattle.trace_text.specs.declared.notation.Notation.{Notation}

@@ -6,7 +6,7 @@ pub mod WaysOfReading
 pub mod ReadOnly
 pub mod WrittenAtEnd
 pub mod ExplainScript
-pub mod MessageLines
+pub mod MessagesScript
 pub mod WatchScript
 pub mod Sessions
 pub mod Compared

@@ -23,8 +23,8 @@ abbrev pub text_behind : ItemStyle → ℕ → List Entry → List ItemValue →
 text_behind style limit T items = list_text_from style (1 + length (decided_of limit T)) items
 
 -- what `watch` says: of each frame the items that it decides, and at the end those that are not decided
-abbrev pub watching_script : ItemStyle → ℕ → Script
-watching_script style limit = record {
+abbrev pub watch_script : ItemStyle → ℕ → Script
+watch_script style limit = record {
   strict = false;
   of_frame = λ T e. text_behind style limit T (newly_decided limit T e);
   at_the_end = λ T summary. text_behind style limit T (undecided (messages limit T));

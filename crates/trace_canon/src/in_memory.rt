@@ -9,11 +9,11 @@ ghost use Rattle.trace_canon.specs.InMemory.{NeedsMemoryForExplanation, NeedsMem
 ghost use Rattle.trace_canon.specs.InMemory as Spec;
 
 use crate::collector::meaning_of;
-use crate::comparing::{Compared, Comparison, compare};
+use crate::comparer::{Compared, Comparison, compare};
 use crate::explainer::explain;
-use crate::finding::find;
+use crate::finder::find;
 use crate::lister::list;
-use crate::message_lines::messages;
+use crate::messenger::messages;
 use crate::normaliser::normalise;
 use std::alloc::Global;
 use trace_io::{Bytes, Writing};

@@ -8,7 +8,7 @@ ghost use Rattle.uds_exchange.specs.Decider.{decider_after, IsKept};
 ghost use Rattle.trace_canon.specs.MemoryNeeded.{CompletesKept};
 ghost use Rattle.trace_run.specs.Script.{answers_counts, command, says_no_refusal};
 ghost use Rattle.trace_run.specs.Ran.{RanLenient};
-ghost use Rattle.trace_canon.specs.WatchScript.{watching_script, WritesTheList};
+ghost use Rattle.trace_canon.specs.WatchScript.{watch_script, WritesTheList};
 ghost use Rattle.trace_canon.specs.proving.Watching.{SaysDecided, SaysLines};
 ghost use Rattle.trace_io.specs.Counted.{IsLowCount};
 ghost use Rattle.trace_log.specs.Devices.{AgreesWith, HasLowCounts};
@@ -37,7 +37,7 @@ pub fn watch<R: Source, W: Target>(
 
     // What is answered and written; that it is written before more is read; and what was done with the devices.
     ensures ran { RanLenient R.Source W.Target
-        (command (watching_script style MESSAGE_LIMIT) says_no_refusal answers_counts (CompletesKept MESSAGE_LIMIT))
+        (command (watch_script style MESSAGE_LIMIT) says_no_refusal answers_counts (CompletesKept MESSAGE_LIMIT))
         config.now reader.old writer.old result reader.new writer.new }
 
     // At the end of the log that is the list of its meaning.
@@ -65,14 +65,14 @@ impl Machine for Watcher {
     ghost use Rattle.isotp_receive.specs.declared.TheConstants.{MESSAGE_LIMIT};
     ghost use Rattle.trace_canon.specs.MemoryNeeded.{CompletesKept};
     ghost use Rattle.trace_run.specs.Script.{answers_counts};
-    ghost use Rattle.trace_canon.specs.WatchScript.{watching_script};
+    ghost use Rattle.trace_canon.specs.WatchScript.{watch_script};
     ghost use Rattle.trace_canon.specs.proving.Watching.{WatchesItems};
 
     type Answer = Summary;
 
     ghost stands = { λ start T now. WatchesItems start.style T now.decider now.style now.number };
 
-    ghost script = { λ start. watching_script start.style MESSAGE_LIMIT };
+    ghost script = { λ start. watch_script start.style MESSAGE_LIMIT };
 
     ghost answers = { λ start. answers_counts };
 

@@ -2,7 +2,7 @@
 use Rattle.std.proofs.Common.{inl, ap, sym, ◌∙◌}
 use Rattle.isotp_receive.specs.declared.TheConstants.{MESSAGE_LIMIT}
 use Rattle.trace_canon.specs.InMemory.{NeedsMemoryForMessageLines}
-use Rattle.trace_canon.specs.MessageLines.{messages_script}
+use Rattle.trace_canon.specs.MessagesScript.{messages_script}
 use Rattle.trace_run.specs.Script.{needs_none, says_no_refusal}
 use Rattle.trace_canon.proofs.InMemories.{agrees_in_memory, gathered, message_lines_in_memory, taken_is_held, said_in_memory}
 use Rattle.trace_canon.proofs.in_memory.message_lines.Goals as goal

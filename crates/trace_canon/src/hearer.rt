@@ -34,24 +34,24 @@ pub(crate) fn found_in<R: Source>(
     requires reader { HasLowCounts R.Source reader.old }
     ensures ran { RanToRead R.Source (GivesFound config.now) (reading_to_find config.now) reader.old result reader.new }
 {
-    let mut hearing = Hearing::start(alloc);
-    let ends_in_line_feed = feed_lines(config.max_bytes(), reader, &mut hearing, &mut ())?;
-    hearing.finish(alloc, ends_in_line_feed)
+    let mut hearer = Hearer::start(alloc);
+    let ends_in_line_feed = feed_lines(config.max_bytes(), reader, &mut hearer, &mut ())?;
+    hearer.finish(alloc, ends_in_line_feed)
 }
 
 /// What hears every frame of a log.
 #[derive(Drop)]
-pub(crate) struct Hearing {
+pub(crate) struct Hearer {
     pub finder: Finder,
     pub lines: u64,
 }
 
-impl Hearing {
+impl Hearer {
     /// Before the first line.
-    fn start(alloc: Global) -> Hearing
+    fn start(alloc: Global) -> Hearer
         ensures { HasHeard [] result.finder result.lines }
     {
-        Hearing {
+        Hearer {
             finder: Finder::new(alloc),
             lines: 0,
         }
@@ -67,7 +67,7 @@ impl Hearing {
         ensures needs { IfErr result (λ fault. (meanings : List (Option StampedValue))
             → HasHeard meanings self.finder self.lines → HasCredit (frames_in meanings)) }
     {
-        let Hearing { finder, lines } = self;
+        let Hearer { finder, lines } = self;
         let credit_lines = finder.finish(alloc)?;
         Ok(Found {
             credit_lines,
@@ -88,7 +88,7 @@ fn summary(lines: u64, ends_in_line_feed: bool) -> Summary
     }
 }
 
-impl LineTaker for Hearing {
+impl LineTaker for Hearer {
     ghost use Rattle.std.specs.Prelude.{◌≡◌, ⊤, [], ◌∷◌, ◌++◌};
     ghost use Rattle.trace_canon.specs.CreditLines.{frames_in};
     ghost use Rattle.trace_log.specs.declared.fault.Fault.TheVariants.{Memory};

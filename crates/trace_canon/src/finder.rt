@@ -1,11 +1,11 @@
-//! `find`: the credit lines of a log (`specs/CreditLines.antt` says what they are), written once it has ended. `hearing`
+//! `find`: the credit lines of a log (`specs/CreditLines.antt` says what they are), written once it has ended. `hearer`
 //! reads the log and gives them, `credit_lines` has their text, and here the one is joined to the other.
 ghost use Rattle.trace_canon.specs.Finding.{RanToFind};
 ghost use Rattle.trace_io.specs.Counted.{IsLowCount};
 ghost use Rattle.trace_log.specs.Devices.{HasLowCounts};
 
 use crate::credit_lines::say_credit_lines;
-use crate::hearing::found_in;
+use crate::hearer::found_in;
 use std::alloc::Global;
 use text_parts::Part;
 use trace_io::{Source, Target, TextSink};

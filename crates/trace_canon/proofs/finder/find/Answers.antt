@@ -3,7 +3,7 @@ use Rattle.std.proofs.Common.{refl, rules}
 use Rattle.trace_log.proofs.Promises.{handed_on}
 use Rattle.trace_canon.specs.Finding.{text_of_credit_lines}
 use Rattle.trace_canon.proofs.LeftAlone.{left_alone}
-use Rattle.trace_canon.proofs.finding.find.Goals as goal
+use Rattle.trace_canon.proofs.finder.find.Goals as goal
 
 pub returns : goal.returns
 returns g c = record {

@@ -1,7 +1,7 @@
 //! `messages`: a machine that says the line of each message, as it is delivered: with the places of its first frame and
 //! of its last one, which are where these stand in the log.
 ghost use Rattle.isotp_receive.specs.declared.TheConstants.{MESSAGE_LIMIT};
-ghost use Rattle.trace_canon.specs.MessageLines.{judged_at, placed_line, placed_text, messages_script};
+ghost use Rattle.trace_canon.specs.MessagesScript.{judged_at, placed_line, placed_text, messages_script};
 ghost use Rattle.trace_run.specs.Script.{answers_counts, command, needs_none, says_no_refusal};
 ghost use Rattle.trace_run.specs.Ran.{RanLenient};
 ghost use Rattle.trace_io.specs.Counted.{IsLowCount};
@@ -39,7 +39,7 @@ pub fn messages<R: Source, W: Target>(
         (command (messages_script notation MESSAGE_LIMIT) says_no_refusal answers_counts needs_none)
         config.now reader.old writer.old result reader.new writer.new }
 {
-    let machine = MessageSayer {
+    let machine = Messenger {
         notation,
         starts: ReceptionStarts::start(),
     };
@@ -48,15 +48,15 @@ pub fn messages<R: Source, W: Target>(
 
 /// Says the line of each message. It keeps no message.
 #[derive(Drop)]
-pub(crate) struct MessageSayer {
+pub(crate) struct Messenger {
     pub notation: Notation,
     pub starts: ReceptionStarts,
 }
 
-impl Machine for MessageSayer {
+impl Machine for Messenger {
     ghost use Rattle.isotp_receive.specs.declared.TheConstants.{MESSAGE_LIMIT};
     ghost use Rattle.trace_canon.specs.proving.MessageSaying.{SaysMessages};
-    ghost use Rattle.trace_canon.specs.MessageLines.{messages_script};
+    ghost use Rattle.trace_canon.specs.MessagesScript.{messages_script};
     ghost use Rattle.trace_run.specs.Script.{answers_counts, needs_none};
 
     type Answer = Summary;

@@ -2,7 +2,7 @@
 use Rattle.std.proofs.Common.{subst, sym}
 use Rattle.trace_run.proofs.Promises.{completes_judged}
 use Rattle.trace_canon.proofs.SaidMessages.{judged_said, nothing_said}
-use Rattle.trace_canon.proofs.message_lines.MessageSayerMachine.event.Goals as goal
+use Rattle.trace_canon.proofs.messenger.MessengerMachine.event.Goals as goal
 
 pub returns-in-Some-clause-ok : goal.returns-in-Some-clause-ok
 returns-in-Some-clause-ok g c = λ start T e seen stood.

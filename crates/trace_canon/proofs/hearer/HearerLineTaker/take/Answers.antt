@@ -2,7 +2,7 @@
 use Rattle.std.proofs.Common.{refl}
 use Rattle.trace_log.proofs.Promises.{handed_on}
 use Rattle.trace_canon.proofs.Hearings.{heard_blank, heard_frame, heard_first}
-use Rattle.trace_canon.proofs.hearing.HearingLineTaker.take.Goals as goal
+use Rattle.trace_canon.proofs.hearer.HearerLineTaker.take.Goals as goal
 
 pub returns-in_ok-take-in-Some-clause-ok : goal.returns-in_ok-take-in-Some-clause-ok
 returns-in_ok-take-in-Some-clause-ok c = λ start meanings number few took begun.
