@@ -7,6 +7,7 @@ use Rattle.trace_log.specs.Settings.{AreSettings, Settings}
 use Rattle.trace_log.proofs.Promises.{all_begin, written_is_canonical, written_of_recording, answer_certifies, messages_more, all_frames-append, fitting_frames, fitting_log_begins}
 use Rattle.std.proofs.Common.{arith, ◌+◌, ◌≡◌, Bool, true, false, refl, subst, Option, Ok, Err, ◌≤◌, ◌<◌, ℕ, List, [], ◌∷◌, ◌++◌, length, drop, ap, sym, ◌∙◌, append-nil, append_assoc, length-append, Result, inl, inr}
 use Rattle.std.proofs.Math.Seq.{drop-append_seam}
+use Rattle.std.proofs.lemmas.Bool.{le-leb, lt-leb, leb-true, leb-false}
 use Rattle.can_log.specs.declared.frame.Stamped.{Stamped}
 use Rattle.isotp_receive.specs.declared.TheConstants.{MESSAGE_LIMIT}
 use Rattle.isotp_receive.specs.Trace.{Entry}
@@ -16,10 +17,11 @@ use Rattle.uds_exchange.specs.Order.{early, held}
 use Rattle.uds_exchange.specs.Orderer.{JudgedOrdererValue}
 use Rattle.uds_exchange.specs.Meaning.{meaning, flattened}
 use Rattle.uds_exchange.proofs.Promises.{early_grows, early_then_held}
-use Rattle.trace_canon.specs.proving.CanonicalScript.{StandsCanonical, is_too_long, CanonicalIsTheSame, canonical_command, canonical_script, progress_behind, lines_due, text_of_early, CanonicalSaysEarly}
+use Rattle.trace_canon.specs.proving.CanonicalScript.{StandsCanonical, CanonicalIsTheSame, canonical_command, canonical_script, progress_behind, lines_due, text_of_early, CanonicalSaysEarly}
 use Rattle.trace_log.specs.Needing.{HasTextOf}
 use Rattle.trace_run.specs.Script.{said_after, said_of_frames, said_of_lines, whole_of_lines}
 use Rattle.trace_run.specs.Ran.{AnswersAndWrites, EndsWith, FailsToWrite, WritesSaid, WritesSaidAndRefusal, WritesFrontOfWhole, WritesSaidEagerly}
+use Rattle.trace_canon.specs.proving.Measuring.{fits_within}
 use Rattle.trace_canon.specs.proving.Writing.{ProgressValue, start_of, text_from, progress_after}
 use Rattle.trace_canon.proofs.CanonicalWriting.{text_none, text_append, progress_append}
 use Rattle.trace_canon.proofs.Answered.{answers_accepted, answers_output_limit}
@@ -80,14 +82,6 @@ progress_at_end settings M =
     sym (progress_append settings begin (all_frames MESSAGE_LIMIT (early M)) (all_frames MESSAGE_LIMIT (held M)))
     ∙ ap (progress_after settings begin) (sym (all_frames-append MESSAGE_LIMIT (early M) (held M))) ∙ ap (progress_behind settings) (early_then_held M)
 
--- a line did not fit
-pub over_at_end : (settings config : Settings) (T : List Entry) (orderer : JudgedOrdererValue) (progress after : ProgressValue) → StandsCanonical settings T orderer config progress
-    → after ≡ progress_after config progress (all_frames MESSAGE_LIMIT (held (messages MESSAGE_LIMIT T))) → after.is_full ≡ is_too_long settings T
-over_at_end settings config T orderer progress after stands at =
-    let frames = all_frames MESSAGE_LIMIT (held (messages MESSAGE_LIMIT T)) in
-    ap (λ (p : ProgressValue). p.is_full)
-    (at ∙ ap (λ s. progress_after s progress frames) stands.same ∙ ap (λ p. progress_after settings p frames) stands.at ∙ progress_at_end settings (messages MESSAGE_LIMIT T))
-
 -- what was said of messages is what fits of their canonical log
 said_fits : (settings : Settings) (put : List Message) → text_from settings (start_of settings.max_bytes) (all_frames MESSAGE_LIMIT put) ≡ fitting settings (canonical_log MESSAGE_LIMIT settings put)
 unfolding text_from canonical_log
@@ -103,6 +97,32 @@ whole_when : (settings : Settings) (put : List Message) → (progress_behind set
     × (text_from settings (start_of settings.max_bytes) (all_frames MESSAGE_LIMIT put) ≡ canonical_log MESSAGE_LIMIT settings put)
 unfolding canonical_log log_of_frames
 whole_when settings put within = within_when settings (start_of settings.max_bytes) (all_frames MESSAGE_LIMIT put) refl within
+
+-- and within the limit all of it was said
+said_whole : (settings : Settings) (put : List Message) → length (canonical_log MESSAGE_LIMIT settings put) ≤ settings.max_bytes
+    → text_from settings (start_of settings.max_bytes) (all_frames MESSAGE_LIMIT put) ≡ canonical_log MESSAGE_LIMIT settings put
+said_whole settings put fits = by ((progress_behind settings put).is_full) refl
+  where
+    by : (b : Bool) → (progress_behind settings put).is_full ≡ b → text_from settings (start_of settings.max_bytes) (all_frames MESSAGE_LIMIT put) ≡ canonical_log MESSAGE_LIMIT settings put
+    by true over = let long = long_when settings put over in absurd (omega (arith, long, fits))
+    by false within = (whole_when settings put within).1
+
+module _ (settings config : Settings) (T : List Entry) (orderer : JudgedOrdererValue) (progress after : ProgressValue) (stands : StandsCanonical settings T orderer config progress)
+    (at : after ≡ progress_after config progress (all_frames MESSAGE_LIMIT (held (messages MESSAGE_LIMIT T)))) where
+  -- whether a line did not fit, at the end
+  full_at_end : after.is_full ≡ (progress_behind settings (flattened (meaning (messages MESSAGE_LIMIT T)))).is_full
+  full_at_end =
+      let frames = all_frames MESSAGE_LIMIT (held (messages MESSAGE_LIMIT T)) in
+      ap (λ (p : ProgressValue). p.is_full)
+      (at ∙ ap (λ s. progress_after s progress frames) stands.same ∙ ap (λ p. progress_after settings p frames) stands.at ∙ progress_at_end settings (messages MESSAGE_LIMIT T))
+
+  -- one did not: the canonical log is too long
+  pub over_at_end : after.is_full ≡ true → fits_within settings (meaning (messages MESSAGE_LIMIT T)) ≡ false
+  over_at_end full = lt-leb _ settings.max_bytes (long_when settings (flattened (meaning (messages MESSAGE_LIMIT T))) (sym full_at_end ∙ full))
+
+  -- all did: it is not
+  pub within_at_end : after.is_full ≡ false → fits_within settings (meaning (messages MESSAGE_LIMIT T)) ≡ true
+  within_at_end room = le-leb _ settings.max_bytes (whole_when settings (flattened (meaning (messages MESSAGE_LIMIT T))) (sym full_at_end ∙ room)).0
 
 module _ (settings : Settings) where
   early_is : (meanings : List (Option Stamped)) → said_of_lines (canonical_script settings) settings meanings ≡ early_text MESSAGE_LIMIT settings meanings
@@ -183,33 +203,33 @@ module _ (settings : Settings) where
 
     ends_well : (summary : Summary) → EndsWith (canonical_command settings) MESSAGE_LIMIT settings log given (Ok summary) old new
         → Answers MESSAGE_LIMIT settings log given (Ok summary) old new
-    ends_well summary (all, meanings, read, answer, wrote) = by (is_too_long settings (trace settings meanings)) refl
+    ends_well summary (all, meanings, read, answer, wrote) = by (fits_within settings (meaning (messages MESSAGE_LIMIT (trace settings meanings)))) refl
       where
-        by : (b : Bool) → is_too_long settings (trace settings meanings) ≡ b → Answers MESSAGE_LIMIT settings log given (Ok summary) old new
-        by true is =
-            let same : Ok summary ≡ Err no_answer.OutputLimit =
-            answer ∙ ap (λ (b : Bool). if b then Err no_answer.OutputLimit else Ok (summary_of MESSAGE_LIMIT settings log meanings)) is in
-            absurd (cc same)
+        by : (b : Bool) → fits_within settings (meaning (messages MESSAGE_LIMIT (trace settings meanings))) ≡ b → Answers MESSAGE_LIMIT settings log given (Ok summary) old new
         by false is =
+            let same : Ok summary ≡ Err no_answer.OutputLimit =
+            answer ∙ ap (λ (b : Bool). if b then Ok (summary_of MESSAGE_LIMIT settings log meanings) else Err no_answer.OutputLimit) is in
+            absurd (cc same)
+        by true is =
             let same : Ok summary ≡ Ok (summary_of MESSAGE_LIMIT settings log meanings) =
-            answer ∙ ap (λ (b : Bool). if b then Err no_answer.OutputLimit else Ok (summary_of MESSAGE_LIMIT settings log meanings)) is in
+            answer ∙ ap (λ (b : Bool). if b then Ok (summary_of MESSAGE_LIMIT settings log meanings) else Err no_answer.OutputLimit) is in
             let counted : summary ≡ summary_of MESSAGE_LIMIT settings log meanings = cc same in
-            let fits = whole_when settings (flattened (meaning (messages MESSAGE_LIMIT (trace settings meanings)))) is in
+            let fits = leb-true _ _ is in
             subst (λ s. Answers MESSAGE_LIMIT settings log given (Ok s) old new) (sym counted)
-            (answers_accepted MESSAGE_LIMIT settings log given meanings old new read fits.0 (wrote ∙ ap (λ x. old ++ x) (whole_said log meanings ∙ fits.1)))
+            (answers_accepted MESSAGE_LIMIT settings log given meanings old new read fits
+            (wrote ∙ ap (λ x. old ++ x) (whole_said log meanings ∙ said_whole settings (flattened (meaning (messages MESSAGE_LIMIT (trace settings meanings)))) fits)))
 
     ends_over : EndsWith (canonical_command settings) MESSAGE_LIMIT settings log given (Err no_answer.OutputLimit) old new
         → Answers MESSAGE_LIMIT settings log given (Err OutputLimit) old new
-    ends_over (all, meanings, read, answer, wrote) = by (is_too_long settings (trace settings meanings)) refl
+    ends_over (all, meanings, read, answer, wrote) = by (fits_within settings (meaning (messages MESSAGE_LIMIT (trace settings meanings)))) refl
       where
-        by : (b : Bool) → is_too_long settings (trace settings meanings) ≡ b → Answers MESSAGE_LIMIT settings log given (Err OutputLimit) old new
-        by false is =
-            let same : Err no_answer.OutputLimit ≡ Ok (summary_of MESSAGE_LIMIT settings log meanings) =
-            answer ∙ ap (λ (b : Bool). if b then Err no_answer.OutputLimit else Ok (summary_of MESSAGE_LIMIT settings log meanings)) is in
-            absurd (cc same)
+        by : (b : Bool) → fits_within settings (meaning (messages MESSAGE_LIMIT (trace settings meanings))) ≡ b → Answers MESSAGE_LIMIT settings log given (Err OutputLimit) old new
         by true is =
-            answers_output_limit MESSAGE_LIMIT settings log given meanings old new read all (long_when settings (flattened (meaning (messages MESSAGE_LIMIT (trace settings meanings)))) is)
-            (wrote ∙ ap (λ x. old ++ x) (whole_is log meanings))
+            let same : Err no_answer.OutputLimit ≡ Ok (summary_of MESSAGE_LIMIT settings log meanings) =
+            answer ∙ ap (λ (b : Bool). if b then Ok (summary_of MESSAGE_LIMIT settings log meanings) else Err no_answer.OutputLimit) is in
+            absurd (cc same)
+        by false is =
+            answers_output_limit MESSAGE_LIMIT settings log given meanings old new read all (leb-false _ _ is) (wrote ∙ ap (λ x. old ++ x) (whole_is log meanings))
 
 -- writing fails only where the lines read have a canonical line
 pub unwritten_some : (settings : Settings) (log : List ℕ) (given : ℕ) (result : Result Summary Fault) (old new : List ℕ) → result ≡ Err Write

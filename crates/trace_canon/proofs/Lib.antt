@@ -1,4 +1,4 @@
-pub mod HandedOn
+pub mod Results
 pub mod LeftAlone
 pub mod Comparisons
 pub mod Lengths

@@ -25,7 +25,7 @@ use Rattle.trace_run.specs.Ran.{AnswersAndWrites}
 use Rattle.trace_log.specs.Trace.{trace}
 use Rattle.trace_canon.specs.WatchScript.{decided_of, newly_decided, text_behind, watch_script, WritesTheList}
 use Rattle.trace_canon.specs.Laws.{WatchSaysDecided, WatchSaysTheList}
-use Rattle.trace_canon.specs.proving.Watching.{SaysLines, SaysDecided, WatchesItems}
+use Rattle.trace_canon.specs.proving.Watching.{SaysPutItem, SaysLines, SaysDecided, WatchesItems}
 use Rattle.trace_log.specs.declared.fault.Fault.{Fault}
 use Rattle.trace_text.specs.declared.item_style.ItemStyle.{ItemStyle}
 use Rattle.trace_log.specs.declared.summary.Summary.{Summary}
@@ -41,19 +41,13 @@ next_number n after is few = omega arith
 
 module _ {S : Type 0} (says : S → List ℕ → S → Type 0) (nothing : (s : S) → says s [] s)
     (onward : (s m t : S) (a b : List ℕ) → says s a m → says m b t → says s (a ++ b) t) where
-  -- the line of an item was said
-  abbrev pub SaysItem : LineSink S → ItemValue → LineSink S → Type 0
-  SaysItem s item t =
-      (t.out.ghost_name ≡ s.out.ghost_name) × (t.number.ghost_name ≡ s.number.ghost_name) × (t.style ≡ s.style)
-      × (t.number.now ≡ one_more s.number.now) × says s.out.now (item_line s.style s.number.now item) t.out.now
-
   -- the lines of items were said
   pub record SaidItems (s : LineSink S) (items : List ItemValue) (t : LineSink S) : Type 0 where
     pub same_out : t.out.ghost_name ≡ s.out.ghost_name
     pub same_number : t.number.ghost_name ≡ s.number.ghost_name
     pub lines : SaysLines says s.style items s.number.now s.out.now t.number.now t.out.now
 
-  pub said_items : (items : List ItemValue) (s t : LineSink S) → PutsItems SaysItem s items t → SaidItems s items t
+  pub said_items : (items : List ItemValue) (s t : LineSink S) → PutsItems (SaysPutItem says) s items t → SaidItems s items t
   said_items [] s t is = subst (SaidItems s []) (sym is) (record { same_out = refl; same_number = refl; lines = λ few. (omega arith, nothing s.out.now) })
   said_items (item ∷ later) s t (between, one, rest) =
       let after = said_items later between t rest in

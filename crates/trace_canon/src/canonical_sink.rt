@@ -78,17 +78,11 @@ pub(crate) struct CanonicalSink<'a, S> {
 }
 
 impl<'a, S: TextSink> MessageSink for CanonicalSink<'a, S> {
-    ghost use Rattle.std.specs.Prelude.{◌≡◌};
-    ghost use Rattle.isotp_receive.specs.declared.TheConstants.{MESSAGE_LIMIT};
-    ghost use Rattle.isotp_segment.specs.CanonicalFrames.{canonical_frames};
-    ghost use Rattle.trace_canon.specs.proving.Writing.{text_from, progress_after};
+    ghost use Rattle.trace_canon.specs.proving.Saying.{SaysPutMessage};
 
     type Fault = NoFault;
 
-    ghost after_ok = { λ s d m t. (t.out.ghost_name ≡ s.out.ghost_name)
-        × (t.progress.ghost_name ≡ s.progress.ghost_name) × (t.config ≡ s.config)
-        × (t.progress.now ≡ progress_after s.config s.progress.now (canonical_frames MESSAGE_LIMIT d m))
-        × S.says s.out.now (text_from s.config s.progress.now (canonical_frames MESSAGE_LIMIT d m)) t.out.now };
+    ghost after_ok = { λ s d message t. SaysPutMessage S.says s d message t };
 
     ghost after_err = { λ s d m e t. ⊥ };
 

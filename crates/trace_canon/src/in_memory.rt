@@ -132,7 +132,7 @@ pub fn comparison(
 }
 
 /// How two logs compare, and the counts of each: what they mean is left out.
-fn counted_comparison(compared: &Compared) -> CountedComparison
+pub fn counted_comparison(compared: &Compared) -> CountedComparison
     ensures { result ≡ Spec.counted_comparison compared.now }
 {
     CountedComparison {

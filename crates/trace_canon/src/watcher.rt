@@ -130,13 +130,9 @@ pub(crate) struct LineSink<'a, S> {
 }
 
 impl<'a, S: TextSink> ItemSink for LineSink<'a, S> {
-    ghost use Rattle.std.specs.Prelude.{◌≡◌};
-    ghost use Rattle.uds_exchange.specs.Judging.{one_more};
-    ghost use Rattle.trace_text.specs.ItemLines.{item_line};
+    ghost use Rattle.trace_canon.specs.proving.Watching.{SaysPutItem};
 
-    ghost takes = { λ s item t. (t.out.ghost_name ≡ s.out.ghost_name) × (t.number.ghost_name ≡ s.number.ghost_name)
-        × (t.style ≡ s.style) × (t.number.now ≡ one_more s.number.now)
-        × S.says s.out.now (item_line s.style s.number.now item) t.out.now };
+    ghost takes = { λ s item t. SaysPutItem S.says s item t };
 
     fn put(&mut self, item: Item<'_>) {
         say_item_line(*self.number, self.style, item, self.out);
