@@ -38,14 +38,14 @@ pub struct CountedComparison {
 
 /// What the messages of a log mean, as [`meaning_of`](crate::meaning_of) answers it.
 pub fn meaning(alloc: Global, config: &Config, log: &[u8]) -> Result<Meaning, Fault>
-    ensures { MeansInMemory MESSAGE_LIMIT config.now log.now result }
+    ensures answer { MeansInMemory MESSAGE_LIMIT config.now log.now result }
 {
     meaning_of(alloc, config, &mut Bytes::new(log))
 }
 
 /// The canonical log of a log, as [`normalise`](crate::normalise) writes it.
 pub fn canonical_log(alloc: Global, config: &Config, log: &[u8]) -> Result<CountedText, Fault>
-    ensures { MatchResult result
+    ensures answer { MatchResult result
         (λ counted. IsCanonicalLogWith MESSAGE_LIMIT config.now log.now counted.text.items counted.summary)
         (IsRefused NeedsMemoryForCanonicalLog MESSAGE_LIMIT config.now log.now) }
 {
@@ -61,7 +61,7 @@ pub fn item_list(
     style: ItemStyle,
     log: &[u8],
 ) -> Result<CountedText, Fault>
-    ensures { MatchResult result
+    ensures answer { MatchResult result
         (λ counted. IsListWith style MESSAGE_LIMIT config.now log.now counted.text.items counted.summary)
         (IsRefused (NeedsMemoryForList style) MESSAGE_LIMIT config.now log.now) }
 {
@@ -77,7 +77,7 @@ pub fn message_lines(
     notation: Notation,
     log: &[u8],
 ) -> Result<CountedText, Fault>
-    ensures { MatchResult result
+    ensures answer { MatchResult result
         (λ counted. AreMessageLinesWith notation MESSAGE_LIMIT config.now log.now counted.text.items counted.summary)
         (IsUnread (NeedsMemoryForMessageLines notation) MESSAGE_LIMIT config.now log.now) }
 {
@@ -93,7 +93,7 @@ pub fn explanation(
     notation: Notation,
     log: &[u8],
 ) -> Result<CountedText, Fault>
-    ensures { MatchResult result
+    ensures answer { MatchResult result
         (λ counted. IsExplanationWith notation MESSAGE_LIMIT config.now log.now counted.text.items counted.summary)
         (IsUnread NeedsMemoryForExplanation MESSAGE_LIMIT config.now log.now) }
 {
@@ -109,7 +109,7 @@ pub fn credit_lines(
     notation: Notation,
     log: &[u8],
 ) -> Result<CountedText, Fault>
-    ensures { MatchResult result
+    ensures answer { MatchResult result
         (λ counted. IsFindingWith notation config.now log.now counted.text.items counted.summary)
         (IsUnread (NeedsMemoryForCreditLines notation) MESSAGE_LIMIT config.now log.now) }
 {
@@ -125,7 +125,7 @@ pub fn comparison(
     left: &[u8],
     right: &[u8],
 ) -> Result<CountedComparison, CompareFault>
-    ensures { ComparesWithCounts MESSAGE_LIMIT config.now left.now right.now result }
+    ensures answer { ComparesWithCounts MESSAGE_LIMIT config.now left.now right.now result }
 {
     let compared = compare(alloc, config, &mut Bytes::new(left), &mut Bytes::new(right))?;
     Ok(counted_comparison(&compared))
@@ -144,7 +144,7 @@ pub fn counted_comparison(compared: &Compared) -> CountedComparison
 
 /// The text that was gathered with its counts, where all is well: where a write failed, memory was refused.
 pub fn counted_text(answer: Result<Summary, Fault>, text: Vec<u8>) -> Result<CountedText, Fault>
-    ensures { MatchResult answer
+    ensures answer { MatchResult answer
         (λ summary. result ≡ Ok (record { text = text; summary = summary }))
         (λ fault. result ≡ Err (fault_in_memory fault)) }
 {

@@ -19,4 +19,4 @@ returns c =
     let held = taken_is_held empty (ap (λ w. w.inner.items) c.new-writer.ensures ∙ c.new.ensures.items) ran.wrote.took in
     gathered _ _ (λ summary. record { text = c.into_inner.result; summary = summary }) c.report-answer.result c.counted_text.result
     (said_in_memory script.of_frame script.at_the_end refusal needs_none NeedsMemoryForPage MESSAGE_LIMIT c.args.config.now c.args.log.now _ c.report-answer.result _ _ _ empty (held ∙ ap (λ v. v.items) (sym c.into_inner.ensures)) ran.read.failed (λ _. tt) (λ _. tt) (ran.answer c.args.log.now agrees))
-    c.counted_text.ensures
+    c.counted_text.ensures.answer
