@@ -8,9 +8,11 @@ use Rattle.can_log.specs.declared.frame.Stamped.{Stamped}
 use Rattle.isotp_receive.specs.declared.TheConstants.{MESSAGE_LIMIT}
 use Rattle.trace_log.specs.declared.fault.Fault.{Fault}
 use Rattle.trace_log.specs.declared.fault.Fault.TheVariants as fault
-use Rattle.trace_canon.specs.declared.hearing.Found.{Found}
-use Rattle.trace_canon.specs.declared.hearing.Hearing.{Hearing}
-use Rattle.trace_canon.specs.Finding.{frames_in, GivesFound, IsFoundOf, NeedsMemoryToFind}
+use Rattle.trace_canon.specs.declared.hearer.Found.{Found}
+use Rattle.trace_canon.specs.declared.hearer.Hearer.{Hearer}
+use Rattle.trace_canon.specs.Finding.{GivesFound, IsFoundOf}
+use Rattle.trace_canon.specs.MemoryNeeded.{NeedsMemoryToFind}
+use Rattle.trace_canon.specs.CreditLines.{frames_in}
 use Rattle.trace_log.specs.Settings.{Settings}
 use Rattle.trace_log.specs.Feeding.{FeedsLog, FeedsSome, Took, Stopped, StopsWithin}
 use Rattle.trace_canon.specs.proving.Hearing.{HasHeard}
@@ -71,7 +73,7 @@ module _ (meanings : List (Option Stamped)) (what : Option Stamped) where
 
 -- what hears and what it writes to, which is nothing
 abbrev Heard : Type 0
-Heard = Hearing × Unit {0}
+Heard = Hearer × Unit {0}
 
 abbrev TookHeard : Took Heard
 TookHeard s meanings t = HasHeard [] s.0.finder s.0.lines → HasHeard meanings t.0.finder t.0.lines

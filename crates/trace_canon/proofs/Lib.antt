@@ -1,4 +1,4 @@
-pub mod HandedOn
+pub mod Results
 pub mod LeftAlone
 pub mod Comparisons
 pub mod Lengths
@@ -11,7 +11,7 @@ pub mod CanonicalSayings
 pub mod CanonicalMachines
 pub mod CanonicalScripts
 pub mod MovedStarts
-pub mod MessagePlaces
+pub mod NextStarts
 pub mod FirstFrames
 pub mod SaidMessages
 pub mod Collecting

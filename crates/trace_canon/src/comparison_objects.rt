@@ -3,7 +3,7 @@ ghost use Rattle.trace_canon.specs.ComparisonText.{comparison_members, different
 ghost use Rattle.trace_text.specs.Json.{object_line};
 
 use crate::compared_items::say_item_at;
-use crate::comparing::{Compared, Comparison};
+use crate::comparer::{Compared, Comparison};
 use text_parts::say;
 use trace_io::TextSink;
 use trace_text::values::say_text;

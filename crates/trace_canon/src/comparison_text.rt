@@ -4,7 +4,7 @@ ghost use Rattle.trace_run.specs.Printed.{Prints};
 ghost use Rattle.trace_io.specs.Counted.{IsLowCount};
 
 use crate::compared_items::say_item_at;
-use crate::comparing::{Compared, Comparison};
+use crate::comparer::{Compared, Comparison};
 use crate::comparison_objects::say_comparison_object;
 use text_parts::{Part, say};
 use trace_io::{Target, TextSink};

@@ -1,6 +1,6 @@
 //! The line of a message as an object of JSON.
 ghost use Rattle.trace_text.specs.Json.{object_line};
-ghost use Rattle.trace_canon.specs.MessageLines.{judged_at, placed_members};
+ghost use Rattle.trace_canon.specs.MessagesScript.{judged_at, placed_members};
 
 use crate::message_parts::Role;
 use crate::reception_starts::FramePlace;

@@ -29,7 +29,7 @@ pub(crate) struct Extent {
 }
 
 impl Part for Extent {
-    ghost use Rattle.trace_canon.specs.MessageLines.{extent_text};
+    ghost use Rattle.trace_canon.specs.MessagesScript.{extent_text};
 
     ghost text = { λ extent. extent_text extent.first extent.last };
 

@@ -4,7 +4,7 @@ use Rattle.std.specs.Prelude.{IfErr}
 use Rattle.trace_canon.specs.Compared.{Compares, fault_in}
 use Rattle.trace_canon.specs.InMemory.{counted_comparison}
 use Rattle.trace_canon.specs.MemoryNeeded.{NeedsMemoryToCollect}
-use Rattle.trace_canon.specs.declared.comparing.Compared.{Compared}
+use Rattle.trace_canon.specs.declared.comparer.Compared.{Compared}
 use Rattle.trace_canon.specs.declared.in_memory.CountedComparison.{CountedComparison}
 use Rattle.trace_canon.proofs.Promises.{reads_well}
 use Rattle.trace_io.specs.Written.{HasWritten}

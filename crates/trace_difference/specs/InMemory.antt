@@ -3,7 +3,7 @@
 use Rattle.std.specs.Prelude.{◌≡◌, ◌⊎◌, ℕ, List, Result, Ok, Err}
 use Rattle.trace_canon.specs.Compared.{Compares, fault_in}
 use Rattle.trace_canon.specs.InMemory.{IsOfMemory, NeedsMemoryOnSide, counted_comparison}
-use Rattle.trace_canon.specs.declared.comparing.Compared.{Compared}
+use Rattle.trace_canon.specs.declared.comparer.Compared.{Compared}
 use Rattle.trace_canon.specs.declared.in_memory.CountedComparison.{CountedComparison}
 use Rattle.trace_log.specs.Settings.{Settings}
 use Rattle.trace_log.specs.declared.fault.CompareFault.{CompareFault}

@@ -1,13 +1,12 @@
 //! Where two logs differ that lie in memory: the text of that, gathered there. No device is asked.
 ghost use Rattle.std.specs.Prelude.{◌≡◌, IfOk, MatchResult};
 ghost use Rattle.isotp_receive.specs.declared.TheConstants.{MESSAGE_LIMIT};
-ghost use Rattle.trace_canon.specs.InMemory as Spec;
 ghost use Rattle.trace_difference.specs.InMemory.{ComparesInMemory, HasNoDifferenceText, IsDifferenceWith};
 ghost use Rattle.trace_difference.specs.Written.{difference_text, written_rows};
 
 use crate::written::{Side, write_difference};
 use std::alloc::{AllocError, Global};
-use trace_canon::in_memory::CountedComparison;
+use trace_canon::in_memory::{CountedComparison, counted_comparison};
 use trace_canon::{Compared, compare};
 use trace_io::{Bytes, Writing};
 use trace_log::{CompareFault, Config, Fault};
@@ -95,16 +94,5 @@ fn gathered(
     match write_difference(difference, left, right, notation, &mut writer) {
         Ok(()) => Ok(writer.into_inner()),
         Err(_fault) => Err(AllocError),
-    }
-}
-
-/// What two logs are to each other, without what they mean.
-fn counted_comparison(compared: &Compared) -> CountedComparison
-    ensures { result ≡ Spec.counted_comparison compared.now }
-{
-    CountedComparison {
-        comparison: compared.comparison,
-        left: compared.left.summary,
-        right: compared.right.summary,
     }
 }

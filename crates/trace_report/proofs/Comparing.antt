@@ -3,8 +3,8 @@ use Rattle.std.proofs.Common.{◌≡◌, ◌+◌, ◌<◌, Bool, true, false, �
 use Rattle.std.specs.Prelude.{⊤, max, slice_get}
 use Rattle.std.proofs.lemmas.List.{drop_more}
 use Rattle.std.proofs.lemmas.Option.{none-some, same_Some, slice_get_within, slice_get_past, get_or_from_slice_get}
-use Rattle.trace_canon.specs.declared.comparing.Comparison.{Comparison}
-use Rattle.trace_canon.specs.declared.comparing.Comparison.TheVariants.{Same, Different}
+use Rattle.trace_canon.specs.declared.comparer.Comparison.{Comparison}
+use Rattle.trace_canon.specs.declared.comparer.Comparison.TheVariants.{Same, Different}
 use Rattle.trace_report.specs.Contrast.{FirstContrast, contrast_of, first_by, first_contrast, later_by_one}
 use Rattle.trace_report.specs.Kept.{comparison_by}
 use Rattle.trace_report.specs.Items.{ItemPairValue, PlacedItemValue, pairs_of}

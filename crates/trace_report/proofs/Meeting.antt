@@ -21,7 +21,7 @@ use Rattle.uds_exchange.specs.Order.{open_request}
 use Rattle.uds_exchange.proofs.Promises.{open_request_goes_on}
 use Rattle.uds_message.specs.Message.{sid, is_final_for, is_pending_for, is_suppressing}
 use Rattle.uds_exchange.specs.Meaning.{is_from_tester}
-use Rattle.trace_canon.specs.MessageLines.{first_frame, place_of}
+use Rattle.trace_canon.specs.FirstFrames.{first_frame, place_of}
 use Rattle.trace_canon.specs.declared.reception_starts.FramePlace.{FramePlace}
 use Rattle.trace_canon.proofs.Promises.{messages_next}
 use Rattle.trace_report.specs.Events.{asked_in, completes_request, completes_request_by, ended_rows, event_rows, frame_rows, frames_by, is_request_step, ends_nothing, rows_before, verdict_rows}

@@ -13,7 +13,7 @@ use Rattle.isotp_receive.specs.StandingReception.{StandingReception, receptions_
 use Rattle.isotp_receive.specs.Trace.{Entry}
 use Rattle.isotp_receive.specs.Verdict.{VerdictValue, message, began, stored, flowed, dropped, messages, told_message, verdict}
 use Rattle.trace_canon.proofs.Promises.{messages_next}
-use Rattle.trace_canon.specs.MessageLines.{place_of}
+use Rattle.trace_canon.specs.FirstFrames.{place_of}
 use Rattle.uds_exchange.proofs.Promises.{held_are_fewer, items_grow}
 use Rattle.uds_exchange.specs.Meaning.{is_tester_request, meaning}
 use Rattle.uds_exchange.specs.Judging.{number_after, number_by, open_number, step_after}

@@ -10,7 +10,7 @@ use Rattle.uds_exchange.specs.Judging.{number_after, open_number, step_after}
 use Rattle.uds_exchange.specs.Order.{open_request}
 use Rattle.uds_exchange.specs.declared.step.Step.{Step}
 use Rattle.uds_message.specs.Message.{is_suppressing}
-use Rattle.trace_canon.specs.MessageLines.{first_frame, place_of}
+use Rattle.trace_canon.specs.FirstFrames.{first_frame, place_of}
 use Rattle.trace_report.specs.Rows.{RowValue}
 use Rattle.trace_report.specs.declared.row.MessagePlace.{MessagePlace}
 use Rattle.trace_report.specs.Roles.{role_of_step}

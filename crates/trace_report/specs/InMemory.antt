@@ -2,7 +2,7 @@
 -- was refused.
 use Rattle.std.specs.Prelude.{◌≡◌, ⊤, ℕ, List, None, Result, Ok, Err}
 use Rattle.trace_canon.specs.Compared.{fault_in}
-use Rattle.trace_canon.specs.InMemory.{IsOfMemory, IsToldWith}
+use Rattle.trace_canon.specs.InMemory.{IsOfMemory, IsSaidWith}
 use Rattle.trace_canon.specs.declared.in_memory.CountedComparison.{CountedComparison}
 use Rattle.trace_log.specs.Settings.{Settings}
 use Rattle.trace_log.specs.declared.fault.CompareFault.{CompareFault}
@@ -17,7 +17,7 @@ use Rattle.trace_report.specs.declared.in_memory.NoPairPage.TheVariants.{OfLog, 
 
 -- the log can be read and has these counts, and this is the page with this title
 abbrev pub IsPageWith : PageTitleValue → ℕ → Settings → List ℕ → List ℕ → Summary → Type 0
-IsPageWith title limit = IsToldWith (report_script title limit) limit
+IsPageWith title limit = IsSaidWith (report_script title limit) limit
 
 -- memory is needed to gather a page: each has its front
 abbrev pub NeedsMemoryForPage : ℕ → Settings → List ℕ → Type 0

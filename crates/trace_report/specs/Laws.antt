@@ -14,7 +14,7 @@ use Rattle.uds_message.specs.Message.{is_negative_response}
 use Rattle.trace_canon.specs.Compared.{Compares, difference}
 use Rattle.trace_log.specs.Settings.{Settings}
 use Rattle.trace_log.specs.Trace.{trace}
-use Rattle.trace_canon.specs.declared.comparing.Compared.{Compared}
+use Rattle.trace_canon.specs.declared.comparer.Compared.{Compared}
 use Rattle.trace_report.specs.Blocks.{begins_exchange}
 use Rattle.trace_report.specs.Contrast.{contrast_of_answers, first_contrast}
 use Rattle.trace_report.specs.Difference.{begins_number, rows_around}

@@ -8,7 +8,7 @@ ghost use Rattle.isotp_receive.specs.Trace.{Entry};
 ghost use Rattle.isotp_receive.specs.Verdict.{verdict};
 ghost use Rattle.trace_run.specs.Seen.{IsSeen};
 ghost use Rattle.uds_exchange.specs.Judging.{IsJudgedAfter, number_after, sent, step_after};
-ghost use Rattle.trace_canon.specs.MessageLines.{place_of};
+ghost use Rattle.trace_canon.specs.FirstFrames.{place_of};
 ghost use Rattle.trace_report.specs.Events.{closing_rows, end_rows, ended_rows, frame_rows, rows_before};
 ghost use Rattle.trace_report.specs.Roles.{role_of_step as role_by};
 ghost use Rattle.trace_report.specs.Rows.{message as tells_message};

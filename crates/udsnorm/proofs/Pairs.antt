@@ -11,9 +11,9 @@ use Rattle.uds_exchange.specs.Meaning.{ItemValue}
 use Rattle.trace_log.specs.Failing.{FailedIf}
 use Rattle.trace_run.specs.Printed.{Prints}
 use Rattle.trace_log.specs.Settings.{Settings}
-use Rattle.trace_canon.specs.declared.comparing.Compared.{Compared}
-use Rattle.trace_canon.specs.declared.comparing.Comparison.{Comparison}
-use Rattle.trace_canon.specs.declared.comparing.Comparison.TheVariants.{Same, Different}
+use Rattle.trace_canon.specs.declared.comparer.Compared.{Compared}
+use Rattle.trace_canon.specs.declared.comparer.Comparison.{Comparison}
+use Rattle.trace_canon.specs.declared.comparer.Comparison.TheVariants.{Same, Different}
 use Rattle.trace_log.specs.declared.fault.CompareFault.{CompareFault}
 use Rattle.trace_log.specs.declared.fault.CompareFault.TheVariants.{Left, Right}
 use Rattle.trace_log.specs.declared.fault.Fault.{Fault}

@@ -13,18 +13,18 @@ use Rattle.trace_canon.specs.Compared.{Compares, fault_in}
 use Rattle.trace_canon.specs.ComparisonText.{comparison_text}
 use Rattle.trace_log.specs.Devices.{AgreesWith, bytes_given, ReadFrom, WroteTo}
 use Rattle.trace_canon.specs.ExplainScript.{explain_script}
-use Rattle.trace_canon.specs.Finding.{Finds, NeedsMemoryToFind, RanToFind}
+use Rattle.trace_canon.specs.Finding.{Finds, RanToFind}
+use Rattle.trace_canon.specs.MemoryNeeded.{CompletesKept, NeedsMemoryToCollect, NeedsMemoryToFind, NeedsMemoryToOrder}
 use Rattle.trace_text.specs.ItemLines.{list_text}
 use Rattle.trace_canon.specs.ItemText.{RanOverItems, TextOfItems, WritesItems}
-use Rattle.trace_canon.specs.MessageLines.{messages_script}
+use Rattle.trace_canon.specs.MessagesScript.{messages_script}
 use Rattle.trace_log.specs.Needing.{HasFrame, IsKeptForMessage, NeedsMemoryToReceive}
-use Rattle.trace_canon.specs.MemoryNeeded.{CompletesKept, NeedsMemoryToCollect, NeedsMemoryToOrder}
 use Rattle.trace_log.specs.Refusal.{HasNoBadPlaceWithin, IsNotRefusedWithin}
 use Rattle.trace_log.specs.Settings.{Settings}
 use Rattle.trace_run.specs.Script.{GlimpseValue, Script, RefusalText, answers_counts, command, needs_none, says_no_refusal}
 use Rattle.trace_run.specs.Ran.{AnswersAndWrites, RanLenient, WritesSaidEagerly}
-use Rattle.trace_canon.specs.WatchScript.{watching_script}
-use Rattle.trace_canon.specs.declared.comparing.Compared.{Compared}
+use Rattle.trace_canon.specs.WatchScript.{watch_script}
+use Rattle.trace_canon.specs.declared.comparer.Compared.{Compared}
 use Rattle.trace_log.specs.declared.fault.CompareFault.{CompareFault}
 use Rattle.trace_log.specs.declared.fault.Fault.{Fault}
 use Rattle.trace_log.specs.declared.fault.Fault.TheVariants.{Memory, Read, Write}
@@ -216,7 +216,7 @@ RanBy source target (runs_in_style script refusal) settings = RanAny source targ
 abbrev pub engine_of : Job → List ℕ → GlimpseValue → Engine
 engine_of job.Normalise name seen = normalises
 engine_of (job.List style) name seen = writes (list_text style)
-engine_of (job.Watch style) name seen = runs (watching_script style) CompletesKept
+engine_of (job.Watch style) name seen = runs (watch_script style) CompletesKept
 engine_of (job.Explain notation) name seen = runs (explain_script notation) (λ limit. needs_none)
 engine_of (job.Messages notation) name seen = runs (messages_script notation) (λ limit. needs_none)
 engine_of job.Report name seen =

@@ -6,8 +6,8 @@ use Rattle.isotp_receive.specs.declared.TheConstants.{MESSAGE_LIMIT}
 use Rattle.trace_canon.specs.Compared.{Compares}
 use Rattle.trace_canon.specs.InMemory.{ComparesWithCounts}
 use Rattle.trace_canon.specs.Sessions.{IsAcceptedWith}
-use Rattle.trace_canon.specs.declared.comparing.Compared.{Compared}
-use Rattle.trace_canon.specs.declared.comparing.Comparison.{Comparison}
+use Rattle.trace_canon.specs.declared.comparer.Compared.{Compared}
+use Rattle.trace_canon.specs.declared.comparer.Comparison.{Comparison}
 use Rattle.trace_canon.specs.declared.in_memory.CountedComparison.{CountedComparison}
 use Rattle.trace_log.specs.Laws.{CleanLogHasBothSides}
 use Rattle.trace_log.specs.Settings.{Settings}

@@ -1,6 +1,6 @@
 -- Devices of proof: an answer of `compare`, what is told of it, and its text.
 use Rattle.std.specs.Prelude.{⊤, ℕ, Bool, List, [], Option, None, Result, Ok, Err}
-use Rattle.trace_canon.specs.declared.comparing.Compared.{Compared}
+use Rattle.trace_canon.specs.declared.comparer.Compared.{Compared}
 use Rattle.trace_log.specs.declared.fault.CompareFault.{CompareFault}
 use Rattle.trace_report.specs.Kept.{TwoValue}
 use Rattle.trace_report.specs.PairPage.{cause_of_pair}
