@@ -70,7 +70,7 @@ pub fn item_list(
     counted_text(answer, writer.into_inner())
 }
 
-/// The line of each message of a log, as [`messages`](crate::messages) writes them.
+/// The lines of the messages of a log, as [`messages`](crate::messages) writes them.
 pub fn message_lines(
     alloc: Global,
     config: &Config,

@@ -4,7 +4,7 @@
 //! Two recordings of one diagnostic session differ in time stamps, interface names, padding, frame sizes and foreign
 //! traffic. [`normalise`] reads a log and writes the one spelling that all logs with the same meaning share. So two
 //! logs mean the same session exactly where their canonical logs are equal byte for byte. A log that is not accepted
-//! is refused for a reason that is told, with the line where one is the reason.
+//! is refused with its reason, and with the line and the column where it has them.
 //!
 //! The log
 //!

@@ -116,7 +116,7 @@ impl<'a> Glimpse<'a> {
 /// Why a machine has no answer at the end of a log.
 #[derive(Clone, Copy, Debug)]
 pub enum NoAnswer {
-    /// Its output would be longer than the limit.
+    /// Its canonical log would be longer than the limit.
     OutputLimit,
 }
 
