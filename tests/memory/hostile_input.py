@@ -93,8 +93,11 @@ MEANT = Fraction(49, 22)
 
 FOUND = Fraction(100, 44)
 
-# Those of the rows of a log, of which a page of two logs holds both.
+# Those of the rows of a log, of which a page of two logs holds both; and beside both, while it looks for what stands beside what,
+# those of each item, at most one for 22 bytes, and those of a script.
 ROWS = Fraction(218, 22)
+BESIDE = Fraction(150, 22)
+SCRIPT_BYTES = 8_100_000
 
 # Those of what a log means for each byte of its canonical log.
 MEANT_CANONICAL = Fraction(49, 46)
@@ -434,8 +437,8 @@ def watched_requests(cases):
 
 
 def memory_of_two(cases):
-    """What both logs of a comparison mean is held, up to their last items, and of a page the rows of both. A line has most of them
-    where it is a request that has no answer."""
+    """What both logs of a comparison mean is held, up to their last items, and of a page the rows of both, and what stands beside
+    what. A line has most of them where it is a request that has no answer."""
     log = REQUEST * (MEASURED // len(REQUEST))
     with tempfile.NamedTemporaryFile() as left:
         left.write(log)
@@ -446,7 +449,8 @@ def memory_of_two(cases):
         for line in [REQUEST, ONE_BYTE, CONSECUTIVE, REQUEST + ANSWER, FIRST + REQUEST, FIRST]:
             right = line * (MEASURED // len(line))
             words, status = ["report", left.name, "/dev/stdin"], DONE if line == REQUEST else DIFFERENT
-            holds_at_most(cases, words, f"{REQUEST!r} alone, with {line!r} on the right", right, ROWS * len(log + right), status)
+            most = (ROWS + BESIDE) * len(log + right) + SCRIPT_BYTES
+            holds_at_most(cases, words, f"{REQUEST!r} alone, with {line!r} on the right", right, most, status)
 
 
 def two_receptions():

@@ -138,8 +138,10 @@ REFUSED_BY_COMPARE = [
     ("a message that announces too much", LONG_ANNOUNCEMENT, None, 1, oversize(2, 0x100000)),
 ]
 
-# The most memory that a row of a log may take, with the bytes of its short message, and the number of items for which it is measured.
+# The most memory that a row of a log may take, with the bytes of its short message; what an item may take beside, while it is looked
+# for what stands beside what: its key of 40 bytes, its edit and its row; and the number of items for which it is measured.
 BYTES_OF_A_ROW = 170
+BYTES_BESIDE = 42
 MEASURED_ITEMS = 100_000
 
 # Elements whose end tags HTML lets out, and those that have none.
@@ -581,14 +583,19 @@ def devices(cases):
 
 
 def memory(cases):
-    """The rows of both sessions are held, and the page is not."""
+    """The rows of both sessions are held, and what stands beside what, and the page is not."""
     with files(b"", b"") as (left, right):
         least, _ = peak_of_page(cases.program, ["report", left, right])
-    for name, frames, rows in [("exchanges", [REQUEST, ANSWER], 2), ("requests", [REQUEST], 2), ("strays", [STRAY], 1), ("dropped frames", [UNKNOWN], 1)]:
+    for name, frames, rows, items in [
+        ("exchanges", [REQUEST, ANSWER], 2, 1),
+        ("requests", [REQUEST], 2, 1),
+        ("strays", [STRAY], 1, 1),
+        ("dropped frames", [UNKNOWN], 1, 0),
+    ]:
         log = MEASURED_ITEMS * log_of(*frames)
         with files(log, log) as (left, right):
             kilobytes, status = peak_of_page(cases.program, ["report", left, right])
-        most = least + 2 * MEASURED_ITEMS * rows * BYTES_OF_A_ROW // 1024
+        most = least + 2 * MEASURED_ITEMS * (rows * BYTES_OF_A_ROW + items * BYTES_BESIDE) // 1024
         wrong = differences("status", status, DONE)
         wrong += [] if kilobytes <= most else [f"more than {most} kB"]
         cases.report(f"a page of twice {MEASURED_ITEMS} {name}: {kilobytes} kB", wrong)
