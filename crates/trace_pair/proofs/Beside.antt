@@ -12,7 +12,7 @@ use Rattle.trace_log.specs.declared.fault.Fault.TheVariants.{Memory, Read, Write
 use Rattle.trace_report.specs.Kept.{KeepsTwo, TwoValue}
 use Rattle.trace_pair.specs.proving.Beside.{IsSetBeside}
 
-never_both : (held : TwoValue) (why : CompareFault) → ◌≡◌ {A = Result TwoValue CompareFault} (Ok held) (Err why) → ⊥
+pub never_both : (held : TwoValue) (why : CompareFault) → ◌≡◌ {A = Result TwoValue CompareFault} (Ok held) (Err why) → ⊥
 never_both held why is = cc
 
 fault_of : (one other : CompareFault) → ◌≡◌ {A = Result TwoValue CompareFault} (Err one) (Err other) → one ≡ other
@@ -35,14 +35,14 @@ pub beside_holds : (limit : ℕ) (settings : Settings) (one other : List ℕ) (k
     → KeepsTwo limit settings one other kept → KeepsTwo limit settings one other result
 beside_holds limit settings one other (Ok held) (Ok beside) is holds = subst (λ (t : TwoValue). KeepsTwo limit settings one other (Ok t)) (sym is) holds
 beside_holds limit settings one other (Ok held) (Err fault) is holds =
-    subst (λ (f : CompareFault). KeepsTwo limit settings one other (Err f)) (sym is) ((held.left, holds.0), tt)
+    subst (λ (f : CompareFault). KeepsTwo limit settings one other (Err f)) (sym is.0) ((held.left, holds.0), tt)
 beside_holds limit settings one other (Err why) (Ok beside) is holds = absurd is
 beside_holds limit settings one other (Err why) (Err fault) is holds = subst (λ (f : CompareFault). KeepsTwo limit settings one other (Err f)) (sym is) holds
 
 -- a fault of the first log is one of the logs that were kept
 pub left_before : (kept result : Result TwoValue CompareFault) (fault : Fault) → IsSetBeside kept result → result ≡ Err (Left fault) → kept ≡ Err (Left fault)
 left_before (Ok held) (Ok beside) fault is told = absurd (never_both beside (Left fault) told)
-left_before (Ok held) (Err why) fault is told = absurd (right_is_no_left fault (sym is ∙ fault_of why (Left fault) told))
+left_before (Ok held) (Err why) fault is told = absurd (right_is_no_left fault (sym is.0 ∙ fault_of why (Left fault) told))
 left_before (Err before) (Ok beside) fault is told = absurd is
 left_before (Err before) (Err why) fault is told = ap Err (sym is) ∙ told
 
@@ -50,7 +50,7 @@ left_before (Err before) (Err why) fault is told = ap Err (sym is) ∙ told
 pub none_written : (kept result : Result TwoValue CompareFault) → IsSetBeside kept result → IfErr kept (λ fault. fault_in fault ≢ Write)
     → IfErr result (λ fault. fault_in fault ≢ Write)
 none_written (Ok held) (Ok beside) is well = tt
-none_written (Ok held) (Err fault) is well = λ written. memory_is_no_write (sym (ap fault_in is) ∙ written)
+none_written (Ok held) (Err fault) is well = λ written. memory_is_no_write (sym (ap fault_in is.0) ∙ written)
 none_written (Err why) (Ok beside) is well = absurd is
 none_written (Err why) (Err fault) is well = λ written. well (ap fault_in (sym is) ∙ written)
 
@@ -73,7 +73,7 @@ read_beside source why max_bytes (Ok held) (Err fault) before after other is rea
   within = read.within;
   calls = read.calls;
   progress = read.progress;
-  failed = record { risen = λ told. absurd (other (sym is ∙ fault_of fault why told)); same = λ told. read.failed.same (never_both held why) };
+  failed = record { risen = λ told. absurd (other (sym is.0 ∙ fault_of fault why told)); same = λ told. read.failed.same (never_both held why) };
 }
 read_beside source why max_bytes (Err fault) (Ok beside) before after other is read = absurd is
 read_beside source why max_bytes (Err fault) (Err result) before after other is read =

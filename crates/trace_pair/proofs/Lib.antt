@@ -15,6 +15,7 @@ pub mod LostRows
 pub mod ChartPlaces
 pub mod Asking
 mod Beside
+mod OwnItems
 mod FirstChanges
 mod Agreeing
 mod ChartItems

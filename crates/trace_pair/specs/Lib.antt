@@ -5,6 +5,7 @@ pub mod ItemWords
 pub mod ToldItems
 pub mod Sessions
 pub mod Compared
+pub mod MemoryNeeded
 pub mod Losses
 pub mod ChangeWords
 pub mod Verdict

@@ -1,5 +1,5 @@
 //! Two sessions that are kept, side by side.
-ghost use Rattle.std.specs.Prelude.{◌≡◌, ◌+◌, IfOk, length};
+ghost use Rattle.std.specs.Prelude.{◌≡◌, ◌≢◌, ◌+◌, ◌⊎◌, [], IfErr, IfOk, length};
 ghost use Rattle.uds_difference.specs.Bound.{bound_for};
 ghost use Rattle.uds_difference.specs.Rows.{is_shortest, rows_of};
 ghost use Rattle.trace_pair.specs.Compared.{comparison_in};
@@ -36,9 +36,10 @@ impl Model for Aligned {
 }
 
 impl Aligned {
-    /// Both sessions, which are set side by side now.
+    /// Both sessions, which are set side by side now. Where neither has an item, no memory is asked for.
     pub fn of(alloc: Global, two: Two) -> Result<Aligned, AllocError>
-        ensures { IfOk result (λ aligned. aligned ≡ two) }
+        ensures kept { IfOk result (λ aligned. aligned ≡ two) }
+        ensures refused { IfErr result (λ refused. (values_in two.left ≢ []) ⊎ (values_in two.right ≢ [])) }
     {
         let difference = Difference::between(alloc, &ItemsOf(two.left()), &ItemsOf(two.right()))?;
         Ok(Aligned { two, difference })

@@ -7,6 +7,7 @@ ghost use Rattle.trace_log.specs.Devices.{AgreesWith, bytes_given, ReadFrom, Has
 ghost use Rattle.trace_log.specs.Refusal.{HasNoBadPlaceWithin};
 ghost use Rattle.trace_log.specs.declared.fault.Fault.{Fault as FaultValue};
 ghost use Rattle.trace_report.specs.Kept.{HasOwnFrame, KeepsTwo};
+ghost use Rattle.trace_pair.specs.MemoryNeeded.{NeedsMemoryToAlign};
 ghost use Rattle.trace_pair.specs.proving.Beside.{IsSetBeside};
 
 use crate::aligned::Aligned;
@@ -40,9 +41,13 @@ pub fn align_two<A: Source, B: Source>(
     ensures right_near { (other : List ℕ) → AgreesWith B.Source right.old right.new other
         → ReadsWhile (HasNoBadPlaceWithin other) (bytes_given B.Source right.old right.new) (B.failures right.old) (B.failures right.new) }
 
-    // Memory is refused for the first log only where that has a frame of one of the two sides.
+    // Memory is refused for the first log only where that has a frame of one of the two sides, and told of the second
+    // only where one of both has.
     ensures left_memory { (one : List ℕ) → AgreesWith A.Source left.old left.new one
         → result ≡ Err (CompareFault.Left Fault.Memory) → HasOwnFrame config.now one }
+    ensures right_memory { (one other : List ℕ)
+        → AgreesWith A.Source left.old left.new one → AgreesWith B.Source right.old right.new other
+        → result ≡ Err (CompareFault.Right Fault.Memory) → NeedsMemoryToAlign config.now one other }
 
     // What it did with the sources. Nothing is written.
     ensures left_read { ReadFrom A.Source (CompareFault.Left Fault.Read) config.now.max_bytes result left.old left.new }

@@ -3,6 +3,7 @@ use Rattle.isotp_receive.specs.declared.TheConstants.{MESSAGE_LIMIT}
 use Rattle.trace_log.specs.declared.fault.CompareFault.TheVariants.{Left, Right}
 use Rattle.trace_log.specs.declared.fault.Fault.TheVariants as fault
 use Rattle.trace_pair.proofs.Beside.{beside_holds, left_before, memory_is_no_read, none_written, read_beside, right_is_no_left}
+use Rattle.trace_pair.proofs.OwnItems.{own_where_refused}
 use Rattle.trace_pair.proofs.aligner.align_two.Goals as goal
 
 pub returns-clause-answer : goal.returns-clause-answer
@@ -16,6 +17,11 @@ returns-clause-unread g c = λ why told.
 pub returns-clause-left_memory : goal.returns-clause-left_memory
 returns-clause-left_memory g c = λ one agrees told.
     c.keep_two-kept.ensures.left_memory one agrees (left_before c.keep_two-kept.result c.set_beside.result fault.Memory c.set_beside.ensures told)
+
+pub returns-clause-right_memory : goal.returns-clause-right_memory
+returns-clause-right_memory g c = λ one other left right told.
+    own_where_refused MESSAGE_LIMIT c.args.config.now one other c.keep_two-kept.result c.set_beside.result c.set_beside.ensures (c.keep_two-kept.ensures.answer one other left right)
+    (c.keep_two-kept.ensures.right_memory other right) told
 
 pub returns-clause-left_read : goal.returns-clause-left_read
 returns-clause-left_read g c =

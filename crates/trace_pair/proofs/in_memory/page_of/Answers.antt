@@ -8,5 +8,5 @@ use Rattle.trace_pair.proofs.in_memory.page_of.Goals as goal
 pub returns-in-Ok-text_of : goal.returns-in-Ok-text_of
 returns-in-Ok-text_of c =
     let title = title_of c.args.title.now in
-    let same = c.in-Ok.ensures in
+    let same = c.in-Ok.ensures.kept in
     (c.in-Ok-text_of.ensures ∙ (λ i. Spec.page_of title (same i).left (same i).right), c.counted_two-counted.ensures ∙ ap counted_two same)
