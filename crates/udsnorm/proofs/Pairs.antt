@@ -1,6 +1,7 @@
 -- What a run over two logs comes to, by what the engine answered and what became of its text.
 use Rattle.std.proofs.Common.{◌≡◌, ◌≢◌, ◌≤◌, ◌<◌, ◌+◌, ◌⊎◌, ◌↔◌, inl, inr, ℕ, Bool, true, false, true≢false, List, [], Result, Ok, Err, append-nil, arith, ap, refl, sym, subst, ◌∙◌}
 use Rattle.std.specs.Prelude.{◌&&◌, not, is_ok, IfErr, if◌then◌else◌}
+use Rattle.trace_canon.proofs.Promises.{collects_where_items}
 use Rattle.trace_canon.specs.Compared.{Compares, fault_in}
 use Rattle.trace_difference.specs.Written.{difference_text, written_rows}
 use Rattle.trace_log.specs.Devices.{ReadFrom}
@@ -24,13 +25,13 @@ use Rattle.trace_io.specs.declared.device.Target.{Ghosts as TargetGhosts}
 use Rattle.trace_report.specs.Kept.{KeepsTwo, TwoValue}
 use Rattle.trace_pair.specs.Page.{pair_page}
 use Rattle.trace_pair.specs.Titles.{title_for}
-use Rattle.udsnorm.specs.Commands.{ComparesPair, PagesPair, TextOfCompared, has_text, pair_of}
+use Rattle.udsnorm.specs.Commands.{ComparesPair, NeedsMemoryForDifference, PagesPair, TextOfCompared, has_text, pair_of}
 use Rattle.udsnorm.specs.Ending.{has_unclean, status_of_comparison, status_of_run_of_two}
 use Rattle.udsnorm.specs.Status.{status_of}
 use Rattle.udsnorm.specs.Telling.{WroteText}
 use Rattle.udsnorm.specs.proving.Flushed.{FlushedIf}
 use Rattle.trace_run.specs.Script.{GlimpseValue}
-use Rattle.udsnorm.specs.proving.Pairs.{IsAnswered, answer_held, answer_of, cause_in, text_of_answer}
+use Rattle.udsnorm.specs.proving.Pairs.{HasItems, answer_held, answer_of, cause_in, text_of_answer}
 use Rattle.udsnorm.specs.declared.pair_jobs.PairAnswer.{PairAnswer}
 use Rattle.udsnorm.specs.declared.pair_jobs.PairJob.{PairJob}
 use Rattle.udsnorm.specs.declared.pair_jobs.PairJob.TheVariants as pair_job
@@ -45,10 +46,17 @@ compared_pair text strict limit settings one other (Ok compared) compares = (com
 compared_pair text strict limit settings one other (Err why) compares = (compares, refl)
 
 -- where both logs were accepted, memory may be refused that their difference needs
-pub refused_pair : (text : TextOfCompared) (strict : Bool) (limit : ℕ) (settings : Settings) (one other : List ℕ) (answer : Result Compared CompareFault) → IsAnswered answer
+pub refused_pair : (text : TextOfCompared) (strict : Bool) (limit : ℕ) (settings : Settings) (one other : List ℕ) (answer : Result Compared CompareFault) → HasItems answer
     → Compares limit settings one other answer → ComparesPair text strict limit settings one other (Err (Right fault.Memory)) []
-refused_pair text strict limit settings one other (Ok compared) accepted compares = (((compared.left, compares.0), tt), refl)
-refused_pair text strict limit settings one other (Err why) accepted compares = absurd accepted
+refused_pair text strict limit settings one other (Ok compared) some compares = (((compared.left, compares.0), tt), refl)
+refused_pair text strict limit settings one other (Err why) some compares = absurd some
+
+-- and one of them needs memory then
+pub needed_for_difference : (limit : ℕ) (settings : Settings) (one other : List ℕ) (answer : Result Compared CompareFault) → HasItems answer → Compares limit settings one other answer
+    → NeedsMemoryForDifference limit settings one other
+needed_for_difference limit settings one other (Ok compared) (inl some) compares = inl (collects_where_items limit settings one compared.left.meaning compares.0.means some)
+needed_for_difference limit settings one other (Ok compared) (inr some) compares = inr (collects_where_items limit settings other compared.right.meaning compares.1.means some)
+needed_for_difference limit settings one other (Err why) some compares = absurd some
 
 fault_told : (one other : CompareFault) → ◌≡◌ {A = Result PairAnswer CompareFault} (Err one) (Err other) → one ≡ other
 fault_told one other is = cc

@@ -39,6 +39,7 @@ use Rattle.trace_report.specs.Front.{page_title}
 use Rattle.trace_report.specs.Kept.{HasOwnFrame, KeepsTwo, TwoValue}
 use Rattle.trace_report.specs.Page.{refused_text, report_script}
 use Rattle.trace_pair.specs.Compared.{comparison_in}
+use Rattle.trace_pair.specs.MemoryNeeded.{NeedsMemoryToAlign}
 use Rattle.trace_pair.specs.Page.{cause_of_pair, page_of, pair_page}
 use Rattle.trace_pair.specs.Titles.{title_for}
 use Rattle.udsnorm.specs.Ending.{has_unclean}
@@ -255,12 +256,12 @@ right_file (pair_job.Diff notation) = codes "B"
 right_file pair_job.Report = codes "OTHER"
 
 -- What is known of a call that reads two logs and writes a text: what it answers, where they have to be clean or not,
--- and the text; for which first log and for which second one it may be refused memory; and that nothing refuses a log for
--- it among so many of its bytes.
+-- and the text; for which first log it may be refused memory, and for which of both this may be told of the second
+-- one; and that nothing refuses a log for it among so many of its bytes.
 pub record PairEngine : Type 1 where
   pub answers : Bool → ℕ → Settings → List ℕ → List ℕ → Result PairAnswer CompareFault → List ℕ → Type 0
   pub left_needs : ℕ → Settings → List ℕ → Type 0
-  pub right_needs : ℕ → Settings → List ℕ → Type 0
+  pub right_needs : ℕ → Settings → List ℕ → List ℕ → Type 0
   pub unrefused : ℕ → Settings → List ℕ → ℕ → Type 0
 
 -- what a comparison answers, without what the logs mean
@@ -309,18 +310,22 @@ has_text (pair_job.Diff notation) strict (Err fault) = false
 has_text pair_job.Report strict (Ok pair) = true
 has_text pair_job.Report strict (Err fault) = is_refusal (fault_in fault)
 
+-- one of both logs needs memory to collect its items, which stand beside each other then
+abbrev pub NeedsMemoryForDifference : ℕ → Settings → List ℕ → List ℕ → Type 0
+NeedsMemoryForDifference limit settings one other = NeedsMemoryToCollect limit settings one ⊎ NeedsMemoryToCollect limit settings other
+
 -- the engine that does this job over two logs, which have these names in its text, and of whose sources this is seen;
 -- where memory is refused to the difference of two accepted logs, that is told of the right one
 abbrev pub engine_of_pair : PairJob → List ℕ → List ℕ → GlimpseValue → GlimpseValue → PairEngine
 engine_of_pair (pair_job.Compare style) left_name right_name left_seen right_seen =
-    record { answers = ComparesPair (comparison_text style); left_needs = NeedsMemoryToCollect; right_needs = NeedsMemoryToCollect; unrefused = IsNotRefusedWithin }
+    record { answers = ComparesPair (comparison_text style); left_needs = NeedsMemoryToCollect; right_needs = λ limit settings one. NeedsMemoryToCollect limit settings; unrefused = IsNotRefusedWithin }
 engine_of_pair (pair_job.Diff notation) left_name right_name left_seen right_seen =
-    record { answers = ComparesPair (text_of_difference notation left_name right_name); left_needs = NeedsMemoryToCollect; right_needs = λ limit settings log. ⊤; unrefused = IsNotRefusedWithin }
+    record { answers = ComparesPair (text_of_difference notation left_name right_name); left_needs = NeedsMemoryToCollect; right_needs = NeedsMemoryForDifference; unrefused = IsNotRefusedWithin }
 engine_of_pair pair_job.Report left_name right_name left_seen right_seen =
     record {
       answers = PagesPair left_name right_name left_seen right_seen;
       left_needs = λ limit. HasOwnFrame;
-      right_needs = λ limit settings log. ⊤;
+      right_needs = λ limit. NeedsMemoryToAlign;
       unrefused = λ limit settings. HasNoBadPlaceWithin;
     }
 
@@ -332,8 +337,8 @@ PairEngineAnswers job left_name right_name left_seen right_seen = (engine_of_pai
 abbrev pub PairEngineNeedsForLeft : PairJob → List ℕ → List ℕ → GlimpseValue → GlimpseValue → ℕ → Settings → List ℕ → Type 0
 PairEngineNeedsForLeft job left_name right_name left_seen right_seen = (engine_of_pair job left_name right_name left_seen right_seen).left_needs
 
--- for which right one
-abbrev pub PairEngineNeedsForRight : PairJob → List ℕ → List ℕ → GlimpseValue → GlimpseValue → ℕ → Settings → List ℕ → Type 0
+-- and for which of both this may be told of the right one
+abbrev pub PairEngineNeedsForRight : PairJob → List ℕ → List ℕ → GlimpseValue → GlimpseValue → ℕ → Settings → List ℕ → List ℕ → Type 0
 PairEngineNeedsForRight job left_name right_name left_seen right_seen = (engine_of_pair job left_name right_name left_seen right_seen).right_needs
 
 -- how near to what refuses a log it stops reading

@@ -1,6 +1,6 @@
 //! What the program does with two logs: the engine of each job, what it answers, and its text.
 
-ghost use Rattle.std.specs.Prelude.{◌≡◌, ◌≢◌, ◌-◌, ℕ, List, [], Ok, Err, IfOk, IfErr, false, true};
+ghost use Rattle.std.specs.Prelude.{◌≡◌, ◌≢◌, ◌-◌, ◌⊎◌, ℕ, List, [], Ok, Err, IfOk, IfErr, false, true};
 ghost use Rattle.isotp_receive.specs.declared.TheConstants.{MESSAGE_LIMIT};
 ghost use Rattle.trace_canon.specs.Compared.{fault_in};
 ghost use Rattle.trace_canon.specs.ComparisonText.{comparison_text};
@@ -12,7 +12,7 @@ ghost use Rattle.trace_pair.specs.Titles.{title_for};
 ghost use Rattle.udsnorm.specs.Commands.{PairEngineAnswers, PairEngineNeedsForLeft, PairEngineNeedsForRight, PairEngineReads, has_text, left_file, pair_held, pair_of, right_file, text_of_difference};
 ghost use Rattle.udsnorm.specs.Ending.{has_unclean};
 ghost use Rattle.udsnorm.specs.Telling.{WroteText};
-ghost use Rattle.udsnorm.specs.proving.Pairs.{IsAnswered, answer_held, answer_of, cause_in, text_of_answer};
+ghost use Rattle.udsnorm.specs.proving.Pairs.{HasItems, answer_held, answer_of, cause_in, text_of_answer};
 ghost use Rattle.trace_report.specs.Causes as Causes;
 ghost use Rattle.trace_run.specs.Script.{glimpse_of};
 
@@ -140,11 +140,12 @@ pub(crate) fn do_pair_job<A: Source, B: Source, W: Target>(
     // After a fault of the left log nothing of the right one was read.
     ensures unread { (fault : FaultValue) → result.answer ≡ Err (CompareFault.Left fault) → right.new ≡ right.old }
 
-    // Memory is refused only for a log that needs it, or to the difference of both, which is told of the right one.
+    // Memory is refused only for a log that needs it, or to the difference of both, where one does: that is told of the
+    // right one.
     ensures left_memory { (one : List ℕ) → AgreesWith A.Source left.old left.new one
         → result.answer ≡ Err (CompareFault.Left Fault.Memory) → PairEngineNeedsForLeft job left_name.now right_name.now (glimpse_of A.Source left.new) (glimpse_of B.Source right.new) MESSAGE_LIMIT config.now one }
-    ensures right_memory { (other : List ℕ) → AgreesWith B.Source right.old right.new other
-        → result.answer ≡ Err (CompareFault.Right Fault.Memory) → PairEngineNeedsForRight job left_name.now right_name.now (glimpse_of A.Source left.new) (glimpse_of B.Source right.new) MESSAGE_LIMIT config.now other }
+    ensures right_memory { (one other : List ℕ) → AgreesWith A.Source left.old left.new one → AgreesWith B.Source right.old right.new other
+        → result.answer ≡ Err (CompareFault.Right Fault.Memory) → PairEngineNeedsForRight job left_name.now right_name.now (glimpse_of A.Source left.new) (glimpse_of B.Source right.new) MESSAGE_LIMIT config.now one other }
 
     // How near to what refuses a log it stops reading, and what it did with both.
     ensures left_near { (one : List ℕ) → AgreesWith A.Source left.old left.new one
@@ -231,7 +232,7 @@ fn write_answer<W: Target>(
 }
 
 /// Writes where two logs differ, which have these names, where each is clean that has to be. Answers whether that did not
-/// fail. Where memory is refused nothing is written.
+/// fail. Where memory is refused nothing is written, and one of both means an item.
 fn write_diff<W: Target>(
     alloc: Global,
     left_name: &str,
@@ -245,7 +246,7 @@ fn write_diff<W: Target>(
     ensures text { IfOk result (λ wrote. WroteText W.Target (text_of_answer strict (text_of_difference notation left_name.now right_name.now) answer.now) wrote out.old out.new) }
     ensures left_alone { has_text (PairJob.Diff notation) strict (answer_of answer.now) ≡ false → (result ≡ Ok true) × (out.new ≡ out.old) }
     ensures flushes { W.flushes out.new ≡ W.flushes out.old }
-    ensures answered { IfErr result (λ refused. IsAnswered answer.now) }
+    ensures answered { IfErr result (λ refused. HasItems answer.now) }
     ensures nothing { IfErr result (λ refused. WroteText W.Target [] true out.old out.new) }
     ensures unwritten { IfErr result (λ refused. out.new ≡ out.old) }
 {
@@ -269,6 +270,7 @@ fn write_differing<W: Target>(
     requires { IsLowCount (W.failures out.old) }
     ensures text { IfOk result (λ wrote. WroteText W.Target (text_of_difference notation left_name.now right_name.now compared.now) wrote out.old out.new) }
     ensures flushes { W.flushes out.new ≡ W.flushes out.old }
+    ensures items { IfErr result (λ refused. (compared.now.left.meaning ≢ []) ⊎ (compared.now.right.meaning ≢ [])) }
     ensures nothing { IfErr result (λ refused. WroteText W.Target [] true out.old out.new) }
     ensures unwritten { IfErr result (λ refused. out.new ≡ out.old) }
 {

@@ -1,4 +1,4 @@
-use Rattle.std.proofs.Common.{◌≡◌, [], Option, Result, subst, sym, ◌∙◌}
+use Rattle.std.proofs.Common.{◌≡◌, inr, [], Option, Result, subst, sym, ◌∙◌}
 use Rattle.isotp_receive.specs.declared.TheConstants.{MESSAGE_LIMIT}
 use Rattle.trace_canon.specs.ComparisonText.{comparison_text}
 use Rattle.trace_log.specs.declared.fault.CompareFault.{CompareFault}
@@ -11,7 +11,7 @@ use Rattle.udsnorm.specs.proving.Pairs.{answer_held, cause_in, text_of_answer}
 use Rattle.trace_report.specs.declared.cause.RefusalCause.{RefusalCause}
 use Rattle.trace_run.specs.Script.{glimpse_of}
 use Rattle.udsnorm.specs.declared.pair_jobs.PairAnswer.{PairAnswer}
-use Rattle.udsnorm.proofs.Pairs.{compared_pair, fault_compared, fault_held, pages_pair, read_told, refused_pair}
+use Rattle.udsnorm.proofs.Pairs.{compared_pair, fault_compared, fault_held, needed_for_difference, pages_pair, read_told, refused_pair}
 use Rattle.udsnorm.proofs.pair_jobs.do_pair_job.Goals as goal
 
 pub returns-in-Compare-clause-engine : goal.returns-in-Compare-clause-engine
@@ -31,8 +31,8 @@ returns-in-Compare-clause-left_memory g c = λ log agrees is.
     rw c.in-Compare.is (c.compare-answer.ensures.left_memory log agrees (fault_compared c.compare-answer.result _ (sym c.answer_of.ensures ∙ is)))
 
 pub returns-in-Compare-clause-right_memory : goal.returns-in-Compare-clause-right_memory
-returns-in-Compare-clause-right_memory g c = λ log agrees is.
-    rw c.in-Compare.is (c.compare-answer.ensures.right_memory log agrees (fault_compared c.compare-answer.result _ (sym c.answer_of.ensures ∙ is)))
+returns-in-Compare-clause-right_memory g c = λ one other left right is.
+    rw c.in-Compare.is (c.compare-answer.ensures.right_memory other right (fault_compared c.compare-answer.result _ (sym c.answer_of.ensures ∙ is)))
 
 pub returns-in-Compare-clause-left_near : goal.returns-in-Compare-clause-left_near
 returns-in-Compare-clause-left_near g c = λ log agrees. rw c.in-Compare.is (c.compare-answer.ensures.left_near log agrees)
@@ -56,6 +56,10 @@ pub returns-in-Ok-clause-left_memory : goal.returns-in-Ok-clause-left_memory
 returns-in-Ok-clause-left_memory g c = λ log agrees is.
     rw c.in-Diff.is (c.compare-compared.ensures.left_memory log agrees (fault_compared c.compare-compared.result _ (sym c.answer_of-in-Ok.ensures ∙ is)))
 
+pub returns-in-Ok-clause-right_memory : goal.returns-in-Ok-clause-right_memory
+returns-in-Ok-clause-right_memory g c = λ one other left right is.
+    rw c.in-Diff.is (inr (c.compare-compared.ensures.right_memory other right (fault_compared c.compare-compared.result _ (sym c.answer_of-in-Ok.ensures ∙ is))))
+
 pub returns-in-Ok-clause-left_near : goal.returns-in-Ok-clause-left_near
 returns-in-Ok-clause-left_near g c = λ log agrees. rw c.in-Diff.is (c.compare-compared.ensures.left_near log agrees)
 
@@ -71,6 +75,10 @@ returns-in-Diff-clause-engine g c =
           (c.compare-compared.ensures.answer one other agrees_one agrees_other),
       c.in-Err.ensures.nothing,
     )
+
+pub returns-in-Diff-clause-right_memory : goal.returns-in-Diff-clause-right_memory
+returns-in-Diff-clause-right_memory g c = λ one other left right is.
+    rw c.in-Diff.is (needed_for_difference MESSAGE_LIMIT c.args.config.now one other c.compare-compared.result c.in-Err.ensures.answered (c.compare-compared.ensures.answer one other left right))
 
 pub returns-in-Diff-clause-left_near : goal.returns-in-Diff-clause-left_near
 returns-in-Diff-clause-left_near g c = λ log agrees. rw c.in-Diff.is (c.compare-compared.ensures.left_near log agrees)
@@ -103,7 +111,8 @@ returns-clause-left_memory g c = λ log agrees is.
     rw c.in-Report.is (c.align_two-answer.ensures.left_memory log agrees (fault_held c.align_two-answer.result _ (sym c.answer_held.ensures ∙ is)))
 
 pub returns-clause-right_memory : goal.returns-clause-right_memory
-returns-clause-right_memory g c = λ log agrees is. rw c.in-Report.is tt
+returns-clause-right_memory g c = λ one other left right is.
+    rw c.in-Report.is (c.align_two-answer.ensures.right_memory one other left right (fault_held c.align_two-answer.result _ (sym c.answer_held.ensures ∙ is)))
 
 pub returns-clause-left_near : goal.returns-clause-left_near
 returns-clause-left_near g c = λ log agrees. rw c.in-Report.is (c.align_two-answer.ensures.left_near log agrees)
