@@ -1,18 +1,19 @@
 -- The rows of a chart are a piece of the log's, and have the row with which the item begins and its answer.
 use Rattle.std.proofs.Common.{◌≡◌, ℕ, zero, suc, ◌+◌, ◌-◌, ◌≤◌, ◌<◌, ◌⊎◌, Bool, true, false, List, [], ◌∷◌, ◌++◌, length, take, drop, Option, Some, None, ap, sym, ◌∙◌, refl, arith, inl, inr}
-use Rattle.std.specs.Prelude.{max, min, slice_get, if◌then◌else◌}
+use Rattle.std.specs.Prelude.{◌||◌, min, slice_get, if◌then◌else◌}
+use Rattle.std.specs.List.{list_any}
 use Rattle.std.proofs.lemmas.Bool.{cases_Bool, cases_lt}
-use Rattle.std.proofs.lemmas.List.{append_assoc, drop-append-le, drop-drop, drop_all, length-drop, length-take, take-append-drop}
+use Rattle.std.proofs.lemmas.List.{drop-append-le, drop-drop, drop_all, length-drop, length-take, take-append-drop}
 use Rattle.std.proofs.Math.Seq.{take-add}
 use Rattle.isotp_receive.proofs.Promises.{get-drop}
 use Rattle.trace_report.specs.Blocks.{begins_exchange}
 use Rattle.trace_report.specs.Items.{RowMessageValue, answer_by, answer_in, begins, message_in, rows_before}
 use Rattle.trace_report.specs.Roles.{is_answer_role, is_request_role}
 use Rattle.trace_report.specs.Rows.{RowValue, message, no_answer, dropped, ended, unfinished}
-use Rattle.trace_pair.specs.First.{asks, before_request, chart_from, chart_rows, chart_to, last_request, most_before, rows_more}
-use Rattle.trace_pair.specs.Laws.{ChartHasTheItem, IsAround}
-use Rattle.trace_pair.proofs.ChartPlaces.{first-asks, first-later, first-to, from-first, get-past, last-earlier, last-there, to-within, up-by}
-use Rattle.trace_pair.proofs.LossPlaces.{before-within, begins-first, begins-next, begins-none}
+use Rattle.trace_pair.specs.First.{asks, before_request, chart_from, chart_to, last_request, most_before, rows_more}
+use Rattle.trace_pair.specs.Laws.{ChartHasTheItem}
+use Rattle.trace_pair.proofs.ChartPlaces.{first-asks, first-later, first-to, from-first, get-past, last-below, last-earlier, last-there, to-within, up-by}
+use Rattle.trace_pair.proofs.LossPlaces.{begins-first, begins-next, begins-none}
 
 -- the row with which an item begins stands before that of the next one
 before-next : (item : ℕ) (rows : List RowValue) → rows_before item rows < length rows → rows_before item rows < rows_before (item + 1) rows
@@ -81,6 +82,28 @@ asks-within : (rows : List RowValue) (at : ℕ) → asks (slice_get rows at) ≡
 asks-within [] at there = absurd (cc there)
 asks-within (row ∷ rows) zero there = omega arith
 asks-within (row ∷ rows) (suc at) there = omega (arith, asks-within rows at there)
+
+-- a request among the first rows stands at the last one, or before it
+asks-before : (count at : ℕ) (rows : List RowValue) → asks (slice_get rows at) ≡ true → at < count → at ≤ last_request count rows
+asks-before zero at rows there low = absurd (omega (arith, low))
+asks-before (suc count) at rows there low = elim (cases_Bool (asks (slice_get rows count))) [
+  | inl last ↦ omega (arith, low, last-there count rows last)
+  | inr none ↦ elim (cases_lt at count) [
+    | inl before ↦ omega (arith, last-earlier count rows none, asks-before count at rows there before)
+    | inr past ↦
+        let same : at ≡ count = omega (arith, low, past) in
+        let clash : true ≡ false = sym there ∙ ap (λ (n : ℕ). asks (slice_get rows n)) same ∙ none in
+        absurd (cc clash)
+  ]
+]
+
+none-asks : (rows : List RowValue) (count : ℕ) → ((at : ℕ) → at < count → asks (slice_get rows at) ≡ false) → list_any begins_exchange (take count rows) ≡ false
+none-asks rows zero each = refl
+none-asks [] (suc count) each = refl
+none-asks (row ∷ rows) (suc count) each =
+    let first = each 0 (omega arith) in
+    let later = none-asks rows count (λ at low. each (suc at) (omega (arith, low))) in
+    ap (λ (b : Bool). b || list_any begins_exchange (take count rows)) first ∙ later
 
 module _ (item : ℕ) (rows : List RowValue) where
   abbrev from : ℕ
@@ -169,12 +192,13 @@ module _ (item : ℕ) (rows : List RowValue) where
           ∙ ap (drop (suc far)) (sym (take-append-drop (to - from) rest)) ∙ drop-append-le (suc far) span behind within in
           sym (ap answer_in parted ∙ answered-before (drop (suc far) span) behind none)
 
-  begins-there : (take from rows ≡ []) ⊎ ((asks (slice_get (take count rest) 0) ≡ true) ⊎ (length (take from rows) + most_before ≡ first))
+  begins-there : (take from rows ≡ [])
+      ⊎ (((asks (slice_get (take count rest) 0) ≡ true) × (length (take from rows) ≤ rows_before (item - 1) rows)) ⊎ (length (take from rows) + most_before ≡ first))
   begins-there = elim (cases_lt 0 from) [
     | inr none ↦ let nothing : from ≡ 0 = omega (arith, none) in inl (ap (λ (n : ℕ). take n rows) nothing)
     | inl some ↦ elim (cases_lt (first - 8) (last_request (suc (rows_before (item - 1) rows)) rows)) [
       | inr cut ↦ inr (inr (omega (arith, long, some, cut)))
-      | inl asked ↦ inr (inl (of-request (omega (arith, asked)) some))
+      | inl asked ↦ inr (inl (of-request (omega (arith, asked)) some, omega (arith, long, asked, last-below (rows_before (item - 1) rows) rows)))
     ]
   ]
     where
@@ -189,6 +213,30 @@ module _ (item : ℕ) (rows : List RowValue) where
           ] in
           let same : from ≡ from + 0 = omega arith in
           ap asks (get-taken count rest 0 low ∙ sym (get-drop from rows 0 from same)) ∙ here
+
+  -- how far the row of the item before stands behind it
+  abbrev nearer : ℕ
+  nearer = rows_before (item - 1) rows - length (take from rows)
+
+  none-between : list_any begins_exchange (take nearer (drop 1 (take count rest))) ≡ false
+  none-between = none-asks (drop 1 (take count rest)) nearer each
+    where
+      of-log : (at : ℕ) → at < nearer → asks (slice_get rows (from + suc at)) ≡ false
+      of-log at low = elim (cases_Bool (asks (slice_get rows (from + suc at)))) [
+        | inr none ↦ none
+        | inl there ↦ absurd (omega (arith, long, low, asks-before (suc (rows_before (item - 1) rows)) (from + suc at) rows there (omega (arith, long, low))))
+      ]
+
+      of-chart : (at : ℕ) → at < nearer → asks (slice_get (take count rest) (suc at)) ≡ false
+      of-chart at low = elim (cases_lt (suc at) count) [
+        | inl within ↦ ap asks (get-taken count rest (suc at) within ∙ sym (get-drop from rows (suc at) (from + suc at) refl)) ∙ of-log at low
+        | inr past ↦ ap asks (get-past (take count rest) (suc at) (omega (arith, length-take count rest, past)))
+      ]
+
+      each : (at : ℕ) → at < nearer → asks (slice_get (drop 1 (take count rest)) at) ≡ false
+      each at low =
+          let next : suc at ≡ 1 + at = omega arith in
+          ap asks (sym (get-drop 1 (take count rest) at (suc at) next)) ∙ of-chart at low
 
   cut-there : (rows_more item rows ≡ 0) ⊎ (length (take count rest) ≡ 40)
   cut-there = elim (cases_lt 40 (to - from)) [
@@ -206,6 +254,7 @@ has-the-item item rows = (
   record {
     piece = whole item rows;
     begins = begins-there item rows;
+    last = none-between item rows;
     before = omega (arith, long item rows, up item rows);
     near = omega (arith, long item rows, near item rows);
     row = row-there item rows;

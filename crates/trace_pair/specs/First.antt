@@ -58,12 +58,12 @@ before_request [] = 0
 before_request (row ∷ rows) = if begins_exchange row then 0 else 1 + before_request rows
 
 -- a chart around the item of a place begins with the last request that stands at or before the row with which the item
--- before it begins, or where there is none, with the first row; but no farther before the item's own row than a chart goes
+-- before it begins, or where there is none, with the first row; but no farther before the item's own than a chart goes
 abbrev pub chart_from : ℕ → List RowValue → ℕ
 chart_from item rows = max (rows_before item rows - most_before) (last_request (suc (rows_before (item - 1) rows)) rows)
 
--- a chart around the item of a place ends before the first request that stands at or behind the row with which the second
--- item behind it begins
+-- a chart around the item of a place ends before the first request that stands at or behind the row with which the
+-- second item behind it begins
 abbrev pub chart_to : ℕ → List RowValue → ℕ
 chart_to item rows = rows_before (item + 2) rows + before_request (drop (rows_before (item + 2) rows) rows)
 

@@ -7,6 +7,7 @@ use Rattle.trace_canon.specs.Compared.{Compares, difference}
 use Rattle.trace_canon.specs.declared.comparing.Compared.{Compared}
 use Rattle.trace_log.specs.Settings.{Settings}
 use Rattle.uds_exchange.specs.Difference.{IsFirstDifference}
+use Rattle.trace_report.specs.Blocks.{begins_exchange}
 use Rattle.trace_report.specs.Items.{answer_in, rows_before}
 use Rattle.trace_report.specs.Kept.{KeepsTwo, TwoValue}
 use Rattle.trace_report.specs.Rows.{RowValue}
@@ -36,8 +37,11 @@ AgreesWithCompare = (settings : Settings) (one other : List ℕ) (held : TwoValu
 -- A chart around the item of a place, as a piece of the log's rows between those before it and those behind it.
 pub record IsAround (item : ℕ) (rows front behind : List RowValue) : Type 0 where
   pub piece : rows ≡ front ++ (chart_rows item rows ++ behind)
-  -- it begins with the log's first row, with a request, or so many rows before the item's own as it has there at most
-  pub begins : (front ≡ []) ⊎ ((asks (slice_get (chart_rows item rows) 0) ≡ true) ⊎ (length front + most_before ≡ rows_before item rows))
+  -- it begins with the log's first row, with a request at or before the row with which the item before begins, or so
+  -- many rows before the item's own as it has there at most
+  pub begins : (front ≡ []) ⊎ (((asks (slice_get (chart_rows item rows) 0) ≡ true) × (length front ≤ rows_before (item - 1) rows)) ⊎ (length front + most_before ≡ rows_before item rows))
+  -- and behind its first row none is a request up to the one with which the item before begins
+  pub last : list_any begins_exchange (take (rows_before (item - 1) rows - length front) (drop 1 (chart_rows item rows))) ≡ false
   pub before : length front ≤ rows_before item rows
   pub near : rows_before item rows ≤ length front + most_before
   -- the row with which the item begins stands in it

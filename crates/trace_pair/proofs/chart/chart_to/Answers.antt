@@ -1,5 +1,5 @@
 -- The first row that is a request ends the chart; where none is one, the log does.
-use Rattle.std.proofs.Common.{◌≡◌, ◌≤◌, ◌<◌, ◌^◌, length, sym, ◌∙◌, arith, subst}
+use Rattle.std.proofs.Common.{◌≤◌, ◌<◌, ◌^◌, length, sym, ◌∙◌, arith, subst}
 use Rattle.trace_pair.proofs.ChartPlaces.{NoneTo, none-to-end, none-to-here, none-to-next, to-is}
 use Rattle.trace_pair.proofs.chart.chart_to.Goals as goal
 
