@@ -4,11 +4,13 @@ from collections import namedtuple
 
 import difference_oracle
 import oracle
+import report_facts
+import report_reader
 from difference_oracle import ADDED, CHANGED, REMOVED, SAME
 
 # How the program ends over two logs and what it tells then; the items of both, where both can be read, and else the letter of the one that
-# can't; and of both whether it is clean, and whether its sides look exchanged.
-Came = namedtuple("Came", "status fault items refused clean exchanged")
+# can't; and of both whether it is clean, and whether its sides look exchanged; and the charts of both, where they differ.
+Came = namedtuple("Came", "status fault items refused clean exchanged charts")
 
 # A row: what becomes of the items, and their places in both lists, counted from 0.
 Row = namedtuple("Row", "kind left right")
@@ -16,8 +18,17 @@ Row = namedtuple("Row", "kind left right")
 # A change: what kind its rows are of, the first of them, and how many they are.
 Change = namedtuple("Change", "kind first count")
 
+# A chart: what each of its rows is told as, how many rows it leaves out, and whether it says that the log ends.
+Chart = namedtuple("Chart", "rows more is_end")
+
+# A row of a chart: how it looks, its item, its lines, and its time.
+ChartRow = namedtuple("ChartRow", "look item lines time")
+
 # So many rows before a change and behind it are shown.
 CONTEXT = 3
+
+# A chart has so many rows at most, and so many of them before the one with which its item begins.
+MOST_ROWS, MOST_BEFORE = 40, 8
 
 # Of more columns than so many a page shows the first line, and so many that differ; and none beyond so many.
 ALL_COLUMNS, OTHER_LINES, MOST_COLUMNS, WIDTH = 64, 8, 4095, 16
@@ -29,14 +40,16 @@ def came_of(left, right, limit=oracle.GIBIBYTE, sides=oracle.SIDES, is_strict=Fa
     for letter, side, log in (("A", "left", left), ("B", "right", right)):
         refused = oracle.refusal(log, limit, is_long_refused=False)
         if refused:
-            return Came(oracle.REFUSED, f"{side}: {refused.fault}", None, letter, None, None)
-    sessions = [oracle.messages(oracle.trace(oracle.cut(log), sides)) for log in (left, right)]
+            return Came(oracle.REFUSED, f"{side}: {refused.fault}", None, letter, None, None, None)
+    frames = [oracle.trace(oracle.cut(log), sides) for log in (left, right)]
+    sessions = [oracle.messages(trace) for trace in frames]
     items = [oracle.meaning(session) for session in sessions]
     unclean = [oracle.unclean(log, sides) for log in (left, right)]
     told = [f"{side}: {fault}" for side, fault in zip(("left", "right"), unclean) if is_strict and fault]
     status = oracle.UNCLEAN if told else oracle.DONE if items[0] == items[1] else oracle.DIFFERENT
     exchanged = [oracle.look_exchanged(session) for session in sessions]
-    return Came(status, "\n".join(told) or None, items, None, [not fault for fault in unclean], exchanged)
+    charts = None if items[0] == items[1] else charts_of(frames, items)
+    return Came(status, "\n".join(told) or None, items, None, [not fault for fault in unclean], exchanged, charts)
 
 
 def rows_of(ours, theirs):
@@ -59,6 +72,33 @@ def changes_of(rows):
             changes[-1] = changes[-1]._replace(count=changes[-1].count + 1)
         front = row.kind
     return changes
+
+
+def charts_of(frames, items):
+    """The charts of two logs around their first difference."""
+    rows = rows_of(*items)
+    same = rows[: changes_of(rows)[0].first]
+    return [chart_of(trace, len(same)) for trace in frames]
+
+
+def chart_of(frames, item):
+    """The chart of a log around the item of this place, counted from 0. It goes from the row with which the item before begins, or from the
+    request in whose exchange that row stands, to before the first request at or behind the row with which the second item behind begins."""
+    rows = [*report_facts.rows_of(frames), *report_facts.end_rows(frames)]
+    begun = [place for place, row in enumerate(rows) if isinstance(row, report_facts.Message) and row.asked is None]
+    begun += 3 * [len(rows)]
+    requests = [place for place in begun[:-3] if rows[place].kind == report_facts.REQUEST]
+    begin = max((place for place in requests if place <= begun[max(item - 1, 0)]), default=0)
+    begin = max(begin, begun[item] - MOST_BEFORE)
+    end = min((place for place in requests if place >= begun[item + 2]), default=len(rows))
+    last = min(end, begin + MOST_ROWS)
+    told = [chart_row(frames[0].micros, row) for row in rows[begin:last]]
+    return Chart(told, end - last, last == len(rows))
+
+
+def chart_row(origin, row):
+    told = report_facts.row_told(origin, row)
+    return ChartRow(report_reader.KINDS[told.kind].look, told.item, told.lines, told.time)
 
 
 def shown_of(rows):

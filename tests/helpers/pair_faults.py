@@ -30,7 +30,8 @@ def told_otherwise(page, came):
         fault = came.fault.split(": ", 1)[1]
         text = f"{came.refused} is refused, so nothing is compared</h2>\n<p><em>{fault}.</em>"
         return ([] if text in page else [f"{text!r} is not there"]) + (["a refused log has rows"] if "<tr" in page else [])
-    return faults(page, *came.items) + verdict_faults(pair_reader.read(page), came)
+    read = pair_reader.read(page)
+    return faults(page, *came.items) + verdict_faults(read, came) + chart_faults(read, came)
 
 
 def verdict_faults(read, came):
@@ -39,6 +40,18 @@ def verdict_faults(read, came):
     wrong = [] if read.look == look else [f"the verdict looks {read.look}, not {look}"]
     if came.items[0] == came.items[1] and read.heading != pair_facts.same_heading_of(came):
         wrong.append(f"the heading is {read.heading!r}, not {pair_facts.same_heading_of(came)!r}")
+    return wrong
+
+
+def chart_faults(read, came):
+    """Whether the charts of both logs have the rows around the first difference, and say what they leave out."""
+    if read.charts is None or came.charts is None:
+        return [] if read.charts is came.charts else ["there are charts of no difference, or none of one"]
+    wrong = []
+    for log, told, wanted in zip("AB", read.charts, came.charts):
+        wrong += [] if [tuple(row) for row in told.rows] == [tuple(row) for row in wanted.rows] else [f"the chart of {log} has other rows"]
+        if (told.more, told.is_end) != (wanted.more, wanted.is_end):
+            wrong.append(f"the chart of {log} ends with {told.more} rows more, {told.is_end}, not {wanted.more}, {wanted.is_end}")
     return wrong
 
 

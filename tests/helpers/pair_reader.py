@@ -6,8 +6,9 @@ What has none of the forms below is an error, so that nothing of a row is passed
 import re
 from collections import namedtuple
 
-# The heading, the sentence below it, the lines of the list, what the first difference is said to be, and the rows of the table of items.
-Page = namedtuple("Page", "look heading same_line notes listed first rows folds identifiers targets")
+# The heading, the sentence below it, the lines of the list, what the first difference is said to be, the charts of both logs there, and the
+# rows of the table of items.
+Page = namedtuple("Page", "look heading same_line notes listed first charts rows folds identifiers targets")
 
 # What becomes of the items, their numbers, the identifier, whether it stands in a fold of equal items, what stands above its items, the lines
 # of bytes that stand under each other, what is missing of each log, and all its text.
@@ -22,6 +23,11 @@ Fold = namedtuple("Fold", "count left right")
 # A line of the list: the number of the difference, where it stands, what kind it is of, and what it says.
 Listed = namedtuple("Listed", "number place tag words")
 
+# A chart: its rows, how many more it says that there are, and whether it says that the log ends; and of a row how it looks, its item, its
+# lines, and its time.
+Chart = namedtuple("Chart", "rows more is_end")
+ChartRow = namedtuple("ChartRow", "look item lines time")
+
 KINDS = {"same": "same", "d ch": "changed", "d oa": "removed", "d ob": "added"}
 
 VERDICT = re.compile(r'<section id="verdict" class="(\w+)">\n<h2><span aria-hidden="true">(.*?)</span> (.*?)</h2>\n(.*?)<table class="recs">', re.DOTALL)
@@ -35,6 +41,15 @@ LISTED = re.compile(
     r'<li><span class="where"><a href="#d(\d+)">(.*?)</a></span> <b class="tag">(.*?)</b> <span class="what">(.*?)</span>\n'
 )
 FIRST = re.compile(r'<section id="difference">\n<h2>(.*?)</h2>\n<p><span class="where">(.*?)</span> <b class="tag">(.*?)</b> <span class="what">(.*?)</span></p>\n')
+CHARTS = re.compile(r'<section id="difference">\n.*?\n<div class="two">\n(.*?)</div>\n</section>\n', re.DOTALL)
+CHART = re.compile(r"<section>\n<h3>[^\n]*</h3>\n<table>\n<thead>[^\n]*</thead>\n((?:<[^\n]*\n)*?)</table>\n</section>\n")
+CHART_ROW = re.compile(
+    r'<tr class="(\w+)">(?:<th scope="row">(\d+)|<td>(\d*))<td>(?:(\d+)(?:&#8211;(\d+))?)?<td>((?:-?\d+\.\d{6})?)<td><div class="[tu]"><div>.*'
+    r'</div><svg aria-hidden="true"><use href="#\w+"/></svg></div>'
+)
+WORDS_ROW = re.compile(
+    r'<tr class="p"><td><td><td><td><div class="t"><div>(?:<i>(\d+) rows? more, not shown here</i>|<b>end</b> <i>of the log</i>)</div></div>'
+)
 TAG = re.compile(r"<[^>]*>")
 FOLD = re.compile(
     r'<details class="b same(?: long)?">\n<summary><b>(\d+) items?, the same</b> <i>A&#160;(\d+)(?:&#8211;(\d+))?, B&#160;(\d+)(?:&#8211;(\d+))?</i>'
@@ -122,6 +137,28 @@ def first_of(page):
     return Listed(1, match[2], match[3], words_of(match[4])) if match else None
 
 
+def charts_of(page):
+    """The charts of both logs around the first difference, if there is one."""
+    section = CHARTS.search(page)
+    if not section:
+        return None
+    charts = CHART.findall(section[1])
+    if len(charts) != 2 or CHART.sub("", section[1]):
+        raise ValueError("the first difference has not one chart of each log")
+    return [chart_of(text) for text in charts]
+
+
+def chart_of(text):
+    """A chart, by its lines: rows, and then perhaps one of words alone."""
+    lines = [line for line in text.splitlines() if line != "<tbody>"]
+    words = WORDS_ROW.fullmatch(lines[-1]) if lines else None
+    matches = [CHART_ROW.fullmatch(line) for line in lines[: len(lines) - bool(words)]]
+    if None in matches:
+        raise ValueError(f"no row of a chart: {lines[matches.index(None)]!r}")
+    rows = [ChartRow(match[1], match[2] or match[3], tuple(line for line in match.group(4, 5) if line), match[6]) for match in matches]
+    return Chart(rows, int(words[1] or 0) if words else 0, bool(words and not words[1]))
+
+
 def read(page):
     """What a page of two logs that can be read tells."""
     verdict = VERDICT.search(page)
@@ -139,6 +176,7 @@ def read(page):
         paragraphs[1:],
         [Listed(int(match[1]), match[2], match[3], words_of(match[4])) for match in LISTED.finditer(page)],
         first_of(page),
+        charts_of(page),
         rows,
         [fold_of(match) for match in FOLD.finditer(page)],
         re.findall(r' id="(\w+)"', page),

@@ -1,5 +1,6 @@
 -- The first difference as recorded: of each log the rows around it, with a mark at each byte that differs.
-use Rattle.std.specs.Prelude.{ℕ, suc, ◌+◌, ◌-◌, ◌==◌, Bool, true, false, ◌||◌, List, [], ◌∷◌, ◌++◌, codes, drop, length, min, nat_le, take, Option, Some, None, slice_get, if◌then◌else◌}
+use Prim.Native.Nat.{zero, suc}
+use Rattle.std.specs.Prelude.{ℕ, ◌+◌, ◌-◌, ◌==◌, Bool, true, false, ◌||◌, List, [], ◌∷◌, ◌++◌, codes, drop, length, max, min, nat_le, take, Option, Some, None, slice_get, if◌then◌else◌}
 use Rattle.std.specs.Fmt.{decimal}
 use Rattle.byte_columns.specs.declared.column.Column.{Column}
 use Rattle.byte_columns.specs.Columns.{beside}
@@ -37,13 +38,34 @@ use Rattle.trace_pair.specs.Verdict.{left_lossy, right_lossy}
 abbrev pub most_rows : ℕ
 most_rows = 40
 
--- a chart around the item of a place begins with the row of the item before it
-abbrev pub chart_from : ℕ → List RowValue → ℕ
-chart_from item rows = rows_before (item - 1) rows
+-- and of these so many at most before the row with which the item begins
+abbrev pub most_before : ℕ
+most_before = 8
 
--- a chart around the item of a place ends before the row of the third item from there on
+-- an exchange begins with the row, where there is one
+abbrev pub asks : Option RowValue → Bool
+asks None = false
+asks (Some row) = begins_exchange row
+
+-- where the last request stands among so many rows, the first ones; 0 where none of these is a request
+abbrev pub last_request : ℕ → List RowValue → ℕ
+last_request zero rows = 0
+last_request (suc count) rows = if asks (slice_get rows count) then count else last_request count rows
+
+-- how many rows stand before the first request; all, where none of them is one
+abbrev pub before_request : List RowValue → ℕ
+before_request [] = 0
+before_request (row ∷ rows) = if begins_exchange row then 0 else 1 + before_request rows
+
+-- a chart around the item of a place begins with the last request that stands at or before the row with which the item
+-- before it begins, or where there is none, with the first row; but no farther before the item's own than a chart goes
+abbrev pub chart_from : ℕ → List RowValue → ℕ
+chart_from item rows = max (rows_before item rows - most_before) (last_request (suc (rows_before (item - 1) rows)) rows)
+
+-- a chart around the item of a place ends before the first request that stands at or behind the row with which the
+-- second item behind it begins
 abbrev pub chart_to : ℕ → List RowValue → ℕ
-chart_to item rows = rows_before (item + 3) rows
+chart_to item rows = rows_before (item + 2) rows + before_request (drop (rows_before (item + 2) rows) rows)
 
 -- the rows of a chart around the item of a place
 abbrev pub chart_rows : ℕ → List RowValue → List RowValue

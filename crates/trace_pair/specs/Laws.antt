@@ -1,17 +1,18 @@
 -- What holds of a page of two logs, whatever logs it is of.
 use Prim.Native.Char.{code}
-use Rattle.std.specs.Prelude.{◌≡◌, ◌==◌, ◌<◌, ℕ, ◌+◌, ◌-◌, false, List, ◌++◌, length, Option, None, slice_get, Ok}
+use Rattle.std.specs.Prelude.{◌≡◌, ◌==◌, ◌≤◌, ◌⊎◌, ℕ, suc, ◌+◌, ◌-◌, true, false, List, [], ◌++◌, drop, length, take, Option, None, slice_get, Ok}
 use Rattle.std.specs.List.{list_any}
 use Rattle.isotp_receive.specs.declared.TheConstants.{MESSAGE_LIMIT}
 use Rattle.trace_canon.specs.Compared.{Compares, difference}
 use Rattle.trace_canon.specs.declared.comparing.Compared.{Compared}
 use Rattle.trace_log.specs.Settings.{Settings}
 use Rattle.uds_exchange.specs.Difference.{IsFirstDifference}
-use Rattle.trace_report.specs.Items.{rows_before}
+use Rattle.trace_report.specs.Blocks.{begins_exchange}
+use Rattle.trace_report.specs.Items.{answer_in, rows_before}
 use Rattle.trace_report.specs.Kept.{KeepsTwo, TwoValue}
 use Rattle.trace_report.specs.Rows.{RowValue}
 use Rattle.trace_pair.specs.Compared.{comparison_in}
-use Rattle.trace_pair.specs.First.{chart_from, chart_rows, most_rows}
+use Rattle.trace_pair.specs.First.{asks, chart_rows, most_before, most_rows, rows_more}
 use Rattle.trace_pair.specs.ItemWords.{came_of}
 use Rattle.trace_pair.specs.Sessions.{values_in}
 use Rattle.trace_pair.specs.Style.{page_style}
@@ -33,13 +34,28 @@ AgreesWithCompare = (settings : Settings) (one other : List ℕ) (held : TwoValu
     → KeepsTwo MESSAGE_LIMIT settings one other (Ok held) → Compares MESSAGE_LIMIT settings one other (Ok compared)
     → comparison_in held ≡ compared.comparison
 
--- the chart of a log around the item of a place is one piece of the log's rows, and has the row with which the item begins,
--- if the log has one and the item before it has fewer rows than a chart has at most
+-- A chart around the item of a place, as a piece of the log's rows between those before it and those behind it.
+pub record IsAround (item : ℕ) (rows front behind : List RowValue) : Type 0 where
+  pub piece : rows ≡ front ++ (chart_rows item rows ++ behind)
+  -- it begins with the log's first row, with a request at or before the row with which the item before begins, or so
+  -- many rows before the item's own as it has there at most
+  pub begins : (front ≡ []) ⊎ (((asks (slice_get (chart_rows item rows) 0) ≡ true) × (length front ≤ rows_before (item - 1) rows)) ⊎ (length front + most_before ≡ rows_before item rows))
+  -- and behind its first row none is a request up to the one with which the item before begins
+  pub last : list_any begins_exchange (take (rows_before (item - 1) rows - length front) (drop 1 (chart_rows item rows))) ≡ false
+  pub before : length front ≤ rows_before item rows
+  pub near : rows_before item rows ≤ length front + most_before
+  -- the row with which the item begins stands in it
+  pub row : slice_get (chart_rows item rows) (rows_before item rows - length front) ≡ slice_get rows (rows_before item rows)
+  -- and so does the answer behind that row, or it is among the rows of which the chart tells that it leaves them out
+  pub answer :
+      answer_in (drop (suc (rows_before item rows - length front)) (chart_rows item rows ++ take (rows_more item rows) behind)) ≡ answer_in (drop (suc (rows_before item rows)) rows)
+  -- it leaves some out only where it has as many as a chart has at most, and no more than there are
+  pub cut : (rows_more item rows ≡ 0) ⊎ (length (chart_rows item rows) ≡ most_rows)
+  pub few : rows_more item rows ≤ length behind
+
+-- the chart of a log around the item of a place is one piece of the log's rows, where the item stands
 abbrev pub ChartHasTheItem : Type 0
-ChartHasTheItem = (item : ℕ) (rows : List RowValue)
-    → ((front more : List RowValue) × (rows ≡ front ++ (chart_rows item rows ++ more)))
-    × (rows_before item rows < length rows → rows_before item rows < chart_from item rows + most_rows
-    → slice_get (chart_rows item rows) (rows_before item rows - chart_from item rows) ≡ slice_get rows (rows_before item rows))
+ChartHasTheItem = (item : ℕ) (rows : List RowValue) → (front behind : List RowValue) × IsAround item rows front behind
 
 -- an exchange that is told as one without an answer, or as silent, has none
 abbrev pub UnansweredHasNone : Type 0

@@ -1,5 +1,5 @@
 //! A chart of one log: the rows around an item, with a mark at each byte that differs.
-ghost use Rattle.std.specs.Prelude.{◌≡◌, ◌==◌, ◌-◌, ◌||◌, drop, option_map, take, true};
+ghost use Rattle.std.specs.Prelude.{◌≡◌, ◌==◌, ◌-◌, ◌||◌, drop, option_map, slice_get, take, true};
 ghost use Rattle.trace_report.specs.Blocks.{begins_exchange as asks};
 ghost use Rattle.trace_report.specs.proving.Pages.{row_of};
 ghost use Rattle.trace_pair.specs.First as Spec;
@@ -19,6 +19,9 @@ use trace_text::Number;
 
 /// A chart has so many rows at most.
 const MOST_ROWS: usize = 40;
+
+/// And of these so many at most before the row with which the item begins.
+const MOST_BEFORE: usize = 8;
 
 /// What a chart marks: in the messages of the item with this number each byte that another message has not, of the one
 /// that begins it, of the answer, or of both.
@@ -40,8 +43,8 @@ pub(crate) fn say_chart<S: TextSink>(
     ensures { S.says out.old (Spec.chart log (option_map marked_of marked.entry) item session.now) out.new }
 {
     let rows = session.rows();
-    let from = rows.rows_before(item.saturating_sub(1));
-    let to = rows.rows_before(item.saturating_add(3));
+    let from = chart_from(rows, item);
+    let to = chart_to(rows, item);
     let end = to.min(from.saturating_add(MOST_ROWS));
     say(out, ChartHead);
     say_rows(log, marked, session.first(), rows, from, end, out);
@@ -52,6 +55,45 @@ pub(crate) fn say_chart<S: TextSink>(
     };
     say(out, rest);
     say(out, "</table>\n");
+}
+
+/// Where the rows of a chart around an item begin: with the last request at or before the item before it.
+fn chart_from(rows: &KeptRows, item: usize) -> usize
+    ensures { result ≡ Spec.chart_from item rows.now }
+{
+    let low = rows.rows_before(item).saturating_sub(MOST_BEFORE);
+    let before = rows.rows_before(item.saturating_sub(1));
+    let end = before.saturating_add(1).min(rows.len());
+    let mut from = low;
+    'rows: for at in low..end {
+        if asks_at(rows, at) {
+            from = at;
+        }
+    }
+    from
+}
+
+/// Where they end: before the first request at or behind the second item behind it.
+fn chart_to(rows: &KeptRows, item: usize) -> usize
+    ensures { result ≡ Spec.chart_to item rows.now }
+{
+    let second = rows.rows_before(item.saturating_add(2));
+    'rows: for at in second..rows.len() {
+        if asks_at(rows, at) {
+            return at;
+        }
+    }
+    rows.len()
+}
+
+/// Whether an exchange begins with the row at a place, where there is one.
+fn asks_at(rows: &KeptRows, at: usize) -> bool
+    ensures { result ≡ Spec.asks (slice_get rows.now at) }
+{
+    match rows.row(at) {
+        Some(row) => begins_exchange(row),
+        None => false,
+    }
 }
 
 /// Says the rows from one place up to another. A body of the table begins with the first, and with each request.

@@ -21,8 +21,8 @@ pub fn agrees_with_compare()
     items_are_the_meaning();
 }
 
-/// The chart of the first difference shows the item that differs, but where its rows begin further behind those of the item
-/// before it than a chart goes.
+/// The chart of the first difference shows the item that differs, and its answer, or tells that more rows follow, of
+/// which that is one.
 pub fn chart_has_the_item()
     ensures { ChartHasTheItem }
 {}
