@@ -19,5 +19,6 @@ mod FirstChanges
 mod Agreeing
 mod ChartItems
 mod ToldOutcomes
+mod ComparedChanges
 mod PagesInMemory
 mod PageStyle
