@@ -182,14 +182,13 @@ def same_heading_of(came):
     ours, _ = came.items
     if not ours:
         return "Neither session has an item"
+    clean = tuple(came.clean)
+    who = {(False, False): "neither is clean", (False, True): "A is not clean", (True, False): "B is not clean"}.get(clean)
+    heading = "The two sessions are the same" + (f" as far as they are recorded: {who}" if who else "")
     if any(came.exchanged):
-        return "The two sessions are the same, but tester and unit look exchanged"
-    if not any(isinstance(item, oracle.Exchange) for item in ours):
-        return "The two sessions are the same, and neither has a request"
-    if all(came.clean):
-        return "The two sessions are the same"
-    who = {(False, False): "neither is clean", (False, True): "A is not clean", (True, False): "B is not clean"}[tuple(came.clean)]
-    return f"The two sessions are the same as far as they are recorded: {who}"
+        return f"{heading}, but tester and unit look exchanged"
+    asked = any(isinstance(item, oracle.Exchange) for item in ours)
+    return heading if asked else f"{heading}, and neither has a request"
 
 
 # --- In words -----------------------------------------------------------------------------------------------------------

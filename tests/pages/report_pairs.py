@@ -422,7 +422,9 @@ def known_texts(cases):
         ("a session that is not clean", log_of(REQUEST, ANSWER), log_of(REQUEST, ANSWER, UNKNOWN), [
             "</span> The two sessions are the same as far as they are recorded: B is not clean</h2>",
         ]),
-        ("no request", log_of(STRAY), log_of(STRAY), ["</span> The two sessions are the same, and neither has a request</h2>"]),
+        ("no request", log_of(STRAY), log_of(STRAY), [
+            "</span> The two sessions are the same as far as they are recorded: neither is clean, and neither has a request</h2>",
+        ]),
     ]:
         with files(left, right) as names:
             page = cases.run(["report", *names]).output.decode()

@@ -20,5 +20,6 @@ mod FirstChanges
 mod Agreeing
 mod ChartItems
 mod ToldOutcomes
+mod ComparedChanges
 mod PagesInMemory
 mod PageStyle

@@ -24,7 +24,7 @@ use Rattle.trace_pair.specs.First.{first_text}
 use Rattle.trace_pair.specs.Help.{help_text}
 use Rattle.trace_pair.specs.ItemTables.{items_text}
 use Rattle.trace_pair.specs.Logs.{letter, lettered_name}
-use Rattle.trace_pair.specs.Recordings.{recordings, state}
+use Rattle.trace_pair.specs.Recordings.{recordings}
 use Rattle.trace_pair.specs.Sessions.{values_in}
 use Rattle.trace_pair.specs.Titles.{TitleValue}
 use Rattle.trace_pair.specs.Verdict.{verdict}
@@ -52,7 +52,7 @@ front title count =
 -- the counts of a log, below its name
 abbrev pub counts_of : Log → List ℕ → SessionValue → List ℕ
 counts_of log name session =
-    codes "<section>\n<h3>" ++ lettered_name log name ++ codes "</h3>\n<p>" ++ state session.summary ++ codes "</p>\n"
+    codes "<section>\n<h3>" ++ lettered_name log name ++ codes "</h3>\n"
     ++ counts_text (counts_in session.rows) session.summary ++ span_of session.summary.frames session.first session.last ++ codes "</section>\n"
 
 -- the counts of both logs, side by side

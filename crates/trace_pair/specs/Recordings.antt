@@ -1,4 +1,4 @@
--- What was found of both logs: a row for each, with what `--strict` says of it, how many items it has, and when it was.
+-- What was found of both logs: a row for each, with each reason why it isn't clean, how many items it has, and when it was.
 use Rattle.std.specs.Prelude.{ℕ, ◌/◌, ◌==◌, Bool, ◌&&◌, List, ◌++◌, codes, length, nat_le, nat_lt, if◌then◌else◌}
 use Rattle.std.specs.Fmt.{decimal}
 use Rattle.can_log.specs.Digits as digits
@@ -7,7 +7,7 @@ use Rattle.calendar.specs.Times.{time_after}
 use Rattle.trace_log.specs.Summing.{is_clean}
 use Rattle.trace_log.specs.declared.summary.Summary.{Summary}
 use Rattle.trace_report.specs.Session.{SessionValue}
-use Rattle.trace_report.specs.Verdict.{is_called_clean, strict_words}
+use Rattle.trace_report.specs.Verdict.{is_called_clean, unclean_reasons}
 use Rattle.trace_report.specs.Durations.{seconds_between}
 use Rattle.trace_text.specs.Words.{stamp_text}
 use Rattle.trace_pair.specs.declared.log.Log.{Log}
@@ -15,12 +15,17 @@ use Rattle.trace_pair.specs.declared.log.Log.TheVariants.{A, B}
 use Rattle.trace_pair.specs.Logs.{lettered_name}
 use Rattle.trace_pair.specs.Sessions.{values_in}
 
--- whether a recording is clean, and what `--strict` says of one that isn't
+-- what is said in front of the reasons why a recording is not called clean: that it isn't, that its sides look exchanged,
+-- or both
+abbrev pub state_start : Summary → List ℕ
+state_start summary =
+    if summary.looks_exchanged
+    then (if is_clean summary then codes "<b class=\"bd\">tester and unit look exchanged:</b> " else codes "<b class=\"bd\">not clean, and tester and unit look exchanged:</b> ")
+    else codes "<b class=\"bd\">not clean:</b> "
+
+-- whether a recording is called clean, and each reason why it isn't
 abbrev pub state : Summary → List ℕ
-state summary =
-    if is_called_clean summary then codes "clean"
-    else if is_clean summary then codes "<b class=\"bd\">tester and unit look exchanged</b>"
-    else codes "<b class=\"bd\">not clean:</b> " ++ strict_words summary
+state summary = if is_called_clean summary then codes "clean" else state_start summary ++ unclean_reasons summary
 
 -- a time of a day, by the calendar
 abbrev pub civil_text : CivilTime → List ℕ

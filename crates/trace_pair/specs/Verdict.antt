@@ -132,24 +132,32 @@ is_exchange (stray side bytes) = false
 abbrev pub nothing_verdict : List ℕ
 nothing_verdict =
     codes "<section id=\"verdict\" class=\"warn\">\n<h2><span aria-hidden=\"true\">!</span> Neither session has an item</h2>\n"
-    ++ codes "<p>So they can't differ. <code>udsnorm find</code> names the identifiers of a log.</p>\n"
+    ++ codes "<p>So they can't differ. Below stands what each recording has.</p>\n"
 
--- which log is not clean, by whether each is not
-abbrev pub unclean_words : Bool → Bool → List ℕ
-unclean_words true true = codes "neither is clean"
-unclean_words true false = codes "A is not clean"
-unclean_words false right = codes "B is not clean"
+-- how far two sessions are known to be the same, where a log is not clean, by whether each is
+abbrev pub recorded_words : Bool → Bool → List ℕ
+recorded_words true true = []
+recorded_words true false = codes " as far as they are recorded: B is not clean"
+recorded_words false true = codes " as far as they are recorded: A is not clean"
+recorded_words false false = codes " as far as they are recorded: neither is clean"
 
--- the heading of sessions that are the same: in green only where they are so without a doubt
+-- why two sessions say little that are the same: tester and unit look exchanged, or nothing was asked
+abbrev pub doubt_words : Bool → Bool → List ℕ
+doubt_words exchanged asked = if exchanged then codes ", but tester and unit look exchanged" else if asked then [] else codes ", and neither has a request"
+
+-- two sessions are the same without a doubt: both logs are clean, something was asked, and the sides look right
+abbrev pub is_beyond_doubt : Bool → Bool → Bool → Bool → Bool
+is_beyond_doubt exchanged asked left_clean right_clean = not exchanged && (asked && (left_clean && right_clean))
+
+-- the start of the heading of sessions that are the same: in green only where they are so without a doubt
+abbrev pub same_start : Bool → List ℕ
+same_start true = codes "<section id=\"verdict\" class=\"good\">\n<h2><span aria-hidden=\"true\">=</span> The two sessions are the same"
+same_start false = codes "<section id=\"verdict\" class=\"warn\">\n<h2><span aria-hidden=\"true\">!</span> The two sessions are the same"
+
+-- the heading of sessions that are the same
 abbrev pub same_heading : Bool → Bool → Bool → Bool → List ℕ
 same_heading exchanged asked left_clean right_clean =
-    if exchanged
-    then codes "<section id=\"verdict\" class=\"warn\">\n<h2><span aria-hidden=\"true\">!</span> The two sessions are the same, but tester and unit look exchanged</h2>\n"
-    else if not asked
-    then codes "<section id=\"verdict\" class=\"warn\">\n<h2><span aria-hidden=\"true\">!</span> The two sessions are the same, and neither has a request</h2>\n"
-    else if left_clean && right_clean
-    then codes "<section id=\"verdict\" class=\"good\">\n<h2><span aria-hidden=\"true\">=</span> The two sessions are the same</h2>\n"
-    else codes "<section id=\"verdict\" class=\"warn\">\n<h2><span aria-hidden=\"true\">=</span> The two sessions are the same as far as they are recorded: " ++ unclean_words (not left_clean) (not right_clean) ++ codes "</h2>\n"
+    same_start (is_beyond_doubt exchanged asked left_clean right_clean) ++ recorded_words left_clean right_clean ++ doubt_words exchanged asked ++ codes "</h2>\n"
 
 -- that so many items are the same
 abbrev pub same_items : ℕ → List ℕ

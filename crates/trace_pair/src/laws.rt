@@ -1,6 +1,6 @@
 //! What holds of a page of two logs, whatever logs it is of. A law is its contract; a call does nothing. A law of a lower
 //! crate that a proof needs is called.
-ghost use Rattle.trace_pair.specs.Laws.{AgreesWithCompare, ChartHasTheItem, ComparisonIsOfItems, StyleHoldsNoTag, UnansweredHasNone};
+ghost use Rattle.trace_pair.specs.Laws.{AgreesWithCompare, ChangesAreOfComparison, ChartHasTheItem, ComparisonIsOfItems, StyleHoldsNoTag, UnansweredHasNone};
 
 use trace_report::laws::items_are_the_meaning;
 
@@ -21,13 +21,18 @@ pub fn agrees_with_compare()
     items_are_the_meaning();
 }
 
+/// The verdict and the first difference of a page are of what is answered of how two sessions compare.
+pub fn changes_are_of_comparison()
+    ensures { ChangesAreOfComparison }
+{}
+
 /// The chart of the first difference shows the item that differs, and its answer, or tells that more rows follow, of
 /// which that is one.
 pub fn chart_has_the_item()
     ensures { ChartHasTheItem }
 {}
 
-/// An item that is said to have no answer has none.
+/// An item that is said to have no answer has none, and so has the log of two that is said to have none.
 pub fn unanswered_has_none()
     ensures { UnansweredHasNone }
 {}

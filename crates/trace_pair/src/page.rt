@@ -12,7 +12,7 @@ use crate::front::Front;
 use crate::help::Help;
 use crate::item_tables::say_items;
 use crate::log::{LetteredName, Log};
-use crate::recordings::{State, say_recordings};
+use crate::recordings::say_recordings;
 use crate::sessions::Sessions;
 use crate::title::Title;
 use crate::verdict::say_verdict;
@@ -111,9 +111,7 @@ fn say_counts<S: TextSink>(log: Log, name: &[u8], session: &Session, out: &mut S
         (
             "<section>\n<h3>",
             LetteredName(log, name),
-            "</h3>\n<p>",
-            State(&summary),
-            "</p>\n",
+            "</h3>\n",
             Counts(&session.rows().counts(), &summary),
             SpanOf {
                 frames: summary.frames,

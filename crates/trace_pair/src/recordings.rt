@@ -7,7 +7,7 @@ use crate::sessions::Sessions;
 use text_parts::{Part, say};
 use trace_io::TextSink;
 use trace_log::Summary;
-use trace_report::{Seconds, Session, StrictWords, is_called_clean};
+use trace_report::{Seconds, Session, UncleanReasons, is_called_clean};
 use trace_text::Number;
 
 /// Says the table of both recordings.
@@ -52,9 +52,9 @@ fn say_recording<S: TextSink>(log: Log, name: &[u8], session: &Session, out: &mu
     );
 }
 
-/// Whether a recording is clean, and what `--strict` says of one that isn't.
+/// Whether a recording is called clean, and each reason why it isn't.
 #[derive(Clone, Copy)]
-pub(crate) struct State<'a>(pub &'a Summary);
+struct State<'a>(pub &'a Summary);
 
 impl<'a> Part for State<'a> {
     ghost use Rattle.trace_pair.specs.Recordings.{state};
@@ -65,12 +65,31 @@ impl<'a> Part for State<'a> {
         let summary = self.0;
         if is_called_clean(summary) {
             say(out, "clean");
+        } else {
+            say(out, (StateStart(summary), UncleanReasons(summary)));
+        }
+    }
+}
+
+/// What is said in front of the reasons: that a recording is not clean, that its sides look exchanged, or both.
+#[derive(Clone, Copy)]
+struct StateStart<'a>(&'a Summary);
+
+impl<'a> Part for StateStart<'a> {
+    ghost use Rattle.trace_pair.specs.Recordings.{state_start};
+
+    ghost text = { λ start. state_start start.0.now };
+
+    fn say<S: TextSink>(self, out: &mut S) {
+        let summary = self.0;
+        if !summary.looks_exchanged {
+            say(out, "<b class=\"bd\">not clean:</b> ");
         } else if summary.is_clean() {
-            say(out, "<b class=\"bd\">tester and unit look exchanged</b>");
+            say(out, "<b class=\"bd\">tester and unit look exchanged:</b> ");
         } else {
             say(
                 out,
-                ("<b class=\"bd\">not clean:</b> ", StrictWords(summary)),
+                "<b class=\"bd\">not clean, and tester and unit look exchanged:</b> ",
             );
         }
     }

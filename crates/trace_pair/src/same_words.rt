@@ -1,4 +1,7 @@
 //! The words of a verdict over two sessions that don't differ.
+ghost use Rattle.std.specs.Prelude.{◌≡◌};
+ghost use Rattle.trace_pair.specs.Verdict.{is_beyond_doubt};
+
 use text_parts::{Either, Part, say};
 use trace_io::TextSink;
 use trace_text::Number;
@@ -17,7 +20,7 @@ impl Part for NothingVerdict {
             out,
             (
                 "<section id=\"verdict\" class=\"warn\">\n<h2><span aria-hidden=\"true\">!</span> Neither session has an item</h2>\n",
-                "<p>So they can't differ. <code>udsnorm find</code> names the identifiers of a log.</p>\n",
+                "<p>So they can't differ. Below stands what each recording has.</p>\n",
             ),
         );
     }
@@ -32,55 +35,101 @@ pub(crate) struct SameHeading {
     pub right_clean: bool,
 }
 
+impl SameHeading {
+    /// Whether both logs are clean, something was asked, and the sides look right.
+    fn is_beyond_doubt(self) -> bool
+        ensures { result ≡ is_beyond_doubt self.exchanged self.asked self.left_clean self.right_clean }
+    {
+        !self.exchanged && self.asked && self.left_clean && self.right_clean
+    }
+}
+
 impl Part for SameHeading {
     ghost use Rattle.trace_pair.specs.Verdict.{same_heading};
 
     ghost text = { λ h. same_heading h.exchanged h.asked h.left_clean h.right_clean };
 
     fn say<S: TextSink>(self, out: &mut S) {
-        if self.exchanged {
+        say(
+            out,
+            (
+                SameStart(self.is_beyond_doubt()),
+                RecordedWords(self.left_clean, self.right_clean),
+                DoubtWords {
+                    exchanged: self.exchanged,
+                    asked: self.asked,
+                },
+                "</h2>\n",
+            ),
+        );
+    }
+}
+
+/// The start of that heading, in green or not.
+#[derive(Clone, Copy)]
+struct SameStart(bool);
+
+impl Part for SameStart {
+    ghost use Rattle.trace_pair.specs.Verdict.{same_start};
+
+    ghost text = { λ start. same_start start.0 };
+
+    fn say<S: TextSink>(self, out: &mut S) {
+        if self.0 {
             say(
                 out,
-                "<section id=\"verdict\" class=\"warn\">\n<h2><span aria-hidden=\"true\">!</span> The two sessions are the same, but tester and unit look exchanged</h2>\n",
-            );
-        } else if !self.asked {
-            say(
-                out,
-                "<section id=\"verdict\" class=\"warn\">\n<h2><span aria-hidden=\"true\">!</span> The two sessions are the same, and neither has a request</h2>\n",
-            );
-        } else if self.left_clean && self.right_clean {
-            say(
-                out,
-                "<section id=\"verdict\" class=\"good\">\n<h2><span aria-hidden=\"true\">=</span> The two sessions are the same</h2>\n",
+                "<section id=\"verdict\" class=\"good\">\n<h2><span aria-hidden=\"true\">=</span> The two sessions are the same",
             );
         } else {
             say(
                 out,
-                (
-                    "<section id=\"verdict\" class=\"warn\">\n<h2><span aria-hidden=\"true\">=</span> The two sessions are the same as far as they are recorded: ",
-                    UncleanWords(!self.left_clean, !self.right_clean),
-                    "</h2>\n",
-                ),
+                "<section id=\"verdict\" class=\"warn\">\n<h2><span aria-hidden=\"true\">!</span> The two sessions are the same",
             );
         }
     }
 }
 
-/// Which log is not clean, by whether each is not.
+/// How far two sessions are known to be the same, by whether each log is clean.
 #[derive(Clone, Copy)]
-struct UncleanWords(bool, bool);
+struct RecordedWords(bool, bool);
 
-impl Part for UncleanWords {
-    ghost use Rattle.trace_pair.specs.Verdict.{unclean_words};
+impl Part for RecordedWords {
+    ghost use Rattle.trace_pair.specs.Verdict.{recorded_words};
 
-    ghost text = { λ words. unclean_words words.0 words.1 };
+    ghost text = { λ words. recorded_words words.0 words.1 };
 
     fn say<S: TextSink>(self, out: &mut S) {
         match (self.0, self.1) {
-            (true, true) => say(out, "neither is clean"),
-            (true, false) => say(out, "A is not clean"),
-            (false, _) => say(out, "B is not clean"),
+            (true, true) => {}
+            (true, false) => say(out, " as far as they are recorded: B is not clean"),
+            (false, true) => say(out, " as far as they are recorded: A is not clean"),
+            (false, false) => say(out, " as far as they are recorded: neither is clean"),
         }
+    }
+}
+
+/// Why two sessions say little that are the same.
+#[derive(Clone, Copy)]
+struct DoubtWords {
+    exchanged: bool,
+    asked: bool,
+}
+
+impl Part for DoubtWords {
+    ghost use Rattle.trace_pair.specs.Verdict.{doubt_words};
+
+    ghost text = { λ words. doubt_words words.exchanged words.asked };
+
+    fn say<S: TextSink>(self, out: &mut S) {
+        let unasked = Either(self.asked, "", ", and neither has a request");
+        say(
+            out,
+            Either(
+                self.exchanged,
+                ", but tester and unit look exchanged",
+                unasked,
+            ),
+        );
     }
 }
 

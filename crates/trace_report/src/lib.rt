@@ -89,7 +89,7 @@ pub use looks::{Look, look_told};
 pub use loss_words::{DroppedWords, EndedWords, UnfinishedWords};
 pub use lost_rows::{say_dropped_row, say_ended_row, say_no_answer_row, say_unfinished_row};
 pub use message_rows::{FurtherNote, MessageFront, NamedLines, Note, RoleWords};
-pub use reasons::StrictWords;
+pub use reasons::UncleanReasons;
 pub use refusal::Refusal;
 pub use reporter::report;
 pub use roles::{MessageRole, asked_at, begins_item, is_answer_role, is_request_role};
