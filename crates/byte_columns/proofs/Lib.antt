@@ -5,4 +5,6 @@ pub mod BothMessages
 pub mod Counting
 pub mod LineNumbers
 pub mod LinePlaces
+pub mod CommonEnds
+pub mod LineColumns
 pub mod Promises

@@ -2,3 +2,5 @@
 -- else of proofs/ is for them.
 pub use Rattle.byte_columns.proofs.BothMessages.{columns_have_both_messages, equal_lengths_pair_by_place, none_differs_in_the_same}
 pub use Rattle.byte_columns.proofs.LineNumbers.{lines_stand_once, stretches_are_walked}
+pub use Rattle.byte_columns.proofs.CommonEnds.{common_ends_stand_together}
+pub use Rattle.byte_columns.proofs.LineColumns.{lines_have_the_columns}
