@@ -4,4 +4,5 @@ pub mod ShownRows
 pub mod EachChange
 pub mod EachItem
 pub mod ChangeSteps
+pub mod ChangePlaces
 pub mod Promises

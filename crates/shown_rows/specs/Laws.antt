@@ -1,5 +1,5 @@
 -- What holds of any rows.
-use Rattle.std.specs.Prelude.{◌≡◌, ◌+◌, ℕ, List, [], ◌∷◌, length, replicate}
+use Rattle.std.specs.Prelude.{◌≡◌, ◌+◌, ◌<◌, ⊤, ℕ, false, List, [], ◌∷◌, ◌++◌, length, replicate}
 use Rattle.std.specs.List.{filter, flat_map, range_with_len}
 use Rattle.uds_exchange.specs.Meaning.{ItemValue}
 use Rattle.uds_difference.specs.Rows.{AreBeside, rows_of}
@@ -9,7 +9,7 @@ use Rattle.shown_rows.specs.declared.changes.Change.{Change}
 use Rattle.shown_rows.specs.Changes.{changes}
 use Rattle.shown_rows.specs.Folds.{shown}
 use Rattle.shown_rows.specs.Hunks.{Hunk, hunks}
-use Rattle.shown_rows.specs.Rows.{count_of, is_change}
+use Rattle.shown_rows.specs.Rows.{count_of, is_change, left_count, right_count, same_row}
 
 -- the rows of a hunk
 abbrev pub rows_of_hunk : Hunk → List Row
@@ -26,6 +26,39 @@ rows_of_change here = replicate here.count here.kind
 -- the changes have each row that is one, once, in order
 abbrev pub ChangesHaveEachRow : Type 0
 ChangesHaveEachRow = (rows : List Row) → flat_map rows_of_change (changes rows) ≡ filter is_change rows
+
+-- these rows begin with none of this kind
+abbrev pub BeginOtherwise : Row → List Row → Type 0
+BeginOtherwise kind [] = ⊤
+BeginOtherwise kind (row ∷ rows) = same_row kind row ≡ false
+
+-- so many rows of a kind, in front of these, are all that a reader counts as one change: one item that changed, or each
+-- row of a run of items of one session alone
+abbrev pub IsWhole : Row → ℕ → List Row → Type 0
+IsWhole Same count later = ⊥
+IsWhole Changed count later = count ≡ 1
+IsWhole OnlyLeft count later = (0 < count) × BeginOtherwise OnlyLeft later
+IsWhole OnlyRight count later = (0 < count) × BeginOtherwise OnlyRight later
+
+-- Where a change stands behind other rows: in front of it are so many that are the same, then it has its own.
+pub record StandsBehind (front rows : List Row) (here : Change) (same later : List Row) : Type 0 where
+  pub place : rows ≡ same ++ (rows_of_change here ++ later)
+  pub all_same : same ≡ replicate (length same) Same
+  pub left : here.left ≡ left_count (front ++ same)
+  pub right : here.right ≡ right_count (front ++ same)
+  pub whole : IsWhole here.kind here.count later
+
+-- Rows behind others have these changes, one behind another, and all rows beside them are the same. So a run of items of
+-- one session alone begins where it does: the change in front of it would not be whole.
+abbrev pub HasChanges : List Row → List Row → List Change → Type 0
+HasChanges front rows [] = rows ≡ replicate (length rows) Same
+HasChanges front rows (here ∷ changes) =
+    (same : List Row) × (later : List Row) × StandsBehind front rows here same later
+    × HasChanges (front ++ (same ++ rows_of_change here)) later changes
+
+-- the changes stand at their places, each is whole, and no row that is one stands beside them
+abbrev pub ChangesStandAtTheirPlaces : Type 0
+ChangesStandAtTheirPlaces = (rows : List Row) → HasChanges [] rows (changes rows)
 
 -- the counts of a difference add up to those of both sessions
 abbrev pub CountsAddUp : Type 0

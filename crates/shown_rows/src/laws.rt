@@ -1,5 +1,5 @@
 //! What holds of any rows. Each law is its contract; a call does nothing.
-ghost use Rattle.shown_rows.specs.Laws.{ChangesHaveEachRow, CountsAddUp, EachItemStandsOnce, ShownRowsAreThoseOfHunks};
+ghost use Rattle.shown_rows.specs.Laws.{ChangesHaveEachRow, ChangesStandAtTheirPlaces, CountsAddUp, EachItemStandsOnce, ShownRowsAreThoseOfHunks};
 
 /// What a page shows unfolded is what the hunks of a text have.
 pub fn shown_rows_are_those_of_hunks()
@@ -9,6 +9,11 @@ pub fn shown_rows_are_those_of_hunks()
 /// The changes have each row that is one, once, in order.
 pub fn changes_have_each_row()
     ensures { ChangesHaveEachRow }
+{}
+
+/// The changes stand at their places, each is whole, and no row that is one stands beside them.
+pub fn changes_stand_at_their_places()
+    ensures { ChangesStandAtTheirPlaces }
 {}
 
 /// The counts of the rows add up to those of both sessions.
