@@ -30,7 +30,7 @@ pub record AreCounts (front : List Row) (left right : ℕ) : Type 0 where
   pub left_is : left ≡ left_count front
   pub right_is : right ≡ right_count front
 
-one-more : (front : List Row) (left right : ℕ) (row : Row) → AreCounts front left right → AreCounts (front ++ (row ∷ [])) (left + left_in row) (right + right_in row)
+pub one-more : (front : List Row) (left right : ℕ) (row : Row) → AreCounts front left right → AreCounts (front ++ (row ∷ [])) (left + left_in row) (right + right_in row)
 one-more front left right row are =
     let one = left-more front row in
     let other = right-more front row in

@@ -5,4 +5,6 @@ pub mod EachChange
 pub mod EachItem
 pub mod ChangeSteps
 pub mod ChangePlaces
+pub mod NearChanges
+pub mod HunkPlaces
 pub mod Promises

@@ -1,9 +1,20 @@
 //! What holds of any rows. Each law is its contract; a call does nothing.
-ghost use Rattle.shown_rows.specs.Laws.{ChangesHaveEachRow, ChangesStandAtTheirPlaces, CountsAddUp, EachItemStandsOnce, ShownRowsAreThoseOfHunks};
+ghost use Rattle.shown_rows.specs.Laws.{ChangesHaveEachRow, ChangesStandAtTheirPlaces, CountsAddUp, EachItemStandsOnce, HunksStandAtTheirPlaces, ShownRowsAreThoseOfHunks, ShownRowsStandNearChanges};
 
 /// What a page shows unfolded is what the hunks of a text have.
 pub fn shown_rows_are_those_of_hunks()
     ensures { ShownRowsAreThoseOfHunks }
+{}
+
+/// A row is shown, behind those in front of it, exactly where it stands near a change: it is one, or one is among the three
+/// rows before it and the three behind it.
+pub fn shown_rows_stand_near_changes()
+    ensures { ShownRowsStandNearChanges }
+{}
+
+/// The hunks are the pieces of the rows of which each row stands near a change.
+pub fn hunks_stand_at_their_places()
+    ensures { HunksStandAtTheirPlaces }
 {}
 
 /// The changes have each row that is one, once, in order.
