@@ -1,5 +1,5 @@
 //! What holds of the columns of any two messages. Each law is its contract; a call does nothing.
-ghost use Rattle.byte_columns.specs.Laws.{ColumnsHaveBothMessages, CommonEndsStandTogether, EqualLengthsPairByPlace, LinesHaveTheColumns, LinesStandOnce, NoneDiffersInTheSame, StretchesAreWalked};
+ghost use Rattle.byte_columns.specs.Laws.{ColumnsHaveBothMessages, CommonEndsStandTogether, EqualLengthsPairByPlace, LinesHaveTheColumns, LinesStandOnce, NoneDiffersInTheSame, StretchesAreOfOneKind};
 
 /// Without gaps the columns are both messages.
 pub fn columns_have_both_messages()
@@ -32,7 +32,7 @@ pub fn lines_stand_once()
     ensures { LinesStandOnce }
 {}
 
-/// The stretches of lines are those that a walk finds.
-pub fn stretches_are_walked()
-    ensures { StretchesAreWalked }
+/// Each stretch is a line that is shown, or a longest run of lines that are not.
+pub fn stretches_are_of_one_kind()
+    ensures { StretchesAreOfOneKind }
 {}

@@ -1,8 +1,8 @@
 -- A number is that of one date alone.
-use Rattle.std.proofs.Common.{◌≡◌, ℕ, zero, suc, ◌+◌, ◌-◌, ◌≤◌, ◌<◌, arith, ap, sym, ◌∙◌, refl, inl, inr}
+use Rattle.std.proofs.Common.{◌≡◌, ℕ, zero, suc, ◌+◌, ◌-◌, ◌≤◌, ◌<◌, arith, ap, sym, ◌∙◌, inl, inr}
 use Rattle.std.proofs.lemmas.Bool.{cases_lt}
 use Rattle.calendar.specs.declared.date.Date.{Date}
-use Rattle.calendar.specs.Dates.{IsDate, date_after, day_number, days_in_month, days_in_year, days_of_months, days_of_years}
+use Rattle.calendar.specs.Dates.{IsDate, date_after, day_number, days_in_year, days_of_months, days_of_years}
 use Rattle.calendar.specs.Laws.{NumberIsOfOneDate}
 use Rattle.calendar.proofs.Days.{one-month, one-year, twelve-months}
 use Rattle.calendar.proofs.NextDays.{after-is}

@@ -1,14 +1,14 @@
 -- The hunks stand at their places.
-use Rattle.std.proofs.Common.{◌≡◌, ℕ, zero, suc, ◌+◌, ◌-◌, ◌≤◌, ◌<◌, min, Bool, true, false, List, [], ◌∷◌, ◌++◌, length, take, drop, get_or, ap, sym, subst, ◌∙◌, arith, refl, inl, inr}
+use Rattle.std.proofs.Common.{◌≡◌, ℕ, zero, suc, ◌+◌, ◌-◌, ◌≤◌, ◌<◌, min, Bool, true, false, List, [], ◌∷◌, ◌++◌, length, take, drop, ap, sym, subst, ◌∙◌, arith, refl, inl, inr}
 use Rattle.std.proofs.lemmas.Bool.{cases_lt}
 use Rattle.std.proofs.lemmas.List.{length-drop}
 use Rattle.std.proofs.Math.Seq.{take-suc}
 use Rattle.uds_difference.specs.declared.row.Row.{Row}
 use Rattle.uds_difference.specs.declared.row.Row.TheVariants.{Same, Changed, OnlyLeft, OnlyRight}
 use Rattle.shown_rows.specs.Folds.{context_behind, is_shown}
-use Rattle.shown_rows.specs.Hunks.{Hunk, hunk_length, hunks, hunks_behind}
-use Rattle.shown_rows.specs.Laws.{AllNear, HasHunks, HunksStandAtTheirPlaces, IsPiece, StandsNearChange}
-use Rattle.shown_rows.specs.Rows.{changes_within, is_change, left_count, left_in, right_count, right_in}
+use Rattle.shown_rows.specs.Hunks.{Hunk, hunk_length, hunks_behind}
+use Rattle.shown_rows.specs.Laws.{AllNear, HasHunks, HunksStandAtTheirPlaces, StandsNearChange}
+use Rattle.shown_rows.specs.Rows.{changes_within, left_in, right_in}
 use Rattle.shown_rows.proofs.ChangePlaces.{AreCounts, one-more}
 use Rattle.shown_rows.proofs.NearChanges.{Since, at-start, near-shown, one-on, row-at, shown-near}
 use Rattle.shown_rows.proofs.ShownRows.{rest_by, rest_of, rest-change, rest-near, rest-none, rest-same, some-rows}

@@ -1,10 +1,9 @@
 -- What a page shows unfolded is what the hunks of a text have.
 use Rattle.std.proofs.Common.{◌≡◌, ℕ, zero, suc, ◌+◌, ◌-◌, ◌≤◌, ◌<◌, min, Bool, true, false, List, [], ◌∷◌, ◌++◌, length, take, ap, sym, ◌∙◌, arith, refl}
-use Rattle.std.specs.Prelude.{◌||◌}
 use Rattle.std.specs.List.{flat_map}
 use Rattle.uds_difference.specs.declared.row.Row.{Row}
 use Rattle.uds_difference.specs.declared.row.Row.TheVariants.{Same, Changed, OnlyLeft, OnlyRight}
-use Rattle.shown_rows.specs.Folds.{context_behind, is_shown, shown_from}
+use Rattle.shown_rows.specs.Folds.{shown_from}
 use Rattle.shown_rows.specs.Hunks.{hunk_length, hunks_behind, rows_to_last_change}
 use Rattle.shown_rows.specs.Laws.{ShownRowsAreThoseOfHunks, rows_of_hunk}
 use Rattle.shown_rows.specs.Rows.{changes_within, is_change, left_in, right_in}

@@ -1,5 +1,5 @@
 //! What holds of any rows. Each law is its contract; a call does nothing.
-ghost use Rattle.shown_rows.specs.Laws.{ChangesHaveEachRow, ChangesStandAtTheirPlaces, CountsAddUp, EachItemStandsOnce, HunksStandAtTheirPlaces, ShownRowsAreThoseOfHunks, ShownRowsStandNearChanges};
+ghost use Rattle.shown_rows.specs.Laws.{ChangesHaveEachRow, ChangesStandAtTheirPlaces, CountsAddUp, HunksStandAtTheirPlaces, ShownRowsAreThoseOfHunks, ShownRowsStandNearChanges};
 
 /// What a page shows unfolded is what the hunks of a text have.
 pub fn shown_rows_are_those_of_hunks()
@@ -30,9 +30,4 @@ pub fn changes_stand_at_their_places()
 /// The counts of the rows add up to those of both sessions.
 pub fn counts_add_up()
     ensures { CountsAddUp }
-{}
-
-/// Each item of both sessions stands in one row, in order.
-pub fn each_item_stands_once()
-    ensures { EachItemStandsOnce }
 {}
