@@ -24,13 +24,13 @@ rest-shown more OnlyLeft rows small shown = rest-change more OnlyLeft rows (chan
 rest-shown more OnlyRight rows small shown = rest-change more OnlyRight rows (changes_within 7 rows) refl refl
 
 -- a row that is not shown is the same, and none was still shown behind the ones before it
-record IsFar (more : ℕ) (row : Row) (rows : List Row) : Type 0 where
-  none : more ≡ 0
-  none_behind : context_behind more row ≡ 0
-  rest : rest_of more (row ∷ rows) ≡ 0
-  far : changes_within 4 (row ∷ rows) ≡ false
+pub record IsFar (more : ℕ) (row : Row) (rows : List Row) : Type 0 where
+  pub none : more ≡ 0
+  pub none_behind : context_behind more row ≡ 0
+  pub rest : rest_of more (row ∷ rows) ≡ 0
+  pub far : changes_within 4 (row ∷ rows) ≡ false
 
-is-far : (more : ℕ) (row : Row) (rows : List Row) → is_shown more (row ∷ rows) ≡ false → IsFar more row rows
+pub is-far : (more : ℕ) (row : Row) (rows : List Row) → is_shown more (row ∷ rows) ≡ false → IsFar more row rows
 is-far zero Same rows not = record {
   none = refl;
   none_behind = refl;

@@ -6,4 +6,5 @@ pub mod ChangeSteps
 pub mod ChangePlaces
 pub mod NearChanges
 pub mod HunkPlaces
+pub mod FoldPlaces
 pub mod Promises

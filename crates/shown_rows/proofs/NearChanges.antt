@@ -125,15 +125,17 @@ module _ (all : List Row) (place : ℕ) (rows : List Row) (is : drop place all �
   ]
   near-shown (suc more) since near = refl
 
-drop-front : (front later : List Row) → drop (length front) (front ++ later) ≡ later
+pub drop-front : (front later : List Row) → drop (length front) (front ++ later) ≡ later
 drop-front [] later = refl
 drop-front (row ∷ front) later = drop-front front later
 
-pub shown_rows_stand_near_changes : ShownRowsStandNearChanges
-shown_rows_stand_near_changes front row later =
+pub since-all : (front later : List Row) → Since (front ++ later) (length front) (more_behind 0 front)
+since-all front later =
     let none : 0 + length front ≡ length front = omega arith in
-    let since = subst (λ (n : ℕ). Since (front ++ (row ∷ later)) n (more_behind 0 front)) none
-    (since-behind (front ++ (row ∷ later)) 0 0 front (row ∷ later) refl (at-start (front ++ (row ∷ later)))) in (
-      shown-near (front ++ (row ∷ later)) (length front) (row ∷ later) (drop-front front (row ∷ later)) (more_behind 0 front) since,
-      near-shown (front ++ (row ∷ later)) (length front) (row ∷ later) (drop-front front (row ∷ later)) (more_behind 0 front) since,
-    )
+    subst (λ (n : ℕ). Since (front ++ later) n (more_behind 0 front)) none (since-behind (front ++ later) 0 0 front later refl (at-start (front ++ later)))
+
+pub shown_rows_stand_near_changes : ShownRowsStandNearChanges
+shown_rows_stand_near_changes front row later = (
+  shown-near (front ++ (row ∷ later)) (length front) (row ∷ later) (drop-front front (row ∷ later)) (more_behind 0 front) (since-all front (row ∷ later)),
+  near-shown (front ++ (row ∷ later)) (length front) (row ∷ later) (drop-front front (row ∷ later)) (more_behind 0 front) (since-all front (row ∷ later)),
+)

@@ -6,3 +6,4 @@ pub use Rattle.shown_rows.proofs.EachChange.{changes_have_each_row}
 pub use Rattle.shown_rows.proofs.ChangePlaces.{changes_stand_at_their_places}
 pub use Rattle.shown_rows.proofs.NearChanges.{shown_rows_stand_near_changes}
 pub use Rattle.shown_rows.proofs.HunkPlaces.{hunks_stand_at_their_places}
+pub use Rattle.shown_rows.proofs.FoldPlaces.{folded_rows_stand_far}

@@ -7,7 +7,7 @@ use Rattle.uds_difference.specs.declared.row.Row.{Row}
 use Rattle.uds_difference.specs.declared.row.Row.TheVariants.{Same, Changed, OnlyLeft, OnlyRight}
 use Rattle.shown_rows.specs.declared.changes.Change.{Change}
 use Rattle.shown_rows.specs.Changes.{changes}
-use Rattle.shown_rows.specs.Folds.{context_behind, is_shown, shown}
+use Rattle.shown_rows.specs.Folds.{context_behind, folded, is_shown, shown}
 use Rattle.shown_rows.specs.Hunks.{Hunk, hunks}
 use Rattle.shown_rows.specs.Rows.{count_of, is_change, left_count, right_count, same_row}
 
@@ -45,6 +45,13 @@ AllNear rows from end = (place : ℕ) → from ≤ place → place < end → Sta
 -- and none of them does
 abbrev pub NoneNear : List Row → ℕ → ℕ → Type 0
 NoneNear rows from end = (place : ℕ) → from ≤ place → place < end → StandsNearChange rows place → ⊥
+
+-- Of rows of which none is still shown for a change in front of them, as many are folded together as there are up to the
+-- next that stands near a change.
+abbrev pub FoldedRowsStandFar : Type 0
+FoldedRowsStandFar = (front later : List Row) → more_behind 0 front ≡ 0
+    → NoneNear (front ++ later) (length front) (length front + folded later)
+    × (folded later < length later → StandsNearChange (front ++ later) (length front + folded later))
 
 -- A hunk is the piece of the rows from one place up to another, with as many items of both sessions before it as stand
 -- there. Each of its rows stands near a change, and the one behind it does not.

@@ -1,5 +1,5 @@
 //! What holds of any rows. Each law is its contract; a call does nothing.
-ghost use Rattle.shown_rows.specs.Laws.{ChangesHaveEachRow, ChangesStandAtTheirPlaces, CountsAddUp, HunksStandAtTheirPlaces, ShownRowsAreThoseOfHunks, ShownRowsStandNearChanges};
+ghost use Rattle.shown_rows.specs.Laws.{ChangesHaveEachRow, ChangesStandAtTheirPlaces, CountsAddUp, FoldedRowsStandFar, HunksStandAtTheirPlaces, ShownRowsAreThoseOfHunks, ShownRowsStandNearChanges};
 
 /// What a page shows unfolded is what the hunks of a text have.
 pub fn shown_rows_are_those_of_hunks()
@@ -10,6 +10,11 @@ pub fn shown_rows_are_those_of_hunks()
 /// rows before it and the three behind it.
 pub fn shown_rows_stand_near_changes()
     ensures { ShownRowsStandNearChanges }
+{}
+
+/// As many rows are folded together as there are up to the next that stands near a change.
+pub fn folded_rows_stand_far()
+    ensures { FoldedRowsStandFar }
 {}
 
 /// The hunks are the pieces of the rows of which each row stands near a change.
