@@ -5,4 +5,7 @@ pub mod BothMessages
 pub mod Counting
 pub mod LineNumbers
 pub mod LinePlaces
+pub mod StretchKinds
+pub mod CommonEnds
+pub mod LineColumns
 pub mod Promises

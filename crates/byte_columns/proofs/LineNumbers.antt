@@ -3,7 +3,7 @@ use Rattle.std.proofs.Common.{◌≡◌, ℕ, zero, suc, ◌+◌, ◌-◌, ◌<�
 use Rattle.std.specs.Prelude.{if◌then◌else◌}
 use Rattle.std.specs.List.{flat_map, range_with_len}
 use Rattle.byte_columns.specs.declared.column.Column.{Column}
-use Rattle.byte_columns.specs.Laws.{LinesStandOnce, StretchesAreWalked, numbers_of}
+use Rattle.byte_columns.specs.Laws.{LinesStandOnce, numbers_of}
 use Rattle.byte_columns.specs.Lines.{Stretch, shown, folded, folded_from, is_shown, line_count, stretches_from, with_folded}
 
 -- the first stretch begins with the first line
@@ -17,7 +17,7 @@ folded-begins number [] = refl
 folded-begins number (shown first ∷ later) = refl
 folded-begins number (folded first count ∷ later) = refl
 
-begins : (columns : List Column) (number count : ℕ) → BeginsWith number (stretches_from columns number count)
+pub begins : (columns : List Column) (number count : ℕ) → BeginsWith number (stretches_from columns number count)
 begins columns number zero = tt
 begins columns number (suc count) = by (is_shown columns number)
   where
@@ -98,6 +98,14 @@ some-walked : (columns : List Column) (number more count : ℕ) → Walked colum
     → stretches_from columns number more ≡ folded number count ∷ stretches_from columns (number + count) (more - count)
 some-walked columns number more zero is some = absurd (omega arith)
 some-walked columns number more (suc count) is some = is
+
+-- the stretches are those that a walk over the lines finds: one that is shown, or so many that are folded together
+abbrev pub StretchesAreWalked : Type 0
+StretchesAreWalked = (columns : List Column) (number more : ℕ)
+    → (is_shown columns number ≡ true → stretches_from columns number (suc more) ≡ shown number ∷ stretches_from columns (number + 1) more)
+    × (0 < folded_from columns number more
+    → stretches_from columns number more
+    ≡ folded number (folded_from columns number more) ∷ stretches_from columns (number + folded_from columns number more) (more - folded_from columns number more))
 
 pub stretches_are_walked : StretchesAreWalked
 stretches_are_walked columns number more =

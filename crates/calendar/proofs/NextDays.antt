@@ -1,9 +1,9 @@
 -- One day after another.
-use Rattle.std.proofs.Common.{◌≡◌, ℕ, zero, suc, ◌+◌, ◌-◌, ◌≤◌, ◌<◌, Bool, true, false, arith, ap, sym, ◌∙◌, refl}
+use Rattle.std.proofs.Common.{◌≡◌, ℕ, zero, suc, ◌+◌, ◌-◌, ◌≤◌, ◌<◌, Bool, true, false, arith, ap, refl}
 use Rattle.std.specs.Prelude.{nat_lt, nat_eq, ◌||◌, if◌then◌else◌}
 use Rattle.std.proofs.lemmas.Bool.{ltb-true, ltb-false}
 use Rattle.calendar.specs.declared.date.Date.{Date}
-use Rattle.calendar.specs.Dates.{IsDate, date, date_after, day_number, days_in_month, days_in_year, days_of_months, days_of_years, is_leap, next_day}
+use Rattle.calendar.specs.Dates.{IsDate, date, date_after, day_number, days_in_month, days_of_months, is_leap, next_day}
 use Rattle.calendar.proofs.Days.{no-months, no-years, one-month, one-year, twelve-months}
 
 -- each month has a day

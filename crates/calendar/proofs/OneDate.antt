@@ -1,8 +1,9 @@
 -- A number is that of one date alone.
-use Rattle.std.proofs.Common.{◌≡◌, ℕ, zero, suc, ◌+◌, ◌-◌, ◌≤◌, ◌<◌, arith, ap, sym, ◌∙◌, refl, inl, inr}
+use Rattle.std.proofs.Common.{◌≡◌, ℕ, zero, suc, ◌+◌, ◌-◌, ◌≤◌, ◌<◌, arith, ap, sym, ◌∙◌, inl, inr}
 use Rattle.std.proofs.lemmas.Bool.{cases_lt}
 use Rattle.calendar.specs.declared.date.Date.{Date}
-use Rattle.calendar.specs.Dates.{IsDate, date_after, day_number, days_in_month, days_in_year, days_of_months, days_of_years}
+use Rattle.calendar.specs.Dates.{IsDate, date_after, day_number, days_in_year, days_of_months, days_of_years}
+use Rattle.calendar.specs.Laws.{NumberIsOfOneDate}
 use Rattle.calendar.proofs.Days.{one-month, one-year, twelve-months}
 use Rattle.calendar.proofs.NextDays.{after-is}
 
@@ -71,8 +72,8 @@ no-earlier-month a b is_a is_b year same = elim (cases_lt a.month b.month) [
       absurd (omega arith)
 ]
 
-pub one-date : (a b : Date) → IsDate a → IsDate b → day_number a ≡ day_number b → a ≡ b
-one-date a b is_a is_b same =
+pub number_is_of_one_date : NumberIsOfOneDate
+number_is_of_one_date a b is_a is_b same =
     let one = no-earlier-year a b is_a is_b same in
     let other = no-earlier-year b a is_b is_a (sym same) in
     let year : a.year ≡ b.year = omega arith in
@@ -88,4 +89,4 @@ one-date a b is_a is_b same =
     λ i. record { year = year i; month = month i; day = day i }
 
 pub is-after : (here : Date) (days : ℕ) → IsDate here → day_number here ≡ days → here ≡ date_after days
-is-after here days is number = one-date here (date_after days) is (after-is days).date (number ∙ sym (after-is days).number_is)
+is-after here days is number = number_is_of_one_date here (date_after days) is (after-is days).date (number ∙ sym (after-is days).number_is)

@@ -8,6 +8,7 @@
 #![tactic(auto)]
 
 mod date;
+pub mod laws;
 mod time;
 
 pub use date::{Date, date_of};

@@ -34,10 +34,10 @@ run-end kind rows k past = let none = ap (run_length kind) (drop_all k rows past
 
 -- ---- rows that are folded
 
-fold-first : (row : Row) (later : List Row) → is_shown 0 (row ∷ later) ≡ true → folded (row ∷ later) ≡ 0
+pub fold-first : (row : Row) (later : List Row) → is_shown 0 (row ∷ later) ≡ true → folded (row ∷ later) ≡ 0
 fold-first row later e = rw e refl
 
-fold-next : (row : Row) (later : List Row) → is_shown 0 (row ∷ later) ≡ false → folded (row ∷ later) ≡ suc (folded later)
+pub fold-next : (row : Row) (later : List Row) → is_shown 0 (row ∷ later) ≡ false → folded (row ∷ later) ≡ suc (folded later)
 fold-next row later e = rw e refl
 
 pub fold-here : (rows : List Row) (k : ℕ) → k < length rows → is_shown 0 (take (length rows - k) (drop k rows)) ≡ true → k + folded (drop k rows) ≡ k

@@ -1,11 +1,11 @@
 -- The changes have each row that is one, once, in order.
-use Rattle.std.proofs.Common.{◌≡◌, ℕ, suc, ◌+◌, true, false, List, [], ◌∷◌, ◌++◌, replicate, ap, sym, refl}
+use Rattle.std.proofs.Common.{◌≡◌, ℕ, ◌+◌, List, [], ◌∷◌, ◌++◌, replicate, ap, sym, refl}
 use Rattle.std.specs.List.{filter, flat_map}
 use Rattle.uds_difference.specs.declared.row.Row.{Row}
 use Rattle.uds_difference.specs.declared.row.Row.TheVariants.{Same, Changed, OnlyLeft, OnlyRight}
 use Rattle.shown_rows.specs.Changes.{changes_from, run_length}
 use Rattle.shown_rows.specs.Laws.{ChangesHaveEachRow, rows_of_change}
-use Rattle.shown_rows.specs.Rows.{is_change, left_in, right_in}
+use Rattle.shown_rows.specs.Rows.{is_change}
 
 -- the rows at the head that belong to a change which began before them
 abbrev pub pending : Row → List Row → List Row

@@ -2,6 +2,9 @@ pub mod RowSteps
 pub mod Counted
 pub mod ShownRows
 pub mod EachChange
-pub mod EachItem
 pub mod ChangeSteps
+pub mod ChangePlaces
+pub mod NearChanges
+pub mod HunkPlaces
+pub mod FoldPlaces
 pub mod Promises

@@ -1,10 +1,9 @@
 -- What a page shows unfolded is what the hunks of a text have.
 use Rattle.std.proofs.Common.{◌≡◌, ℕ, zero, suc, ◌+◌, ◌-◌, ◌≤◌, ◌<◌, min, Bool, true, false, List, [], ◌∷◌, ◌++◌, length, take, ap, sym, ◌∙◌, arith, refl}
-use Rattle.std.specs.Prelude.{◌||◌}
 use Rattle.std.specs.List.{flat_map}
 use Rattle.uds_difference.specs.declared.row.Row.{Row}
 use Rattle.uds_difference.specs.declared.row.Row.TheVariants.{Same, Changed, OnlyLeft, OnlyRight}
-use Rattle.shown_rows.specs.Folds.{context_behind, is_shown, shown_from}
+use Rattle.shown_rows.specs.Folds.{shown_from}
 use Rattle.shown_rows.specs.Hunks.{hunk_length, hunks_behind, rows_to_last_change}
 use Rattle.shown_rows.specs.Laws.{ShownRowsAreThoseOfHunks, rows_of_hunk}
 use Rattle.shown_rows.specs.Rows.{changes_within, is_change, left_in, right_in}
@@ -71,7 +70,7 @@ shown-change (suc context) row rows is = rw is refl
 near-change : (count : ℕ) (row : Row) (rows : List Row) → is_change row ≡ true → changes_within (suc count) (row ∷ rows) ≡ true
 near-change count row rows is = rw is refl
 
-rest-change : (context : ℕ) (row : Row) (rows : List Row) (near : Bool) → changes_within 7 rows ≡ near → is_change row ≡ true
+pub rest-change : (context : ℕ) (row : Row) (rows : List Row) (near : Bool) → changes_within 7 rows ≡ near → is_change row ≡ true
     → rest_of context (row ∷ rows) ≡ suc (rest_of 3 rows)
 rest-change context row rows near e is =
     let four : context + 4 ≡ suc (context + 3) = omega arith in
@@ -83,7 +82,7 @@ rest-change context row rows near e is =
     behind false e = length-last row rows e ∙ ap (λ (b : Bool). suc (rest_by b 3 rows)) (sym e)
 
 -- a row that is the same, behind a change
-rest-same : (context : ℕ) (rows : List Row) (near : Bool) → context ≤ 2 → changes_within (context + 4) rows ≡ near
+pub rest-same : (context : ℕ) (rows : List Row) (near : Bool) → context ≤ 2 → changes_within (context + 4) rows ≡ near
     → rest_of (suc context) (Same ∷ rows) ≡ suc (rest_of context rows)
 rest-same context rows true small e =
     let four : suc context + 4 ≡ suc (context + 4) = omega arith in
@@ -100,7 +99,7 @@ rest-same context rows false small e =
     ∙ ap (λ (b : Bool). suc (rest_by b context rows)) (sym e)
 
 -- a row that is the same, with a change among the three behind it
-rest-near : (rows : List Row) → changes_within 3 rows ≡ true → rest_of 0 (Same ∷ rows) ≡ suc (rest_of 0 rows)
+pub rest-near : (rows : List Row) → changes_within 3 rows ≡ true → rest_of 0 (Same ∷ rows) ≡ suc (rest_of 0 rows)
 rest-near rows near =
     ap (λ (b : Bool). rest_by b 0 (Same ∷ rows)) near
     ∙ length-more Same rows (nearer 3 7 rows (omega arith) near)
@@ -116,7 +115,7 @@ one-less (suc count) i j row rows some =
     let less : count ≡ suc count - 1 = omega arith in
     ap (λ (n : ℕ). flat n (i + left_in row) (j + right_in row) rows) less
 
-some-rows : (row : Row) (rows : List Row) (near : Bool) → changes_within 7 rows ≡ near → 0 < hunk_length (row ∷ rows)
+pub some-rows : (row : Row) (rows : List Row) (near : Bool) → changes_within 7 rows ≡ near → 0 < hunk_length (row ∷ rows)
 some-rows row rows true e = let more = length-more row rows e in omega arith
 some-rows row rows false e = let more = length-last row rows e in omega arith
 
@@ -156,7 +155,7 @@ one-same : (i j : ℕ) (rows : List Row) (near : Bool) → changes_within 3 rows
 one-same i j rows true e rest = one-shown 0 0 i j Same rows (rest-near rows e) (shown-near rows e) rest
 one-same i j rows false e rest = one-folded i j rows e rest
 
-rest-none : (context : ℕ) → rest_of context [] ≡ 0
+pub rest-none : (context : ℕ) → rest_of context [] ≡ 0
 rest-none context =
     let few : min context (length {A = Row} []) ≡ 0 = omega arith in
     ap (λ (b : Bool). rest_by b context []) (none-within (context + 4)) ∙ few

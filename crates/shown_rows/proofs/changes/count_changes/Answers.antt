@@ -1,4 +1,4 @@
-use Rattle.std.proofs.Common.{◌+◌, arith, sym, ◌∙◌}
+use Rattle.std.proofs.Common.{arith, sym, ◌∙◌}
 use Rattle.shown_rows.proofs.ChangeSteps.{change-here, no-change-here, none-left}
 use Rattle.shown_rows.proofs.changes.count_changes.Goals as goal
 use Rattle.shown_rows.proofs.changes.count_changes.Goals.{then-begins_change, else-begins_change}
