@@ -3,7 +3,8 @@ ghost use Rattle.trace_report.specs.BriefRows.{brief_message};
 
 use crate::cells::Side;
 use crate::data::BriefData;
-use crate::message_rows::{After, MessageFront, say_message_row};
+use crate::message_rows::{MessageFront, say_message_row};
+use crate::message_words::After;
 use crate::roles::MessageRole;
 use crate::row::MessagePlace;
 use crate::sorts::message_needs_attention;

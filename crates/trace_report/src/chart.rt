@@ -6,7 +6,8 @@ ghost use Rattle.trace_report.specs.Rows.{RowValue};
 ghost use Rattle.trace_report.specs.proving.Following.{IsChartOf, row_if, rows_in};
 ghost use Rattle.trace_report.specs.proving.Pages.{row_of};
 
-use crate::blocks::{Blocks, Opening, begins_exchange, is_brief, no_blocks, one_more_row};
+use crate::block_fronts::Opening;
+use crate::blocks::{Blocks, begins_exchange, is_brief, no_blocks, one_more_row};
 use crate::brief_rows::say_brief_message;
 use crate::follower::NewRows;
 use crate::lost_rows::{say_dropped_row, say_ended_row, say_no_answer_row, say_unfinished_row};
