@@ -2,7 +2,7 @@
 
 use crate::blocks::{Blocks, OPEN_BLOCKS, begins_block, begins_body, begins_exchange};
 use crate::durations::Seconds;
-use crate::row::{MessagePlace, Row};
+use crate::row::{MessagePlace, Missing, Row};
 use text_parts::{Either, Part, When, say};
 use trace_canon::reception_starts::FramePlace;
 use trace_io::TextSink;
@@ -127,13 +127,8 @@ impl<'a> Part for BlockTitle<'a> {
     fn say<S: TextSink>(self, out: &mut S) {
         let BlockTitle(origin, row) = self;
         match row {
-            Row::Message { place, .. } => say(out, MessageTitle(origin, place)),
-            Row::NoAnswer { number, .. } => say(out, ("From item ", Number(number))),
-            Row::Dropped { place, .. } | Row::Ended { place, .. } => say(
-                out,
-                FromPlace(origin, place),
-            ),
-            Row::Unfinished { .. } => say(out, "At the end of the log"),
+            Row::Message { sent, .. } => say(out, MessageTitle(origin, sent.place)),
+            Row::Missing(missing) => say(out, MissingTitle(origin, missing)),
         }
     }
 }
@@ -160,6 +155,29 @@ impl Part for MessageTitle {
                 " s",
             ),
         );
+    }
+}
+
+/// The title of a block that begins with the row of what is missing.
+#[derive(Clone, Copy)]
+struct MissingTitle(u64, Missing);
+
+impl Part for MissingTitle {
+    ghost use Rattle.trace_report.specs.Blocks.{block_title};
+    ghost use Rattle.trace_report.specs.proving.Pages.{missing_of};
+
+    ghost text = { λ title. block_title title.0 (missing_of title.1) };
+
+    fn say<S: TextSink>(self, out: &mut S) {
+        let MissingTitle(origin, missing) = self;
+        match missing {
+            Missing::NoAnswer { number, .. } => say(out, ("From item ", Number(number))),
+            Missing::Dropped { place, .. } | Missing::Ended { place, .. } => say(
+                out,
+                FromPlace(origin, place),
+            ),
+            Missing::Unfinished { .. } => say(out, "At the end of the log"),
+        }
     }
 }
 

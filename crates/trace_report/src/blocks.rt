@@ -34,9 +34,8 @@ pub(crate) fn begins_exchange(row: Row<'_>) -> bool
     ensures { result ≡ Spec.begins_exchange (row_of row.entry) }
 {
     match row {
-        Row::Message { role, .. } => is_request_role(role),
-        Row::NoAnswer { .. } | Row::Dropped { .. } | Row::Ended { .. } | Row::Unfinished { .. } =>
-            false,
+        Row::Message { sent, .. } => is_request_role(sent.role),
+        Row::Missing(_) => false,
     }
 }
 

@@ -6,13 +6,14 @@ ghost use Rattle.trace_report.specs.proving.Keeping as Keeping;
 ghost use Rattle.trace_report.specs.proving.Lending.{item_of, message_of};
 
 use crate::item_places::ItemPlace;
-use crate::kept_rows::{KeptMessage, KeptRow};
+use crate::kept_rows::KeptRow;
+use crate::row::SentMessage;
 use uds_exchange::Messages;
 
 /// A message of a session, lent.
 #[derive(Clone, Copy)]
 pub struct RowMessage<'a> {
-    pub sent: &'a KeptMessage,
+    pub sent: &'a SentMessage,
     pub bytes: &'a [u8],
 }
 
@@ -82,13 +83,10 @@ fn message_of_row<'a>(messages: &'a Messages, row: &'a KeptRow) -> Option<RowMes
     ensures { option_map message_of result ≡ message_in (Keeping.row_at messages.now row.now) }
 {
     match row {
-        KeptRow::Message(sent) => Some(RowMessage {
+        KeptRow::Message { sent, bytes } => Some(RowMessage {
             sent,
-            bytes: messages.message(sent.bytes),
+            bytes: messages.message(*bytes),
         }),
-        KeptRow::NoAnswer { .. }
-        | KeptRow::Dropped { .. }
-        | KeptRow::Ended { .. }
-        | KeptRow::Unfinished { .. } => None,
+        KeptRow::Missing(_) => None,
     }
 }

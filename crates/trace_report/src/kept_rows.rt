@@ -11,49 +11,18 @@ ghost use Rattle.trace_report.specs.proving.Pages.{row_of};
 use crate::counts::SortCounts;
 use crate::item_places::{ItemPlace, note_row};
 use crate::items::{PlacedItem, item_at};
-use crate::roles::MessageRole;
-use crate::row::{MessagePlace, Row};
+use crate::row::{Missing, Row, SentMessage};
 use crate::sorts::sort_of;
-use direction::Dir;
-use isotp_receive::{Ended, Reason};
 use std::alloc::{AllocError, Global};
 use std::fmt::{self, Debug, Formatter, Write};
 use std::marker::Model;
-use trace_canon::reception_starts::FramePlace;
-use uds_exchange::Messages;
+use uds_exchange::{Messages, Span};
 
-/// A message that is kept: what a row tells of it, and where its bytes lie.
-#[derive(Clone, Copy)]
-pub struct KeptMessage {
-    pub role: MessageRole,
-    pub dir: Dir,
-    pub place: MessagePlace,
-    pub bytes: uds_exchange::Span,
-}
-
-/// A row that is kept. The variants are those of a row that is lent.
+/// A row that is kept: with the bytes of its message where they lie.
 #[derive(Clone, Copy)]
 pub(crate) enum KeptRow {
-    Message(KeptMessage),
-    NoAnswer {
-        number: u64,
-        silent: bool,
-    },
-    Dropped {
-        place: FramePlace,
-        dir: Dir,
-        linked: bool,
-        reason: Reason,
-    },
-    Ended {
-        place: FramePlace,
-        ended: Ended,
-    },
-    Unfinished {
-        dir: Dir,
-        line: u64,
-        len: u32,
-    },
+    Message { sent: SentMessage, bytes: Span },
+    Missing(Missing),
 }
 
 /// The rows of a session, seen as their list. What they tell of items and of sorts is kept as they come, and not looked
@@ -175,34 +144,11 @@ fn laid(messages: &mut Messages, row: Row<'_>) -> Result<KeptRow, AllocError>
     ensures err { OnErr result (messages.new ≡ messages.old) }
 {
     match row {
-        Row::Message {
-            role,
-            dir,
-            place,
-            message,
-        } => {
+        Row::Message { sent, message } => {
             let bytes = messages.append(message)?;
-            Ok(KeptRow::Message(KeptMessage {
-                role,
-                dir,
-                place,
-                bytes,
-            }))
+            Ok(KeptRow::Message { sent, bytes })
         }
-        Row::NoAnswer { number, silent } => Ok(KeptRow::NoAnswer { number, silent }),
-        Row::Dropped {
-            place,
-            dir,
-            linked,
-            reason,
-        } => Ok(KeptRow::Dropped {
-            place,
-            dir,
-            linked,
-            reason,
-        }),
-        Row::Ended { place, ended } => Ok(KeptRow::Ended { place, ended }),
-        Row::Unfinished { dir, line, len } => Ok(KeptRow::Unfinished { dir, line, len }),
+        Row::Missing(missing) => Ok(KeptRow::Missing(missing)),
     }
 }
 
@@ -213,26 +159,11 @@ fn row_at<'a>(messages: &'a Messages, row: KeptRow) -> Row<'a>
     ensures { row_of result ≡ Keeping.row_at messages.now row }
 {
     match row {
-        KeptRow::Message(sent) => Row::Message {
-            role: sent.role,
-            dir: sent.dir,
-            place: sent.place,
-            message: messages.message(sent.bytes),
+        KeptRow::Message { sent, bytes } => Row::Message {
+            sent,
+            message: messages.message(bytes),
         },
-        KeptRow::NoAnswer { number, silent } => Row::NoAnswer { number, silent },
-        KeptRow::Dropped {
-            place,
-            dir,
-            linked,
-            reason,
-        } => Row::Dropped {
-            place,
-            dir,
-            linked,
-            reason,
-        },
-        KeptRow::Ended { place, ended } => Row::Ended { place, ended },
-        KeptRow::Unfinished { dir, line, len } => Row::Unfinished { dir, line, len },
+        KeptRow::Missing(missing) => Row::Missing(missing),
     }
 }
 

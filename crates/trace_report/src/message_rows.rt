@@ -6,8 +6,7 @@ use crate::data::Data;
 use crate::durations::Seconds;
 use crate::message_words::{Note, RoleWords};
 use crate::roles::{MessageRole, begins_item};
-use crate::row::{Arrow, MessagePlace};
-use direction::Dir;
+use crate::row::{Arrow, MessagePlace, SentMessage};
 use text_parts::{Either, Part, say};
 use trace_io::TextSink;
 use trace_text::Number;
@@ -15,14 +14,13 @@ use trace_text::Number;
 /// Says the row of a message, in a page whose first frame has the time `origin`.
 pub(crate) fn say_message_row<S: TextSink>(
     origin: u64,
-    role: MessageRole,
-    dir: Dir,
-    place: MessagePlace,
+    sent: SentMessage,
     message: &[u8],
     out: &mut S,
 )
-    ensures { S.says out.old (message_row origin role dir place message.now) out.new }
+    ensures { S.says out.old (message_row origin sent.role sent.dir sent.place message.now) out.new }
 {
+    let SentMessage { role, dir, place } = sent;
     say(
         out,
         (
