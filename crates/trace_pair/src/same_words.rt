@@ -1,6 +1,7 @@
 //! The words of a verdict over two sessions that don't differ.
 use text_parts::{Either, Part, say};
 use trace_io::TextSink;
+use trace_report::VerdictHead;
 use trace_text::Number;
 
 /// None of the two has an item.
@@ -16,7 +17,8 @@ impl Part for NothingVerdict {
         say(
             out,
             (
-                "<section id=\"verdict\" class=\"warn\">\n<h2><span aria-hidden=\"true\">!</span> Neither session has an item</h2>\n",
+                VerdictHead("warn", "!"),
+                "Neither session has an item</h2>\n",
                 "<p>So they can't differ. <code>udsnorm find</code> names the identifiers of a log.</p>\n",
             ),
         );
@@ -41,23 +43,33 @@ impl Part for SameHeading {
         if self.exchanged {
             say(
                 out,
-                "<section id=\"verdict\" class=\"warn\">\n<h2><span aria-hidden=\"true\">!</span> The two sessions are the same, but tester and unit look exchanged</h2>\n",
+                (
+                    VerdictHead("warn", "!"),
+                    "The two sessions are the same, but tester and unit look exchanged</h2>\n",
+                ),
             );
         } else if !self.asked {
             say(
                 out,
-                "<section id=\"verdict\" class=\"warn\">\n<h2><span aria-hidden=\"true\">!</span> The two sessions are the same, and neither has a request</h2>\n",
+                (
+                    VerdictHead("warn", "!"),
+                    "The two sessions are the same, and neither has a request</h2>\n",
+                ),
             );
         } else if self.left_clean && self.right_clean {
             say(
                 out,
-                "<section id=\"verdict\" class=\"good\">\n<h2><span aria-hidden=\"true\">=</span> The two sessions are the same</h2>\n",
+                (
+                    VerdictHead("good", "="),
+                    "The two sessions are the same</h2>\n",
+                ),
             );
         } else {
             say(
                 out,
                 (
-                    "<section id=\"verdict\" class=\"warn\">\n<h2><span aria-hidden=\"true\">=</span> The two sessions are the same as far as they are recorded: ",
+                    VerdictHead("warn", "="),
+                    "The two sessions are the same as far as they are recorded: ",
                     UncleanWords(!self.left_clean, !self.right_clean),
                     "</h2>\n",
                 ),

@@ -22,7 +22,7 @@
 //! | the text of a row | `cells`, `message_rows`, `message_words`, `brief_rows`, `lost_rows`, `loss_words` | `Rows`, `MessageRows`, `BriefRows`, `LostRows` |
 //! | the chart: rows one after another, in blocks that fold | `blocks`, `block_fronts`, `chart` | `Blocks`, `Chart` |
 //! | the rows of a frame, by what the frames before it were | `follower`, `places`, `frames`, `times` | `Events` |
-//! | the verdict of a log | `verdict`, `links`, `counts`, `reasons` | `Links`, `Counts`, `Verdict` |
+//! | the verdict of a log | `verdict_head`, `verdict`, `links`, `counts`, `reasons` | `Links`, `Counts`, `Verdict` |
 //! | why a log is refused | `looks`, `first_bytes`, `cause`, `refusal` | `Looks`, `Causes`, `Verdict` |
 //! | what stands before the rows and behind them | `style`, `front`, `log_names`, `help` | `Style`, `Front`, `Help` |
 //! | [`report`] | `reporter` | `Page` |
@@ -74,6 +74,7 @@ mod targets;
 mod times;
 mod two;
 mod verdict;
+mod verdict_head;
 
 pub use block_fronts::ChartHead;
 pub use cause::{CauseLine, CauseOf, CauseRow, RefusalCause, cause_of, row_of_cause};
@@ -103,3 +104,4 @@ pub use session::Session;
 pub use style::report_style;
 pub use two::Two;
 pub use verdict::{SpanOf, is_called_clean};
+pub use verdict_head::VerdictHead;
