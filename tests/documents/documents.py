@@ -4,7 +4,7 @@
     tests/documents/documents.py [TEST..]
 
 - the picture of the crates is the one that scripts/draw-crates draws of crates.txt, and names each crate and dependency;
-- the styles that the program embeds in pages are those of crates/trace_report/style/report.css and crates/trace_pair/style/pair.css;
+- the styles that the program embeds in pages are those of crates/trace_report/style/ and crates/trace_pair/style/;
 - each link of each document to a file of the repository, and to a heading in it, leads somewhere;
 - no line of their prose has more than 120 characters, and each table has a head;
 - the source files that documents name are there;

@@ -142,16 +142,16 @@ const EACH_ROW: &str = "\
 
 /// What is printed of it: each type with its name and its fields, the bytes of a message as numbers.
 const PRINTED: &str = "Session { rows: [\
-Message { role: Request, dir: Tester, place: MessagePlace { item: 1, \
-first: FramePlace { line: 1, micros: 0 }, last: FramePlace { line: 1, micros: 0 }, frames: 1 }, message: [34, 241, 144] }, \
-Ended { place: FramePlace { line: 3, micros: 2000 }, ended: Ended { begun_line: 2, len: 8, dir: Unit, cause: NewStart } }, \
-Message { role: Positive { asked: 0 }, dir: Unit, place: MessagePlace { item: 1, \
-first: FramePlace { line: 3, micros: 2000 }, last: FramePlace { line: 3, micros: 2000 }, frames: 1 }, message: [98, 241, 144, 65] }, \
-Dropped { place: FramePlace { line: 4, micros: 3000 }, dir: Unit, linked: true, reason: NextUnexpected }, \
-Message { role: Request, dir: Tester, place: MessagePlace { item: 2, \
-first: FramePlace { line: 5, micros: 4000 }, last: FramePlace { line: 5, micros: 4000 }, frames: 1 }, message: [34, 241, 145] }, \
-Unfinished { dir: Unit, line: 6, len: 10 }, \
-NoAnswer { number: 2, silent: false }], \
+Message { sent: SentMessage { role: Request, dir: Tester, place: MessagePlace { item: 1, \
+first: FramePlace { line: 1, micros: 0 }, last: FramePlace { line: 1, micros: 0 }, frames: 1 } }, message: [34, 241, 144] }, \
+Missing(Ended { place: FramePlace { line: 3, micros: 2000 }, ended: Ended { begun_line: 2, len: 8, dir: Unit, cause: NewStart } }), \
+Message { sent: SentMessage { role: Positive { asked: 0 }, dir: Unit, place: MessagePlace { item: 1, \
+first: FramePlace { line: 3, micros: 2000 }, last: FramePlace { line: 3, micros: 2000 }, frames: 1 } }, message: [98, 241, 144, 65] }, \
+Missing(Dropped { place: FramePlace { line: 4, micros: 3000 }, dir: Unit, linked: true, reason: NextUnexpected }), \
+Message { sent: SentMessage { role: Request, dir: Tester, place: MessagePlace { item: 2, \
+first: FramePlace { line: 5, micros: 4000 }, last: FramePlace { line: 5, micros: 4000 }, frames: 1 } }, message: [34, 241, 145] }, \
+Missing(Unfinished { dir: Unit, line: 6, len: 10 }), \
+Missing(NoAnswer { number: 2, silent: false })], \
 summary: Summary { lines: 6, frames: 6, tester_frames: 2, unit_frames: 4, messages: 3, dropped: 1, ended: 1, unfinished: 1, \
 pending: 0, ends_in_line_feed: true, looks_exchanged: false }, times: Some(Times { first: 0, last: 5000 }) }";
 

@@ -10,7 +10,7 @@ use Rattle.trace_report.specs.Front.{cut_notice, identifiers_text, name_text, pa
 use Rattle.trace_report.specs.Kept.{TwoValue}
 use Rattle.trace_report.specs.Session.{SessionValue}
 use Rattle.trace_report.specs.Sorts.{counts_in}
-use Rattle.trace_report.specs.Verdict.{refusal_words, span_of}
+use Rattle.trace_report.specs.Verdict.{refusal_words, span_of, verdict_head}
 use Rattle.trace_report.specs.declared.cause.RefusalCause.{RefusalCause}
 use Rattle.trace_run.specs.Script.{GlimpseValue}
 use Rattle.uds_difference.specs.Bound.{bound_for}
@@ -79,7 +79,7 @@ page_of title left right =
 -- the page where this log is refused
 abbrev pub refused_page : TitleValue → Log → Fault → Option RefusalCause → List ℕ
 refused_page title log why cause =
-    front title 0 ++ codes "<section id=\"verdict\" class=\"bad\">\n<h2><span aria-hidden=\"true\">&#10005;</span> " ++ letter log
+    front title 0 ++ verdict_head (codes "bad") (codes "&#10005;") ++ letter log
     ++ codes " is refused, so nothing is compared</h2>\n<p><em>" ++ refusal_words why
     ++ codes ".</em> A report of this log alone shows the lines before that.</p>\n" ++ cause_line cause
     ++ codes "</section>\n<main>\n<section id=\"items\">\n<h2>Items</h2>\n<p>Nothing is compared.</p>\n</section>\n</main>\n" ++ help_text

@@ -10,6 +10,7 @@ use Rattle.shown_rows.specs.Changes.{changes}
 use Rattle.shown_rows.specs.Rows.{count_of, differs}
 use Rattle.shown_rows.specs.declared.changes.Change.{Change}
 use Rattle.trace_report.specs.Session.{SessionValue}
+use Rattle.trace_report.specs.Verdict.{verdict_head}
 use Rattle.trace_pair.specs.Losses.{losses_from}
 use Rattle.trace_pair.specs.Sessions.{values_in}
 
@@ -36,7 +37,7 @@ same_words count = if count == 0 then codes "No item is the same." else if count
 -- the heading of sessions that differ, by how many changes and rows of each kind there are
 abbrev pub different_heading : ℕ → ℕ → ℕ → ℕ → ℕ → List ℕ
 different_heading differences same left right changed =
-    codes "<section id=\"verdict\" class=\"warn\">\n<h2><span aria-hidden=\"true\">&#8800;</span> " ++ differences_word differences ++ counts_words left right changed
+    verdict_head (codes "warn") (codes "&#8800;") ++ differences_word differences ++ counts_words left right changed
     ++ codes "</h2>\n<p>" ++ same_words same ++ codes " <a href=\"#difference\">" ++ (if differences == 1 then codes "See it." else codes "See the first.") ++ codes "</a></p>\n"
 
 -- Loss.
@@ -131,7 +132,7 @@ is_exchange (stray side bytes) = false
 -- the verdict where none of the two sessions has an item
 abbrev pub nothing_verdict : List ℕ
 nothing_verdict =
-    codes "<section id=\"verdict\" class=\"warn\">\n<h2><span aria-hidden=\"true\">!</span> Neither session has an item</h2>\n"
+    verdict_head (codes "warn") (codes "!") ++ codes "Neither session has an item</h2>\n"
     ++ codes "<p>So they can't differ. Below stands what each recording has.</p>\n"
 
 -- how far two sessions are known to be the same, where a log is not clean, by whether each is
@@ -151,8 +152,8 @@ is_beyond_doubt exchanged asked left_clean right_clean = not exchanged && (asked
 
 -- the start of the heading of sessions that are the same: in green only where they are so without a doubt
 abbrev pub same_start : Bool → List ℕ
-same_start true = codes "<section id=\"verdict\" class=\"good\">\n<h2><span aria-hidden=\"true\">=</span> The two sessions are the same"
-same_start false = codes "<section id=\"verdict\" class=\"warn\">\n<h2><span aria-hidden=\"true\">!</span> The two sessions are the same"
+same_start beyond_doubt =
+    (if beyond_doubt then verdict_head (codes "good") (codes "=") else verdict_head (codes "warn") (codes "!")) ++ codes "The two sessions are the same"
 
 -- the heading of sessions that are the same
 abbrev pub same_heading : Bool → Bool → Bool → Bool → List ℕ

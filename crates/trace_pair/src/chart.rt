@@ -12,8 +12,8 @@ use text_parts::{Either, Part, When, say};
 use trace_io::TextSink;
 use trace_report::{
     Arrow, CellEnd, CellFront, ChartHead, Data, KeptRows, MessageFront, MessageRole, Note,
-    RoleWords, Row, Session, begins_item, is_answer_role, is_request_role, say_dropped_row,
-    say_ended_row, say_no_answer_row, say_unfinished_row,
+    RoleWords, Row, SentMessage, Session, begins_item, is_answer_role, is_request_role,
+    say_missing_row,
 };
 use trace_text::Number;
 
@@ -130,10 +130,8 @@ fn begins_exchange(row: Row<'_>) -> bool
     ensures { result ≡ asks (row_of row.entry) }
 {
     match row {
-        Row::Message { role, .. } => is_request_role(role),
-        Row::NoAnswer { .. } | Row::Dropped { .. } | Row::Ended { .. } | Row::Unfinished { .. } => {
-            false
-        }
+        Row::Message { sent, .. } => is_request_role(sent.role),
+        Row::Missing(_) => false,
     }
 }
 
@@ -148,12 +146,8 @@ fn say_row<S: TextSink>(
     ensures { S.says out.old (Spec.chart_row log (option_map marked_of marked.entry) origin (row_of row.entry)) out.new }
 {
     match row {
-        Row::Message {
-            role,
-            dir,
-            place,
-            message,
-        } => {
+        Row::Message { sent, message } => {
+            let SentMessage { role, dir, place } = sent;
             say(
                 out,
                 (
@@ -171,15 +165,7 @@ fn say_row<S: TextSink>(
             say(out, Note(role, place, message.len() as u64));
             say(out, CellEnd(dir, Arrow::Headed));
         }
-        Row::NoAnswer { number, silent } => say_no_answer_row(number, silent, out),
-        Row::Dropped {
-            place,
-            dir,
-            reason,
-            ..
-        } => say_dropped_row(false, origin, place, dir, reason, out),
-        Row::Ended { place, ended } => say_ended_row(false, origin, place, ended, out),
-        Row::Unfinished { dir, line, len } => say_unfinished_row(false, dir, line, len, out),
+        Row::Missing(missing) => say_missing_row(false, origin, missing, out),
     }
 }
 

@@ -5,14 +5,14 @@ ghost use Rattle.trace_pair.specs.Losses.{first_row, loss_line, losses_from, los
 ghost use Rattle.trace_pair.specs.Losses as Spec;
 ghost use Rattle.trace_pair.specs.Verdict as Verdict;
 ghost use Rattle.trace_pair.specs.proving.Losing.{loss_if, lost, lost_if};
-ghost use Rattle.trace_report.specs.proving.Pages.{row_of};
+ghost use Rattle.trace_report.specs.proving.Pages.{missing_of, row_of};
 
 use crate::log::{LetterMark, Log};
 use shown_rows::Change;
 use text_parts::{Part, When, say};
 use trace_io::TextSink;
 use trace_report::{
-    DroppedWords, EndedWords, KeptRows, Row as SessionRow, Session, UnfinishedWords,
+    DroppedWords, EndedWords, KeptRows, Missing, Row as SessionRow, Session, UnfinishedWords,
 };
 use trace_text::Number;
 use uds_difference::Row;
@@ -100,10 +100,18 @@ fn is_loss(row: SessionRow<'_>) -> bool
     ensures { result ≡ Spec.is_loss (row_of row.entry) }
 {
     match row {
-        SessionRow::Message { .. } | SessionRow::NoAnswer { .. } => false,
-        SessionRow::Dropped { .. } | SessionRow::Ended { .. } | SessionRow::Unfinished { .. } => {
-            true
-        }
+        SessionRow::Message { .. } => false,
+        SessionRow::Missing(missing) => is_lost(missing),
+    }
+}
+
+/// Whether the log lost what is missing: an answer it did not lose.
+fn is_lost(missing: Missing) -> bool
+    ensures { result ≡ Spec.is_loss (missing_of missing) }
+{
+    match missing {
+        Missing::NoAnswer { .. } => false,
+        Missing::Dropped { .. } | Missing::Ended { .. } | Missing::Unfinished { .. } => true,
     }
 }
 
@@ -202,8 +210,26 @@ impl<'a> Part for LossWords<'a> {
 
     fn say<S: TextSink>(self, out: &mut S) {
         match self.0 {
-            SessionRow::Message { .. } | SessionRow::NoAnswer { .. } => {}
-            SessionRow::Dropped {
+            SessionRow::Message { .. } => {}
+            SessionRow::Missing(missing) => say(out, MissingWords(missing)),
+        }
+    }
+}
+
+/// What is missing in words: nothing of an answer, which is no loss of the log.
+#[derive(Clone, Copy)]
+struct MissingWords(Missing);
+
+impl Part for MissingWords {
+    ghost use Rattle.trace_report.specs.proving.Pages.{missing_of};
+    ghost use Rattle.trace_pair.specs.Losses.{loss_words};
+
+    ghost text = { λ words. loss_words (missing_of words.0) };
+
+    fn say<S: TextSink>(self, out: &mut S) {
+        match self.0 {
+            Missing::NoAnswer { .. } => {}
+            Missing::Dropped {
                 place,
                 dir,
                 reason,
@@ -212,11 +238,11 @@ impl<'a> Part for LossWords<'a> {
                 out,
                 ("line ", Number(place.line), ": ", DroppedWords(dir, reason)),
             ),
-            SessionRow::Ended { place, ended } => say(
+            Missing::Ended { place, ended } => say(
                 out,
                 ("line ", Number(place.line), ": ", EndedWords(ended)),
             ),
-            SessionRow::Unfinished { dir, line, len } => say(out, UnfinishedWords(dir, line, len)),
+            Missing::Unfinished { dir, line, len } => say(out, UnfinishedWords(dir, line, len)),
         }
     }
 }

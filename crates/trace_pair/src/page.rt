@@ -20,7 +20,7 @@ use shown_rows::count_changes;
 use text_parts::{Part, say};
 use trace_io::{Target, TextSink};
 use trace_log::{CompareFault, Fault};
-use trace_report::{CauseLine, Counts, Refusal, RefusalCause, Session, SpanOf};
+use trace_report::{CauseLine, Counts, Refusal, RefusalCause, Session, SpanOf, VerdictHead};
 use trace_run::print;
 
 /// Writes the page of what is answered of two logs, where this is the cause of a refusal. Nothing is written where a
@@ -138,7 +138,7 @@ fn say_unread<S: TextSink>(
             out,
             (
                 Front(title, 0),
-                "<section id=\"verdict\" class=\"bad\">\n<h2><span aria-hidden=\"true\">&#10005;</span> ",
+                VerdictHead("bad", "&#10005;"),
                 log,
                 " is refused, so nothing is compared</h2>\n<p><em>",
                 Refusal(why),

@@ -4,6 +4,7 @@ ghost use Rattle.trace_pair.specs.Verdict.{is_beyond_doubt};
 
 use text_parts::{Either, Part, say};
 use trace_io::TextSink;
+use trace_report::VerdictHead;
 use trace_text::Number;
 
 /// None of the two has an item.
@@ -19,7 +20,8 @@ impl Part for NothingVerdict {
         say(
             out,
             (
-                "<section id=\"verdict\" class=\"warn\">\n<h2><span aria-hidden=\"true\">!</span> Neither session has an item</h2>\n",
+                VerdictHead("warn", "!"),
+                "Neither session has an item</h2>\n",
                 "<p>So they can't differ. Below stands what each recording has.</p>\n",
             ),
         );
@@ -75,17 +77,15 @@ impl Part for SameStart {
     ghost text = { λ start. same_start start.0 };
 
     fn say<S: TextSink>(self, out: &mut S) {
-        if self.0 {
-            say(
-                out,
-                "<section id=\"verdict\" class=\"good\">\n<h2><span aria-hidden=\"true\">=</span> The two sessions are the same",
-            );
-        } else {
-            say(
-                out,
-                "<section id=\"verdict\" class=\"warn\">\n<h2><span aria-hidden=\"true\">!</span> The two sessions are the same",
-            );
-        }
+        let green = VerdictHead("good", "=");
+        let doubt = VerdictHead("warn", "!");
+        say(
+            out,
+            (
+                Either(self.0, green, doubt),
+                "The two sessions are the same",
+            ),
+        );
     }
 }
 

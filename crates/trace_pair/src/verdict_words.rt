@@ -3,6 +3,7 @@ ghost use Rattle.std.specs.Prelude.{◌≡◌, ◌==◌, ◌+◌, ◌<◌, ◌�
 
 use text_parts::{Either, Part, say};
 use trace_io::TextSink;
+use trace_report::VerdictHead;
 use trace_text::Number;
 
 /// A page with more rows is a large one.
@@ -43,7 +44,7 @@ impl Part for DifferentHeading {
         say(
             out,
             (
-                "<section id=\"verdict\" class=\"warn\">\n<h2><span aria-hidden=\"true\">&#8800;</span> ",
+                VerdictHead("warn", "&#8800;"),
                 Either(self.differences == 1, "1 difference: ", several),
                 CountsWords {
                     left: self.left,

@@ -26,7 +26,8 @@ use Rattle.trace_report.specs.declared.sorts.Sort.{Sort}
 use Rattle.trace_report.specs.declared.sorts.Sort.TheVariants as sort
 use Rattle.trace_report.proofs.Distinct.{distinct-append, distinct-texts, each-of-first}
 use Rattle.trace_report.proofs.LineOrder.{grown-few, trace-grows}
-use Rattle.trace_report.proofs.RowTargets.{ArePlaced, IsWithin, Leads, all-placed, led_to, rows-placed}
+use Rattle.trace_report.proofs.RowPlaces.{ArePlaced, IsWithin, Leads, led_to}
+use Rattle.trace_report.proofs.RowTargets.{all-placed, rows-placed}
 
 -- Different places have different identifiers.
 

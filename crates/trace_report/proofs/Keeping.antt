@@ -36,18 +36,12 @@ module _ (old new : List (List ℕ)) (on : GoesOn old new) where
   lies-still span inside = message_stays old new on span (bytes_at old span) (record { inside = inside; bytes = refl })
 
   row-stays : (row : KeptRow) → IsLaid old row → row_at new row ≡ row_at old row
-  row-stays (kept.Message sent) laid = ap (message sent.role sent.dir sent.place) (lies-still sent.bytes laid).bytes
-  row-stays (kept.NoAnswer number silent) laid = refl
-  row-stays (kept.Dropped place d linked why) laid = refl
-  row-stays (kept.Ended place end) laid = refl
-  row-stays (kept.Unfinished d line len) laid = refl
+  row-stays (kept.Message sent bytes) laid = ap (message sent.role sent.dir sent.place) (lies-still bytes laid).bytes
+  row-stays (kept.Missing what) laid = refl
 
   laid-still : (row : KeptRow) → IsLaid old row → IsLaid new row
-  laid-still (kept.Message sent) laid = (lies-still sent.bytes laid).inside
-  laid-still (kept.NoAnswer number silent) laid = tt
-  laid-still (kept.Dropped place d linked why) laid = tt
-  laid-still (kept.Ended place end) laid = tt
-  laid-still (kept.Unfinished d line len) laid = tt
+  laid-still (kept.Message sent bytes) laid = (lies-still bytes laid).inside
+  laid-still (kept.Missing what) laid = tt
 
   rows-stay : (rows : List KeptRow) → AreLaid old rows → rows_at new rows ≡ rows_at old rows
   rows-stay [] laid = refl

@@ -10,11 +10,13 @@ mod ItemValues
 mod SessionItems
 mod ItemNumbers
 mod RowNumbers
+mod ItemParts
 mod Placing
 mod Beginning
 mod Keeping
 mod Distinct
 mod LineOrder
+mod RowPlaces
 mod RowTargets
 mod DistinctIdentifiers
 pub mod Harmless

@@ -1,5 +1,5 @@
 -- The rows of what is missing: answers, frames that were dropped, and messages that are not whole.
-use Rattle.std.specs.Prelude.{ℕ, Bool, List, [], ◌++◌, codes, if◌then◌else◌}
+use Rattle.std.specs.Prelude.{ℕ, Bool, ◌&&◌, List, [], ◌++◌, codes, if◌then◌else◌}
 use Rattle.std.specs.Fmt.{decimal}
 use Rattle.direction.specs.declared.Dir.{Dir}
 use Rattle.isotp_pdu.specs.declared.PduFault.{PduFault}
@@ -19,6 +19,8 @@ use Rattle.isotp_pdu.specs.declared.PduFault.TheVariants as pdu
 use Rattle.isotp_receive.specs.declared.event.Cause.TheVariants as cause
 use Rattle.isotp_receive.specs.declared.event.Reason.TheVariants as reason
 use Rattle.trace_report.specs.declared.row.Arrow.TheVariants as arrow
+use Rattle.trace_report.specs.declared.row.Missing.{Missing}
+use Rattle.trace_report.specs.declared.row.Missing.TheVariants as missing
 
 -- the row of an item without an answer that asked for no positive one
 abbrev pub silent_row : ℕ → List ℕ
@@ -113,3 +115,10 @@ unfinished_words d line len = codes "<b>unfinished</b> <i>" ++ partial_text d li
 abbrev pub unfinished_row : Bool → Dir → ℕ → ℕ → List ℕ
 unfinished_row linked d line len =
     codes "<tr class=\"x\"" ++ side_target linked d ++ codes "><td><td><td>" ++ cell_front d ++ unfinished_words d line len ++ cell_end d arrow.Barred
+
+-- the row of what is missing, to which links lead or not; to that of a dropped frame they lead only where it says so
+abbrev pub missing_row : Bool → ℕ → Missing → List ℕ
+missing_row linked origin (missing.NoAnswer number silent) = no_answer_row number silent
+missing_row linked origin (missing.Dropped place d own why) = dropped_row (linked && own) origin place d why
+missing_row linked origin (missing.Ended place end) = ended_row linked origin place end
+missing_row linked origin (missing.Unfinished d line len) = unfinished_row linked d line len

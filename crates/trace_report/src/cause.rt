@@ -4,7 +4,8 @@ ghost use Rattle.trace_report.specs.Causes.{row_value};
 ghost use Rattle.trace_report.specs.Causes as Spec;
 ghost use Rattle.trace_run.specs.Script.{glimpse_value};
 
-use crate::looks::{Look, lacks_stamp, look_of, look_row};
+use crate::first_bytes::{lacks_stamp, look_of};
+use crate::looks::{Look, look_row};
 use text_parts::{Part, When, say};
 use trace_io::TextSink;
 use trace_log::{Fault, LARGEST_LIMIT};

@@ -29,9 +29,8 @@ pub(crate) fn note_row(
     ensures waiting { waiting.new ≡ waiting_next (row_of row.entry) items.old.items waiting.old }
 {
     match row {
-        Row::Message { role, .. } => note_message(items, waiting, at, role),
-        Row::NoAnswer { .. } | Row::Dropped { .. } | Row::Ended { .. } | Row::Unfinished { .. } =>
-            {}
+        Row::Message { sent, .. } => note_message(items, waiting, at, sent.role),
+        Row::Missing(_) => {}
     }
 }
 

@@ -19,11 +19,11 @@
 //! | times and bytes, as rows show them | `durations`, `letters`, `data` | `Durations`, `Letters`, `Data` |
 //! | what a row tells | `targets`, `roles`, `row` | `Targets`, `Roles`, `Rows` |
 //! | what is counted, and where links lead | `sorts`, `tally` | `Sorts`, `Linked` |
-//! | the text of a row | `cells`, `message_rows`, `brief_rows`, `lost_rows`, `loss_words` | `Rows`, `MessageRows`, `BriefRows`, `LostRows` |
-//! | the chart: rows one after another, in blocks that fold | `blocks`, `chart` | `Blocks`, `Chart` |
+//! | the text of a row | `cells`, `message_rows`, `message_words`, `brief_rows`, `lost_rows`, `loss_words` | `Rows`, `MessageRows`, `BriefRows`, `LostRows` |
+//! | the chart: rows one after another, in blocks that fold | `blocks`, `block_fronts`, `chart` | `Blocks`, `Chart` |
 //! | the rows of a frame, by what the frames before it were | `follower`, `places`, `frames`, `times` | `Events` |
-//! | the verdict of a log | `verdict`, `links`, `counts`, `reasons` | `Links`, `Counts`, `Verdict` |
-//! | why a log is refused | `looks`, `cause`, `refusal` | `Looks`, `Causes`, `Verdict` |
+//! | the verdict of a log | `verdict_head`, `verdict`, `links`, `counts`, `reasons` | `Links`, `Counts`, `Verdict` |
+//! | why a log is refused | `looks`, `first_bytes`, `cause`, `refusal` | `Looks`, `Causes`, `Verdict` |
 //! | what stands before the rows and behind them | `style`, `front`, `log_names`, `help` | `Style`, `Front`, `Help` |
 //! | [`report`] | `reporter` | `Page` |
 //! | the items of a session, by its rows | `kept_rows`, `item_places`, `items` | `Items` |
@@ -32,6 +32,7 @@
 //! | what holds of each page | [`laws`] | `Numbers`, `Laws` |
 #![tactic(auto)]
 
+mod block_fronts;
 mod blocks;
 mod brief_rows;
 mod cause;
@@ -40,6 +41,7 @@ mod chart;
 mod counts;
 mod data;
 mod durations;
+mod first_bytes;
 mod follower;
 mod frames;
 mod front;
@@ -57,6 +59,7 @@ mod looks;
 mod loss_words;
 mod lost_rows;
 mod message_rows;
+mod message_words;
 mod places;
 mod reasons;
 mod refusal;
@@ -71,30 +74,34 @@ mod targets;
 mod times;
 mod two;
 mod verdict;
+mod verdict_head;
 
-pub use blocks::ChartHead;
+pub use block_fronts::ChartHead;
 pub use cause::{CauseLine, CauseOf, CauseRow, RefusalCause, cause_of, row_of_cause};
 pub use cells::{CellEnd, CellFront};
 pub use counts::{Counts, SortCounts};
 pub use data::{BytesApart, Data, MoreWords};
 pub use durations::Seconds;
+pub use first_bytes::look_told;
 pub use front::{CutNotice, Identifiers, PageStart, Shapes};
 pub use help::{HelpHeading, Legend, Limits, Tail, TimesWords};
 pub use items::{PlacedItem, RowMessage};
 pub use keeper::keep_two;
-pub use kept_rows::{KeptMessage, KeptRows};
+pub use kept_rows::KeptRows;
 pub use letters::{has_word, shown_byte};
 pub use log_names::Name;
-pub use looks::{Look, look_told};
+pub use looks::Look;
 pub use loss_words::{DroppedWords, EndedWords, UnfinishedWords};
-pub use lost_rows::{say_dropped_row, say_ended_row, say_no_answer_row, say_unfinished_row};
-pub use message_rows::{FurtherNote, MessageFront, NamedLines, Note, RoleWords};
+pub use lost_rows::say_missing_row;
+pub use message_rows::{MessageFront, NamedLines};
+pub use message_words::{FurtherNote, Note, RoleWords};
 pub use reasons::UncleanReasons;
 pub use refusal::Refusal;
 pub use reporter::report;
 pub use roles::{MessageRole, asked_at, begins_item, is_answer_role, is_request_role};
-pub use row::{Arrow, MessagePlace, Row};
+pub use row::{Arrow, MessagePlace, Missing, Row, SentMessage};
 pub use session::Session;
 pub use style::report_style;
 pub use two::Two;
 pub use verdict::{SpanOf, is_called_clean};
+pub use verdict_head::VerdictHead;

@@ -1,10 +1,10 @@
 //! The rows of a report that tell what is missing: answers, frames, and messages that are not whole.
-ghost use Rattle.trace_report.specs.LostRows.{dropped_row, ended_row, no_answer_row, unfinished_row};
+ghost use Rattle.trace_report.specs.LostRows.{dropped_row, ended_row, missing_row, no_answer_row, unfinished_row};
 
 use crate::cells::{CellEnd, CellFront, Side};
 use crate::durations::Seconds;
 use crate::loss_words::{DroppedWords, EndedWords, UnfinishedWords};
-use crate::row::Arrow;
+use crate::row::{Arrow, Missing};
 use direction::Dir;
 use isotp_receive::{Ended, Reason};
 use text_parts::{Part, When, say};
@@ -12,8 +12,39 @@ use trace_canon::reception_starts::FramePlace;
 use trace_io::TextSink;
 use trace_text::Number;
 
+/// Says the row of what is missing, to which links lead or not. To that of a dropped frame they lead only where it says so.
+pub fn say_missing_row<S: TextSink>(linked: bool, origin: u64, missing: Missing, out: &mut S)
+    ensures { S.says out.old (missing_row linked origin missing) out.new }
+{
+    match missing {
+        Missing::NoAnswer { number, silent } => say_no_answer_row(number, silent, out),
+        Missing::Dropped {
+            place,
+            dir,
+            linked: own,
+            reason,
+        } => {
+            let front = FrameFront {
+                linked: linked && own,
+                origin,
+                place,
+            };
+            say_dropped_row(front, dir, reason, out);
+        }
+        Missing::Ended { place, ended } => {
+            let front = FrameFront {
+                linked,
+                origin,
+                place,
+            };
+            say_ended_row(front, ended, out);
+        }
+        Missing::Unfinished { dir, line, len } => say_unfinished_row(linked, dir, line, len, out),
+    }
+}
+
 /// Says the row of an item without an answer: it asked for no positive one, or did not.
-pub fn say_no_answer_row<S: TextSink>(number: u64, silent: bool, out: &mut S)
+fn say_no_answer_row<S: TextSink>(number: u64, silent: bool, out: &mut S)
     ensures { S.says out.old (no_answer_row number silent) out.new }
 {
     let number = Number(number);
@@ -82,25 +113,14 @@ impl Part for FrameFront {
     }
 }
 
-/// Says the row of a frame that was dropped, to which links lead or not.
-pub fn say_dropped_row<S: TextSink>(
-    linked: bool,
-    origin: u64,
-    place: FramePlace,
-    dir: Dir,
-    reason: Reason,
-    out: &mut S,
-)
-    ensures { S.says out.old (dropped_row linked origin place dir reason) out.new }
+/// Says the row of a frame that was dropped.
+fn say_dropped_row<S: TextSink>(front: FrameFront, dir: Dir, reason: Reason, out: &mut S)
+    ensures { S.says out.old (dropped_row front.linked front.origin front.place dir reason) out.new }
 {
     say(
         out,
         (
-            FrameFront {
-                linked,
-                origin,
-                place,
-            },
+            front,
             CellFront(dir),
             DroppedWords(dir, reason),
             CellEnd(dir, Arrow::Crossed),
@@ -108,24 +128,14 @@ pub fn say_dropped_row<S: TextSink>(
     );
 }
 
-/// Says the row of a frame that ended a reception, to which links lead or not.
-pub fn say_ended_row<S: TextSink>(
-    linked: bool,
-    origin: u64,
-    place: FramePlace,
-    ended: Ended,
-    out: &mut S,
-)
-    ensures { S.says out.old (ended_row linked origin place ended) out.new }
+/// Says the row of a frame that ended a reception.
+fn say_ended_row<S: TextSink>(front: FrameFront, ended: Ended, out: &mut S)
+    ensures { S.says out.old (ended_row front.linked front.origin front.place ended) out.new }
 {
     say(
         out,
         (
-            FrameFront {
-                linked,
-                origin,
-                place,
-            },
+            front,
             CellFront(ended.dir),
             EndedWords(ended),
             CellEnd(ended.dir, Arrow::Barred),
@@ -134,7 +144,7 @@ pub fn say_ended_row<S: TextSink>(
 }
 
 /// Says the row of a reception that stands at the end, to which links lead or not.
-pub fn say_unfinished_row<S: TextSink>(linked: bool, dir: Dir, line: u64, len: u32, out: &mut S)
+fn say_unfinished_row<S: TextSink>(linked: bool, dir: Dir, line: u64, len: u32, out: &mut S)
     ensures { S.says out.old (unfinished_row linked dir line len) out.new }
 {
     say(

@@ -11,7 +11,8 @@ ghost use Rattle.trace_report.specs.proving.Following.{times_of};
 ghost use Rattle.trace_report.specs.proving.Pages.{title_of};
 ghost use Rattle.trace_log.specs.Devices.{HasLowCounts};
 
-use crate::blocks::{BlockEnd, Blocks};
+use crate::block_fronts::BlockEnd;
+use crate::blocks::Blocks;
 use crate::cause::{RefusalCause, cause_of};
 use crate::chart::Chart;
 use crate::follower::Follower;

@@ -25,16 +25,29 @@ pub enum Arrow {
     Barred,
 }
 
+/// What a row tells of a message, beside its bytes: what it is to its item, which side sent it, and where it stands.
+#[derive(Clone, Copy, Debug)]
+pub struct SentMessage {
+    pub role: MessageRole,
+    pub dir: Dir,
+    pub place: MessagePlace,
+}
+
 /// What a row tells.
 #[derive(Clone, Copy, Debug)]
 pub enum Row<'a> {
-    /// A message, which this side sent.
+    /// A message with these bytes.
     Message {
-        role: MessageRole,
-        dir: Dir,
-        place: MessagePlace,
+        sent: SentMessage,
         message: &'a [u8],
     },
+    /// What is missing.
+    Missing(Missing),
+}
+
+/// What a row tells that is missing: an answer, a frame, or the rest of a message.
+#[derive(Clone, Copy, Debug)]
+pub enum Missing {
     /// The item of this number has no answer. Its request asked for no positive one, or did not.
     NoAnswer {
         number: u64,

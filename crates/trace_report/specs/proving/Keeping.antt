@@ -11,16 +11,14 @@ use Rattle.trace_report.specs.declared.kept_rows.KeptRow.{KeptRow}
 use Rattle.trace_report.specs.declared.kept_rows.KeptRow.TheVariants as kept
 use Rattle.trace_report.specs.declared.roles.MessageRole.{MessageRole}
 use Rattle.trace_report.specs.declared.roles.MessageRole.TheVariants as role
+use Rattle.trace_report.specs.proving.Pages.{missing_of}
 
 -- Rows.
 
 -- a kept row as it was, by the blocks in which bytes lie
 abbrev pub row_at : List (List ℕ) → KeptRow → RowValue
-row_at blocks (kept.Message sent) = message sent.role sent.dir sent.place (bytes_at blocks sent.bytes)
-row_at blocks (kept.NoAnswer number silent) = no_answer number silent
-row_at blocks (kept.Dropped place d linked why) = dropped place d linked why
-row_at blocks (kept.Ended place end) = ended place end
-row_at blocks (kept.Unfinished d line len) = unfinished d line len
+row_at blocks (kept.Message sent bytes) = message sent.role sent.dir sent.place (bytes_at blocks bytes)
+row_at blocks (kept.Missing what) = missing_of what
 
 -- kept rows as they were, by the blocks in which bytes lie
 abbrev pub rows_at : List (List ℕ) → List KeptRow → List RowValue
@@ -28,11 +26,8 @@ rows_at blocks rows = map (row_at blocks) rows
 
 -- the bytes of a row lie in a block, if it has bytes
 abbrev pub IsLaid : List (List ℕ) → KeptRow → Type 0
-IsLaid blocks (kept.Message sent) = IsInside blocks sent.bytes
-IsLaid blocks (kept.NoAnswer number silent) = ⊤
-IsLaid blocks (kept.Dropped place d linked why) = ⊤
-IsLaid blocks (kept.Ended place end) = ⊤
-IsLaid blocks (kept.Unfinished d line len) = ⊤
+IsLaid blocks (kept.Message sent bytes) = IsInside blocks bytes
+IsLaid blocks (kept.Missing what) = ⊤
 
 -- the bytes of each of these rows lie in a block, if it has bytes
 abbrev pub AreLaid : List (List ℕ) → List KeptRow → Type 0

@@ -2,6 +2,8 @@
 use Rattle.trace_report.specs.Front.{PageTitleValue}
 use Rattle.trace_report.specs.Rows.{RowValue, message, no_answer, dropped, ended, unfinished}
 use Rattle.trace_report.specs.declared.front.PageTitle.{PageTitle}
+use Rattle.trace_report.specs.declared.row.Missing.{Missing}
+use Rattle.trace_report.specs.declared.row.Missing.TheVariants as missing
 use Rattle.trace_report.specs.declared.row.Row.{Row}
 use Rattle.trace_report.specs.declared.row.Row.TheVariants as row
 
@@ -9,10 +11,14 @@ use Rattle.trace_report.specs.declared.row.Row.TheVariants as row
 abbrev pub title_of : PageTitle → PageTitleValue
 title_of title = record { style = title.style.now; name = title.name.now; tester = title.tester; unit = title.unit; most = title.most }
 
+-- what a row tells that is missing, as a row
+abbrev pub missing_of : Missing → RowValue
+missing_of (missing.NoAnswer number silent) = no_answer number silent
+missing_of (missing.Dropped place d linked why) = dropped place d linked why
+missing_of (missing.Ended place end) = ended place end
+missing_of (missing.Unfinished d line len) = unfinished d line len
+
 -- what a row of the chart tells, as it is
 abbrev pub row_of : Row → RowValue
-row_of (row.Message is d place lent) = message is d place lent.now
-row_of (row.NoAnswer number silent) = no_answer number silent
-row_of (row.Dropped place d linked why) = dropped place d linked why
-row_of (row.Ended place end) = ended place end
-row_of (row.Unfinished d line len) = unfinished d line len
+row_of (row.Message sent lent) = message sent.role sent.dir sent.place lent.now
+row_of (row.Missing what) = missing_of what

@@ -4,7 +4,7 @@ use Rattle.std.proofs.lemmas.List.{length-map}
 use Rattle.std.proofs.lemmas.Option.{slice_get_read, slice_get-map, slice_get_past}
 use Rattle.trace_report.specs.proving.Keeping.{message_if, row_at, rows_at}
 use Rattle.trace_report.proofs.Keeping.{laid-at}
-use Rattle.trace_report.proofs.kept_rows.message_at.Goals as goal
+use Rattle.trace_report.proofs.items.message_at.Goals as goal
 
 pub message_of_row-requires : goal.message_of_row-requires
 message_of_row-requires c =
