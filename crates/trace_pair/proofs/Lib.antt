@@ -6,6 +6,9 @@ pub mod Stretches
 pub mod Tables
 pub mod Standings
 pub mod FoldParts
+pub mod SeenTables
+pub mod WalkedRows
+mod RowsOnce
 pub mod ChartRows
 pub mod ChangeSteps
 pub mod ListedChanges

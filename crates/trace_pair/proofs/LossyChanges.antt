@@ -7,8 +7,9 @@ use Rattle.shown_rows.specs.declared.changes.Change.{Change}
 use Rattle.shown_rows.specs.Changes.{changes_from}
 use Rattle.shown_rows.specs.Rows.{left_in, right_in}
 use Rattle.trace_report.specs.Session.{SessionValue}
-use Rattle.trace_pair.specs.Verdict.{left_lossy, lossy_count, right_lossy}
-use Rattle.trace_pair.specs.proving.Changing.{count_if, left_lossy_if, lossy_if, right_lossy_if}
+use Rattle.trace_pair.specs.declared.log.Log.{Log}
+use Rattle.trace_pair.specs.Verdict.{is_lossy, lossy_count}
+use Rattle.trace_pair.specs.proving.Changing.{count_if, is_lossy_if, lossy_if}
 use Rattle.trace_pair.proofs.ChangeSteps.{found_at, none-begins, one-begins}
 
 or-moved : (so_far here later : Bool) → ((here || so_far) || later) ≡ (so_far || (here || later))
@@ -36,16 +37,6 @@ module _ (left right : SessionValue) where
   count-with None all later none some = let same = ap (λ (l : List Change). length l) (none refl) in omega (arith, same)
   count-with (Some it) all later none some = let same = ap (λ (l : List Change). length l) (some it refl) in omega (arith, same)
 
-  left-with : (here : Option Change) (all later : List Change) (so_far : Bool) → (here ≡ None → all ≡ later) → ((it : Change) → here ≡ Some it → all ≡ it ∷ later)
-      → ((left_lossy_if left here || so_far) || list_any (left_lossy left) later) ≡ (so_far || list_any (left_lossy left) all)
-  left-with None all later so_far none some = any-none (left_lossy left) so_far all later (none refl)
-  left-with (Some it) all later so_far none some = any-some (left_lossy left) so_far it all later (some it refl)
-
-  right-with : (here : Option Change) (all later : List Change) (so_far : Bool) → (here ≡ None → all ≡ later) → ((it : Change) → here ≡ Some it → all ≡ it ∷ later)
-      → ((right_lossy_if right here || so_far) || list_any (right_lossy right) later) ≡ (so_far || list_any (right_lossy right) all)
-  right-with None all later so_far none some = any-none (right_lossy right) so_far all later (none refl)
-  right-with (Some it) all later so_far none some = any-some (right_lossy right) so_far it all later (some it refl)
-
   -- with the change that begins with a row, if one does
   module _ (front : Row) (i j a b : ℕ) (rows later : List Row) (row : Row) (first : rows ≡ row ∷ later) (found : Option Change)
       (is : found ≡ found_at front i j row later) (left_is : a ≡ left_in row) (right_is : b ≡ right_in row) where
@@ -59,16 +50,17 @@ module _ (left right : SessionValue) where
         count-with found (changes_from front i j rows) (changes_from row (i + a) (j + b) later)
         (none-begins front i j a b rows later row first found is left_is right_is) (one-begins front i j a b rows later row first found is left_is right_is)
 
-    pub left-next : (so_far now : Bool) → now ≡ (left_lossy_if left found || so_far)
-        → (now || list_any (left_lossy left) (changes_from row (i + a) (j + b) later)) ≡ (so_far || list_any (left_lossy left) (changes_from front i j rows))
-    left-next so_far now now_is =
-        ap (λ (mark : Bool). mark || list_any (left_lossy left) (changes_from row (i + a) (j + b) later)) now_is
-        ∙ left-with found (changes_from front i j rows) (changes_from row (i + a) (j + b) later) so_far
-        (none-begins front i j a b rows later row first found is left_is right_is) (one-begins front i j a b rows later row first found is left_is right_is)
+-- whether a log is not clean at one of them
+module _ (log : Log) (session : SessionValue) where
+  any-with : (here : Option Change) (all later : List Change) (so_far : Bool) → (here ≡ None → all ≡ later) → ((it : Change) → here ≡ Some it → all ≡ it ∷ later)
+      → ((is_lossy_if log session here || so_far) || list_any (is_lossy log session) later) ≡ (so_far || list_any (is_lossy log session) all)
+  any-with None all later so_far none some = any-none (is_lossy log session) so_far all later (none refl)
+  any-with (Some it) all later so_far none some = any-some (is_lossy log session) so_far it all later (some it refl)
 
-    pub right-next : (so_far now : Bool) → now ≡ (right_lossy_if right found || so_far)
-        → (now || list_any (right_lossy right) (changes_from row (i + a) (j + b) later)) ≡ (so_far || list_any (right_lossy right) (changes_from front i j rows))
-    right-next so_far now now_is =
-        ap (λ (mark : Bool). mark || list_any (right_lossy right) (changes_from row (i + a) (j + b) later)) now_is
-        ∙ right-with found (changes_from front i j rows) (changes_from row (i + a) (j + b) later) so_far
-        (none-begins front i j a b rows later row first found is left_is right_is) (one-begins front i j a b rows later row first found is left_is right_is)
+  pub any-next : (front : Row) (i j a b : ℕ) (rows later : List Row) (row : Row) → rows ≡ row ∷ later → (found : Option Change)
+      → found ≡ found_at front i j row later → a ≡ left_in row → b ≡ right_in row → (so_far now : Bool) → now ≡ (is_lossy_if log session found || so_far)
+      → (now || list_any (is_lossy log session) (changes_from row (i + a) (j + b) later)) ≡ (so_far || list_any (is_lossy log session) (changes_from front i j rows))
+  any-next front i j a b rows later row first found is left_is right_is so_far now now_is =
+      ap (λ (mark : Bool). mark || list_any (is_lossy log session) (changes_from row (i + a) (j + b) later)) now_is
+      ∙ any-with found (changes_from front i j rows) (changes_from row (i + a) (j + b) later) so_far
+      (none-begins front i j a b rows later row first found is left_is right_is) (one-begins front i j a b rows later row first found is left_is right_is)

@@ -11,7 +11,9 @@ use Rattle.shown_rows.specs.Rows.{left_in, right_in}
 use Rattle.trace_pair.specs.declared.standing.Standing.{Standing}
 use Rattle.trace_pair.specs.declared.standing.Table.{Table}
 use Rattle.trace_pair.specs.declared.standing.Table.TheVariants.{Closed, Open, Block}
-use Rattle.trace_pair.specs.ItemTables.{IsRoomy, block_start, blocks_behind, changes_with, is_full, opening, table_end, standing_behind, with_fold, with_shown}
+use Rattle.trace_pair.specs.ItemTables.{block_start}
+use Rattle.trace_pair.specs.RowStretches.{changes_with}
+use Rattle.trace_pair.specs.proving.Standings.{IsRoomy, blocks_behind, is_full, opening, table_end, standing_behind, with_fold, with_shown}
 
 left-one : (row : Row) → left_in row ≤ 1
 left-one Same = omega arith

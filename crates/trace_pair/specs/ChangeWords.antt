@@ -6,6 +6,9 @@ use Rattle.uds_exchange.specs.Meaning.{ItemValue}
 use Rattle.uds_difference.specs.declared.row.Row.{Row}
 use Rattle.uds_difference.specs.declared.row.Row.TheVariants.{Same, Changed, OnlyLeft, OnlyRight}
 use Rattle.shown_rows.specs.declared.changes.Change.{Change}
+use Rattle.trace_pair.specs.declared.log.Log.{Log}
+use Rattle.trace_pair.specs.declared.log.Log.TheVariants.{A, B}
+use Rattle.trace_pair.specs.Logs.{letter}
 use Rattle.trace_pair.specs.ItemWords.{differ, item_title, outcome_note}
 
 -- the change stands where a memory has room for it
@@ -14,16 +17,16 @@ pub record IsSmall (here : Change) : Type 0 where
   pub right : here.right + here.count < 2 ^ 63
 
 -- items of a log by their numbers: one, or so many from one on
-abbrev pub items_range : List ℕ → ℕ → ℕ → List ℕ
+abbrev pub items_range : Log → ℕ → ℕ → List ℕ
 items_range log before count =
-    log ++ codes "&#160;" ++ decimal (before + 1) ++ (if count == 1 then [] else codes "&#8211;" ++ decimal (before + count))
+    letter log ++ codes "&#160;" ++ decimal (before + 1) ++ (if count == 1 then [] else codes "&#8211;" ++ decimal (before + count))
 
 -- where a change of this kind stands, before which so many items of both stand, and which has so many
 abbrev pub where_text : Row → ℕ → ℕ → ℕ → List ℕ
 where_text Same left right count = []
-where_text Changed left right count = items_range (codes "A") left 1 ++ codes ", " ++ items_range (codes "B") right 1
-where_text OnlyLeft left right count = items_range (codes "A") left count
-where_text OnlyRight left right count = items_range (codes "B") right count
+where_text Changed left right count = items_range A left 1 ++ codes ", " ++ items_range B right 1
+where_text OnlyLeft left right count = items_range A left count
+where_text OnlyRight left right count = items_range B right count
 
 -- what kind it is of
 abbrev pub tag : Row → List ℕ

@@ -3,9 +3,10 @@ use Rattle.std.specs.Prelude.{ℕ, ◌+◌, ◌-◌, ◌==◌, true, List, [], �
 use Rattle.std.specs.Fmt.{decimal}
 use Rattle.shown_rows.specs.declared.changes.Change.{Change}
 use Rattle.trace_report.specs.Session.{SessionValue}
+use Rattle.trace_pair.specs.declared.log.Log.TheVariants.{A, B}
 use Rattle.trace_pair.specs.ChangeWords.{change_line}
 use Rattle.trace_pair.specs.Sessions.{values_in}
-use Rattle.trace_pair.specs.Verdict.{left_lossy, right_lossy}
+use Rattle.trace_pair.specs.Verdict.{is_lossy}
 
 -- so many differences of the list stand in the open
 abbrev pub open_differences : ℕ
@@ -18,7 +19,7 @@ listed_differences = 50
 -- the change of a number in a line, with a link to it
 abbrev pub difference_line : SessionValue → SessionValue → ℕ → Change → List ℕ
 difference_line left right number here =
-    codes "<li>" ++ change_line true number (left_lossy left here) (right_lossy right here) (values_in left) (values_in right) here ++ codes "\n"
+    codes "<li>" ++ change_line true number (is_lossy A left here) (is_lossy B right here) (values_in left) (values_in right) here ++ codes "\n"
 
 -- the start of the fold of so many differences more than stand in the open
 abbrev pub more_start : ℕ → List ℕ

@@ -30,7 +30,7 @@ use Rattle.trace_pair.specs.ItemRows.{outcome_by}
 use Rattle.trace_pair.specs.ItemWords.{same_outcome}
 use Rattle.trace_pair.specs.Logs.{lettered_name}
 use Rattle.trace_pair.specs.Sessions.{values_in}
-use Rattle.trace_pair.specs.Verdict.{left_lossy, right_lossy}
+use Rattle.trace_pair.specs.Verdict.{is_lossy}
 
 -- The rows that a chart has.
 
@@ -193,7 +193,7 @@ side log name marked item session = codes "<section>\n<h3>" ++ lettered_name log
 abbrev pub first_of : ℕ → List ℕ → List ℕ → SessionValue → SessionValue → Change → List ℕ
 first_of count left_name right_name left right here =
     codes "<section id=\"difference\">\n<h2>" ++ (if count == 1 then codes "The difference, as recorded" else codes "The first difference, as recorded") ++ codes "</h2>\n<p>"
-    ++ change_line (count == 1) 1 (left_lossy left here) (right_lossy right here) (values_in left) (values_in right) here ++ codes "</p>\n<div class=\"two\">\n"
+    ++ change_line (count == 1) 1 (is_lossy A left here) (is_lossy B right here) (values_in left) (values_in right) here ++ codes "</p>\n<div class=\"two\">\n"
     ++ side A left_name (left_marks left right here) here.left left ++ side B right_name (right_marks left right here) here.right right
     ++ codes "</div>\n</section>\n"
 

@@ -21,9 +21,9 @@ use Rattle.trace_pair.specs.ChangeWords.{tag}
 use Rattle.trace_pair.specs.ColumnLines.{lines_text, whose_text}
 use Rattle.trace_pair.specs.declared.column_words.Whose.TheVariants.{Of}
 use Rattle.trace_pair.specs.ItemWords.{came_of, differ, same_outcome}
+use Rattle.trace_pair.specs.Logs.{has_item}
 use Rattle.trace_pair.specs.Losses.{losses_of, losses_text}
 use Rattle.trace_pair.specs.ToldItems.{note_of, told_answer, told_item}
-use Rattle.trace_pair.specs.Verdict.{has_left, has_right}
 
 -- two messages byte under byte; as text, too, where one of them may be text
 abbrev pub both_bytes : List ℕ → List ℕ → List ℕ
@@ -134,21 +134,18 @@ abbrev pub note_if : Log → ℕ → Option PlacedItemValue → List ℕ
 note_if log origin None = []
 note_if log origin (Some item) = note_of log origin item
 
--- what is missing of the item that a row has of the left log, if it has one
-abbrev pub left_losses : SessionValue → Row → ℕ → List ℕ
-left_losses session kind i = if has_left kind then losses_text A (losses_of session.rows i) else []
+-- how many items of a log stand before a row
+abbrev pub place_in : Log → RowPlace → ℕ
+place_in A place = place.left
+place_in B place = place.right
 
--- what is missing of the item that a row has of the right log, if it has one
-abbrev pub right_losses : SessionValue → Row → ℕ → List ℕ
-right_losses session kind j = if has_right kind then losses_text B (losses_of session.rows j) else []
+-- what is missing of the item that a row has of a log, if it has one
+abbrev pub row_losses : Log → SessionValue → RowPlace → List ℕ
+row_losses log session place = if has_item log place.kind then losses_text log (losses_of session.rows (place_in log place)) else []
 
--- the item that a row has of the left log, if it has one
-abbrev pub left_item : SessionValue → Row → ℕ → Option PlacedItemValue
-left_item session kind i = if has_left kind then slice_get (items_in session.rows) i else None
-
--- the item that a row has of the right log, if it has one
-abbrev pub right_item : SessionValue → Row → ℕ → Option PlacedItemValue
-right_item session kind j = if has_right kind then slice_get (items_in session.rows) j else None
+-- the item that a row has of a log, if it has one
+abbrev pub row_item : Log → SessionValue → RowPlace → Option PlacedItemValue
+row_item log session place = if has_item log place.kind then slice_get (items_in session.rows) (place_in log place) else None
 
 -- the number of the change that begins with a row, if one does
 abbrev pub begun_number : Option Begun → Option ℕ
@@ -163,7 +160,7 @@ top_of (Some begun) kind one other = top begun.number begun.all kind begun.count
 abbrev pub row_text : SessionValue → SessionValue → RowPlace → Option Begun → List ℕ
 row_text left right place begun =
     row_start place.kind (begun_number begun) ++ numbers place.kind place.left place.right
-    ++ top_of begun place.kind (left_item left place.kind place.left) (right_item right place.kind place.right)
-    ++ codes "<div class=\"it\">" ++ told place.kind (left_item left place.kind place.left) (right_item right place.kind place.right)
-    ++ codes "</div><div class=\"ab\">" ++ note_if A left.first (left_item left place.kind place.left) ++ note_if B right.first (right_item right place.kind place.right)
-    ++ codes "</div>" ++ left_losses left place.kind place.left ++ right_losses right place.kind place.right ++ codes "\n"
+    ++ top_of begun place.kind (row_item A left place) (row_item B right place)
+    ++ codes "<div class=\"it\">" ++ told place.kind (row_item A left place) (row_item B right place)
+    ++ codes "</div><div class=\"ab\">" ++ note_if A left.first (row_item A left place) ++ note_if B right.first (row_item B right place)
+    ++ codes "</div>" ++ row_losses A left place ++ row_losses B right place ++ codes "\n"

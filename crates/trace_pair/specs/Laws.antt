@@ -1,16 +1,18 @@
 -- What holds of a page of two logs, whatever logs it is of.
 use Prim.Native.Char.{code}
-use Rattle.std.specs.Prelude.{◌≡◌, ◌==◌, ◌≤◌, ◌⊎◌, ℕ, suc, ◌+◌, ◌-◌, true, false, List, [], ◌∷◌, ◌++◌, codes, drop, length, take, Option, Some, None, slice_get, Ok}
-use Rattle.std.specs.List.{list_any}
+use Rattle.std.specs.Prelude.{◌≡◌, ◌==◌, ◌≤◌, ◌⊎◌, ℕ, suc, ◌+◌, ◌-◌, Bool, true, false, List, [], ◌∷◌, ◌++◌, codes, map, drop, length, take, Option, Some, None, slice_get, Ok, if◌then◌else◌}
+use Rattle.std.specs.List.{flat_map, list_any, range_with_len}
+use Rattle.byte_columns.specs.Laws.{listed}
 use Rattle.isotp_receive.specs.declared.TheConstants.{MESSAGE_LIMIT}
 use Rattle.trace_canon.specs.Compared.{Compares, difference}
 use Rattle.trace_canon.specs.declared.comparing.Compared.{Compared}
 use Rattle.trace_canon.specs.declared.comparing.Comparison.TheVariants as comparison
 use Rattle.trace_log.specs.Settings.{Settings}
 use Rattle.uds_exchange.specs.Difference.{IsFirstDifference}
-use Rattle.uds_exchange.specs.Meaning.{exchange}
+use Rattle.uds_exchange.specs.Meaning.{ItemValue, exchange}
 use Rattle.uds_message.specs.Message.{is_suppressing}
 use Rattle.uds_difference.specs.Laws.{first_change}
+use Rattle.uds_difference.specs.Rows.{rows_of}
 use Rattle.uds_difference.specs.declared.row.Row.{Row}
 use Rattle.shown_rows.specs.Changes.{changes}
 use Rattle.shown_rows.specs.Rows.{differs}
@@ -19,9 +21,14 @@ use Rattle.trace_report.specs.Blocks.{begins_exchange}
 use Rattle.trace_report.specs.Items.{answer_in, rows_before}
 use Rattle.trace_report.specs.Kept.{KeepsTwo, TwoValue}
 use Rattle.trace_report.specs.Rows.{RowValue}
+use Rattle.trace_pair.specs.declared.log.Log.{Log}
+use Rattle.trace_pair.specs.declared.log.Log.TheVariants.{A, B}
 use Rattle.trace_pair.specs.Compared.{comparison_by, comparison_in}
 use Rattle.trace_pair.specs.First.{asks, chart_rows, most_before, most_rows, rows_more}
+use Rattle.trace_pair.specs.ItemRows.{begun_number, place_in}
 use Rattle.trace_pair.specs.ItemWords.{came_of, differ, outcome_words}
+use Rattle.trace_pair.specs.Logs.{has_item}
+use Rattle.trace_pair.specs.RowStretches.{PlacedRow, Stretch, shown, folded, fold_rows, parts, placed, stretches, tables}
 use Rattle.trace_pair.specs.Sessions.{values_in}
 use Rattle.trace_pair.specs.Style.{page_style}
 use Rattle.trace_pair.specs.declared.outcome.Outcome.TheVariants.{Silent, Unanswered}
@@ -84,3 +91,49 @@ abbrev pub ChangesAreOfComparison : Type 0
 ChangesAreOfComparison = (rows : List Row)
     → (comparison_by (first_change rows) ≡ comparison.Same → (differs rows ≡ false) × (changes rows ≡ []))
     × ((place : ℕ) → comparison_by (first_change rows) ≡ comparison.Different place → (differs rows ≡ true) × BeginBehind place (changes rows))
+
+-- The table of items.
+
+-- the rows of a table
+abbrev pub rows_of_table : List PlacedRow → List PlacedRow
+rows_of_table rows = rows
+
+-- the rows of a stretch, as its tables have them
+abbrev pub rows_in : Stretch → List PlacedRow
+rows_in (shown rows) = flat_map rows_of_table (tables rows)
+rows_in (folded fold) = flat_map fold_rows (parts fold)
+
+-- the rows of the table of items, seen or folded, where sessions have these
+abbrev pub table_rows : List Row → List PlacedRow
+table_rows rows = flat_map rows_in (stretches (placed rows))
+
+-- what kind of row it is
+abbrev pub kind_of : PlacedRow → Row
+kind_of row = row.place.kind
+
+-- the table of items has each row once, in order, whether it is seen or folded
+abbrev pub EachRowStandsOnce : Type 0
+EachRowStandsOnce = (rows : List Row) → (table_rows rows ≡ placed rows) × (map kind_of (table_rows rows) ≡ rows)
+
+-- the place of an item, if a row has it
+abbrev pub place_if : Bool → ℕ → List ℕ
+place_if has place = if has then place ∷ [] else []
+
+-- the place of the item that a row has of a log, if it has one
+abbrev pub item_place : Log → PlacedRow → List ℕ
+item_place log row = place_if (has_item log row.place.kind) (place_in log row.place)
+
+-- the table of items has each item of both sessions once, in order
+abbrev pub EachItemStandsOnce : Type 0
+EachItemStandsOnce = (xs ys : List ItemValue)
+    → (flat_map (item_place A) (table_rows (rows_of xs ys)) ≡ range_with_len 0 (length xs))
+    × (flat_map (item_place B) (table_rows (rows_of xs ys)) ≡ range_with_len 0 (length ys))
+
+-- the number of a row's identifier, if it has one
+abbrev pub identifier : PlacedRow → List ℕ
+identifier row = listed (begun_number row.begins)
+
+-- The rows of the table of items have as identifiers the numbers of all changes, from 1 on, each once. These are what the
+-- links of the page lead to: of the list, of its end, of the verdict, and from one change to the next.
+abbrev pub LinksHaveTargets : Type 0
+LinksHaveTargets = (rows : List Row) → flat_map identifier (table_rows rows) ≡ range_with_len 1 (length (changes rows))

@@ -13,6 +13,7 @@ pub mod Recordings
 pub mod Differences
 pub mod First
 pub mod ItemRows
+pub mod RowStretches
 pub mod ItemTables
 pub mod Help
 pub mod Style

@@ -1,6 +1,9 @@
 -- The two logs of a page, by their letters.
-use Rattle.std.specs.Prelude.{ℕ, List, ◌++◌, codes, Option}
+use Rattle.std.specs.Prelude.{ℕ, Bool, true, false, List, ◌++◌, codes, Option}
 use Rattle.byte_columns.specs.declared.column.Column.{Column}
+use Rattle.uds_difference.specs.declared.row.Row.{Row}
+use Rattle.uds_difference.specs.declared.row.Row.TheVariants.{Same, Changed, OnlyLeft, OnlyRight}
+use Rattle.shown_rows.specs.declared.changes.Change.{Change}
 use Rattle.trace_report.specs.Front.{name_text}
 use Rattle.trace_pair.specs.declared.log.Log.{Log}
 use Rattle.trace_pair.specs.declared.log.Log.TheVariants.{A, B}
@@ -22,3 +25,17 @@ lettered_name log name = letter_mark log ++ name_text name
 abbrev pub byte_of : Log → Column → Option ℕ
 byte_of A here = here.left
 byte_of B here = here.right
+
+-- a row of this kind has an item of the log
+abbrev pub has_item : Log → Row → Bool
+has_item log Same = true
+has_item log Changed = true
+has_item A OnlyLeft = true
+has_item A OnlyRight = false
+has_item B OnlyLeft = false
+has_item B OnlyRight = true
+
+-- how many items of a log stand before a change
+abbrev pub items_before : Log → Change → ℕ
+items_before A here = here.left
+items_before B here = here.right

@@ -11,6 +11,9 @@ use Rattle.shown_rows.specs.Rows.{count_of, differs}
 use Rattle.shown_rows.specs.declared.changes.Change.{Change}
 use Rattle.trace_report.specs.Session.{SessionValue}
 use Rattle.trace_report.specs.Verdict.{verdict_head}
+use Rattle.trace_pair.specs.declared.log.Log.{Log}
+use Rattle.trace_pair.specs.declared.log.Log.TheVariants.{A, B}
+use Rattle.trace_pair.specs.Logs.{has_item, items_before}
 use Rattle.trace_pair.specs.Losses.{losses_from}
 use Rattle.trace_pair.specs.Sessions.{values_in}
 
@@ -48,32 +51,14 @@ abbrev pub lossy_by : Bool → SessionValue → ℕ → ℕ → Bool
 lossy_by has session before count =
     if has then nat_lt 0 (losses_from session.rows before count) else nat_lt 0 (losses_from session.rows (before - 1) 1)
 
--- a change of this kind has items of the left log
-abbrev pub has_left : Row → Bool
-has_left Same = true
-has_left Changed = true
-has_left OnlyLeft = true
-has_left OnlyRight = false
-
--- a change of this kind has items of the right log
-abbrev pub has_right : Row → Bool
-has_right Same = true
-has_right Changed = true
-has_right OnlyLeft = false
-has_right OnlyRight = true
-
--- the left log is not clean at a change
-abbrev pub left_lossy : SessionValue → Change → Bool
-left_lossy session here = lossy_by (has_left here.kind) session here.left here.count
-
--- the right log is not clean at a change
-abbrev pub right_lossy : SessionValue → Change → Bool
-right_lossy session here = lossy_by (has_right here.kind) session here.right here.count
+-- a log is not clean at a change
+abbrev pub is_lossy : Log → SessionValue → Change → Bool
+is_lossy log session here = lossy_by (has_item log here.kind) session (items_before log here) here.count
 
 -- at how many of these changes a log is not clean
 abbrev pub lossy_count : SessionValue → SessionValue → List Change → ℕ
 lossy_count left right [] = 0
-lossy_count left right (here ∷ later) = (if left_lossy left here || right_lossy right here then 1 else 0) + lossy_count left right later
+lossy_count left right (here ∷ later) = (if is_lossy A left here || is_lossy B right here then 1 else 0) + lossy_count left right later
 
 -- at which changes a log is not clean: so many of so many
 abbrev pub at_words : ℕ → ℕ → List ℕ
@@ -97,7 +82,7 @@ lossy_line lossy all left right =
 -- what it means that a log is not clean at some of these changes, where one isn't
 abbrev pub lossy_line_of : SessionValue → SessionValue → List Change → List ℕ
 lossy_line_of left right all =
-    lossy_line (lossy_count left right all) (length all) (list_any (left_lossy left) all) (list_any (right_lossy right) all)
+    lossy_line (lossy_count left right all) (length all) (list_any (is_lossy A left) all) (list_any (is_lossy B right) all)
 
 -- How far it can be known.
 

@@ -3,3 +3,4 @@ pub mod Marks
 pub mod Beside
 pub mod Changing
 pub mod Losing
+pub mod Standings

@@ -5,6 +5,7 @@ ghost use Rattle.trace_pair.specs.Sessions.{left_items, right_items, values_in};
 
 use crate::differ_words::DifferWords;
 use crate::item_words::{ItemTitle, OutcomeNote};
+use crate::log::Log;
 use crate::sessions::{Sessions, item_at};
 use shown_rows::Change;
 use text_parts::{Either, Part, say};
@@ -100,24 +101,19 @@ fn say_place<S: TextSink>(change: Change, out: &mut S)
     match change.kind {
         Row::Same => {}
         Row::Changed => {
-            say_items_range("A", change.left, 1, out);
+            say_items_range(Log::A, change.left, 1, out);
             say(out, ", ");
-            say_items_range("B", change.right, 1, out);
+            say_items_range(Log::B, change.right, 1, out);
         }
-        Row::OnlyLeft => say_items_range("A", change.left, change.count, out),
-        Row::OnlyRight => say_items_range("B", change.right, change.count, out),
+        Row::OnlyLeft => say_items_range(Log::A, change.left, change.count, out),
+        Row::OnlyRight => say_items_range(Log::B, change.right, change.count, out),
     }
 }
 
 /// Says the numbers of items of a log: so many, behind so many.
-pub(crate) fn say_items_range<S: TextSink>(
-    log: &'static str,
-    before: usize,
-    count: usize,
-    out: &mut S,
-)
+pub(crate) fn say_items_range<S: TextSink>(log: Log, before: usize, count: usize, out: &mut S)
     requires { before + count ≤ 2 ^ 63 }
-    ensures { S.says out.old (items_range log.now before count) out.new }
+    ensures { S.says out.old (items_range log before count) out.new }
 {
     let last = ("&#8211;", Number((before + count) as u64));
     say(

@@ -9,7 +9,7 @@ ghost use Rattle.trace_pair.specs.proving.Marks.{marked_of};
 use crate::change_words::{Unclean, say_change_line};
 use crate::chart::{Marked, say_chart};
 use crate::log::{LetteredName, Log};
-use crate::losses::{left_lossy, right_lossy};
+use crate::losses::is_lossy;
 use crate::outcome::same_outcome;
 use crate::pair_bytes::outcome_by;
 use crate::sessions::Sessions;
@@ -71,8 +71,8 @@ fn say_change<S: TextSink>(
     ensures { S.says out.old (Spec.first_of count left_name.now right_name.now sessions.entry.left.now sessions.entry.right.now change) out.new }
 {
     let unclean = Unclean {
-        left: left_lossy(sessions.left, change),
-        right: right_lossy(sessions.right, change),
+        left: is_lossy(Log::A, sessions.left, change),
+        right: is_lossy(Log::B, sessions.right, change),
     };
     say(
         out,

@@ -2,10 +2,9 @@
 ghost use Rattle.std.specs.Prelude.{◌≡◌, option_map};
 ghost use Rattle.trace_report.specs.proving.Lending.{item_of};
 ghost use Rattle.trace_pair.specs.ItemRows as Spec;
-ghost use Rattle.trace_pair.specs.Verdict as Verdict;
 
 use crate::change_top::TopIf;
-use crate::log::Log;
+use crate::log::{Log, has_item};
 use crate::losses::say_losses;
 use crate::pair_bytes::ToldPair;
 use crate::sessions::Sessions;
@@ -41,8 +40,8 @@ pub(crate) fn say_item_row<S: TextSink>(
 )
     ensures { S.says out.old (Spec.row_text sessions.entry.left.now sessions.entry.right.now place begun) out.new }
 {
-    let one = left_item(sessions.left, place);
-    let other = right_item(sessions.right, place);
+    let one = row_item(Log::A, sessions.left, place);
+    let other = row_item(Log::B, sessions.right, place);
     say(
         out,
         (
@@ -57,68 +56,38 @@ pub(crate) fn say_item_row<S: TextSink>(
             "</div>",
         ),
     );
-    say_left_losses(sessions.left, place, out);
-    say_right_losses(sessions.right, place, out);
+    say_row_losses(Log::A, sessions.left, place, out);
+    say_row_losses(Log::B, sessions.right, place, out);
     say(out, "\n");
 }
 
-/// Says what is missing of the item that a row has of the left log, if it has one.
-fn say_left_losses<S: TextSink>(session: &Session, place: RowPlace, out: &mut S)
-    ensures { S.says out.old (Spec.left_losses session.now place.kind place.left) out.new }
+/// Says what is missing of the item that a row has of a log, if it has one.
+fn say_row_losses<S: TextSink>(log: Log, session: &Session, place: RowPlace, out: &mut S)
+    ensures { S.says out.old (Spec.row_losses log session.now place) out.new }
 {
-    if has_left(place.kind) {
-        say_losses(Log::A, session, place.left, out);
+    if has_item(log, place.kind) {
+        say_losses(log, session, place_in(log, place), out);
     }
 }
 
-/// Says what is missing of the one that it has of the right log.
-fn say_right_losses<S: TextSink>(session: &Session, place: RowPlace, out: &mut S)
-    ensures { S.says out.old (Spec.right_losses session.now place.kind place.right) out.new }
+/// The item that a row has of a log, if it has one.
+fn row_item(log: Log, session: &Session, place: RowPlace) -> Option<PlacedItem<'_>>
+    ensures { option_map item_of result ≡ Spec.row_item log session.now place }
 {
-    if has_right(place.kind) {
-        say_losses(Log::B, session, place.right, out);
-    }
-}
-
-/// Whether a row of this kind has an item of the left log.
-fn has_left(kind: Row) -> bool
-    ensures { result ≡ Verdict.has_left kind }
-{
-    match kind {
-        Row::Same | Row::Changed | Row::OnlyLeft => true,
-        Row::OnlyRight => false,
-    }
-}
-
-/// Whether it has one of the right log.
-fn has_right(kind: Row) -> bool
-    ensures { result ≡ Verdict.has_right kind }
-{
-    match kind {
-        Row::Same | Row::Changed | Row::OnlyRight => true,
-        Row::OnlyLeft => false,
-    }
-}
-
-/// The item that a row has of the left log, if it has one.
-fn left_item(session: &Session, place: RowPlace) -> Option<PlacedItem<'_>>
-    ensures { option_map item_of result ≡ Spec.left_item session.now place.kind place.left }
-{
-    if has_left(place.kind) {
-        session.rows().item(place.left)
+    if has_item(log, place.kind) {
+        session.rows().item(place_in(log, place))
     } else {
         None
     }
 }
 
-/// The item that it has of the right log.
-fn right_item(session: &Session, place: RowPlace) -> Option<PlacedItem<'_>>
-    ensures { option_map item_of result ≡ Spec.right_item session.now place.kind place.right }
+/// How many items of a log stand before a row.
+fn place_in(log: Log, place: RowPlace) -> usize
+    ensures { result ≡ Spec.place_in log place }
 {
-    if has_right(place.kind) {
-        session.rows().item(place.right)
-    } else {
-        None
+    match log {
+        Log::A => place.left,
+        Log::B => place.right,
     }
 }
 
@@ -174,9 +143,9 @@ impl Part for Numbers {
             out,
             (
                 "<th scope=\"row\">",
-                NumberIf(has_left(kind), left),
+                NumberIf(has_item(Log::A, kind), left),
                 "<td>",
-                NumberIf(has_right(kind), right),
+                NumberIf(has_item(Log::B, kind), right),
                 "<td>",
             ),
         );

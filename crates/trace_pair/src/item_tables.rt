@@ -3,11 +3,11 @@ ghost use Rattle.std.specs.Prelude.{◌≡◌, ◌==◌, ◌+◌, ◌<◌, ◌&&
 ghost use Rattle.uds_difference.specs.declared.row.Row.{Row as RowValue};
 ghost use Rattle.uds_difference.specs.declared.row.Row.TheVariants as RowKind;
 ghost use Rattle.shown_rows.specs.Rows.{count_of, differs};
-ghost use Rattle.shown_rows.specs.Changes.{changes};
-ghost use Rattle.trace_pair.specs.ItemTables.{IsRoomy};
-ghost use Rattle.trace_pair.specs.ItemTables as Spec;
+ghost use Rattle.trace_pair.specs.ItemTables.{items_text, stretches_text};
+ghost use Rattle.trace_pair.specs.RowStretches.{begun, placed, stretches};
+ghost use Rattle.trace_pair.specs.proving.Standings.{IsRoomy, row_or_fold, seen_text};
 
-use crate::folds::say_fold;
+use crate::folds::{Fold, say_fold};
 use crate::item_row::{Begun, RowPlace, say_item_row};
 use crate::sessions::Sessions;
 use crate::standing::{Standing, Table};
@@ -22,7 +22,7 @@ const OPEN_BLOCKS: usize = 4;
 
 /// Says all items of two sessions with these rows.
 pub(crate) fn say_items<S: TextSink>(sessions: Sessions<'_>, rows: &[Row], out: &mut S)
-    ensures { S.says out.old (Spec.items_text sessions.entry.left.now sessions.entry.right.now rows.now) out.new }
+    ensures { S.says out.old (items_text sessions.entry.left.now sessions.entry.right.now rows.now) out.new }
 {
     say(
         out,
@@ -47,7 +47,7 @@ fn is_filtered(rows: &[Row]) -> bool
 
 /// Says all rows, or that there are none.
 fn say_rows_or_none<S: TextSink>(sessions: Sessions<'_>, rows: &[Row], out: &mut S)
-    ensures { S.says out.old (if length rows.now == 0 then codes "<p>None.</p>\n" else Spec.rows_text sessions.entry.left.now sessions.entry.right.now (length (changes rows.now)) Spec.at_start rows.now) out.new }
+    ensures { S.says out.old (if length rows.now == 0 then codes "<p>None.</p>\n" else stretches_text sessions.entry.left.now sessions.entry.right.now 0 (stretches (placed rows.now))) out.new }
 {
     if rows.is_empty() {
         say(out, "<p>None.</p>\n");
@@ -58,7 +58,7 @@ fn say_rows_or_none<S: TextSink>(sessions: Sessions<'_>, rows: &[Row], out: &mut
 
 /// Says all rows.
 fn say_rows<S: TextSink>(sessions: Sessions<'_>, rows: &[Row], out: &mut S)
-    ensures { S.says out.old (Spec.rows_text sessions.entry.left.now sessions.entry.right.now (length (changes rows.now)) Spec.at_start rows.now) out.new }
+    ensures { S.says out.old (stretches_text sessions.entry.left.now sessions.entry.right.now 0 (stretches (placed rows.now))) out.new }
 {
     let all = count_changes(rows);
     let mut at = Standing::at_start();
@@ -80,14 +80,19 @@ fn say_row_or_fold<S: TextSink>(
 )
     requires { IsRoomy at (length rows.now) }
     ensures { (row : RowValue) (later : List RowValue) → rows.now ≡ row ∷ later
-        → S.says out.old (Spec.row_or_fold sessions.entry.left.now sessions.entry.right.now all at row later) out.new }
+        → S.says out.old (row_or_fold sessions.entry.left.now sessions.entry.right.now all at row later) out.new }
 {
     if at.folded == 0 {
         if is_shown(at.context, rows) {
             say_shown(sessions, all, at, rows, out);
         } else {
             say(out, TableEnd(at.table));
-            say_fold(sessions, at.left, at.right, folded(rows), out);
+            let fold = Fold {
+                left: at.left,
+                right: at.right,
+                count: folded(rows),
+            };
+            say_fold(sessions, fold, out);
         }
     }
 }
@@ -102,7 +107,7 @@ fn say_shown<S: TextSink>(
 )
     requires { IsRoomy at (length rows.now) }
     ensures { (row : RowValue) (later : List RowValue) → rows.now ≡ row ∷ later
-        → S.says out.old (Spec.shown_text sessions.entry.left.now sessions.entry.right.now all at row later) out.new }
+        → S.says out.old (seen_text sessions.entry.left.now sessions.entry.right.now all at row later) out.new }
 {
     let Some(kind) = rows.first() else {
         return;
@@ -121,7 +126,7 @@ fn say_shown<S: TextSink>(
 fn change_begun(at: Standing, all: usize, rows: &[Row]) -> Option<Begun>
     requires { IsRoomy at (length rows.now) }
     ensures { (row : RowValue) (later : List RowValue) → rows.now ≡ row ∷ later
-        → result ≡ Spec.begun at.front at.changes all row later }
+        → result ≡ begun at.front at.changes all row later }
 {
     let change = change_at(at.front, at.left, at.right, rows)?;
     Some(Begun {
@@ -136,7 +141,7 @@ fn change_begun(at: Standing, all: usize, rows: &[Row]) -> Option<Begun>
 struct Opening(Standing);
 
 impl Part for Opening {
-    ghost use Rattle.trace_pair.specs.ItemTables.{opening};
+    ghost use Rattle.trace_pair.specs.proving.Standings.{opening};
 
     ghost text = { λ t. opening t.0.table t.0.blocks t.0.left t.0.right };
 
@@ -207,7 +212,7 @@ impl Part for TableStart {
 struct TableEnd(Table);
 
 impl Part for TableEnd {
-    ghost use Rattle.trace_pair.specs.ItemTables.{table_end};
+    ghost use Rattle.trace_pair.specs.proving.Standings.{table_end};
 
     ghost text = { λ end. table_end end.0 };
 

@@ -1,6 +1,6 @@
 //! What holds of a page of two logs, whatever logs it is of. A law is its contract; a call does nothing. A law of a lower
 //! crate that a proof needs is called.
-ghost use Rattle.trace_pair.specs.Laws.{AgreesWithCompare, ChangesAreOfComparison, ChartHasTheItem, ComparisonIsOfItems, StyleHoldsNoTag, UnansweredHasNone};
+ghost use Rattle.trace_pair.specs.Laws.{AgreesWithCompare, ChangesAreOfComparison, ChartHasTheItem, ComparisonIsOfItems, EachItemStandsOnce, EachRowStandsOnce, LinksHaveTargets, StyleHoldsNoTag, UnansweredHasNone};
 
 use trace_report::laws::items_are_the_meaning;
 
@@ -35,4 +35,19 @@ pub fn chart_has_the_item()
 /// An item that is said to have no answer has none, and so has the log of two that is said to have none.
 pub fn unanswered_has_none()
     ensures { UnansweredHasNone }
+{}
+
+/// The table of items has each row of two sessions once.
+pub fn each_row_stands_once()
+    ensures { EachRowStandsOnce }
+{}
+
+/// The table of items has each item of both sessions once.
+pub fn each_item_stands_once()
+    ensures { EachItemStandsOnce }
+{}
+
+/// Each difference to which a link leads begins with a row of the table of items.
+pub fn links_have_targets()
+    ensures { LinksHaveTargets }
 {}

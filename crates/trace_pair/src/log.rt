@@ -1,7 +1,12 @@
 //! The two logs of a page.
+ghost use Rattle.std.specs.Prelude.{◌≡◌};
+ghost use Rattle.trace_pair.specs.Logs as Spec;
+
+use shown_rows::Change;
 use text_parts::{Part, say};
 use trace_io::TextSink;
 use trace_report::Name;
+use uds_difference::Row;
 
 /// One of the two logs, by its letter.
 #[derive(Clone, Copy, Debug, PartialEq, Eq)]
@@ -48,5 +53,25 @@ impl<'a> Part for LetteredName<'a> {
 
     fn say<S: TextSink>(self, out: &mut S) {
         say(out, (LetterMark(self.0), Name(self.1)));
+    }
+}
+
+/// Whether a row of this kind has an item of the log.
+pub(crate) fn has_item(log: Log, kind: Row) -> bool
+    ensures { result ≡ Spec.has_item log kind }
+{
+    match (log, kind) {
+        (_, Row::Same | Row::Changed) | (Log::A, Row::OnlyLeft) | (Log::B, Row::OnlyRight) => true,
+        (Log::A, Row::OnlyRight) | (Log::B, Row::OnlyLeft) => false,
+    }
+}
+
+/// How many items of a log stand before a change.
+pub(crate) fn items_before(log: Log, change: Change) -> usize
+    ensures { result ≡ Spec.items_before log change }
+{
+    match log {
+        Log::A => change.left,
+        Log::B => change.right,
     }
 }

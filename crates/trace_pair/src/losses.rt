@@ -7,7 +7,7 @@ ghost use Rattle.trace_pair.specs.Verdict as Verdict;
 ghost use Rattle.trace_pair.specs.proving.Losing.{loss_if, lost, lost_if};
 ghost use Rattle.trace_report.specs.proving.Pages.{missing_of, row_of};
 
-use crate::log::{LetterMark, Log};
+use crate::log::{LetterMark, Log, has_item, items_before};
 use shown_rows::Change;
 use text_parts::{Part, When, say};
 use trace_io::TextSink;
@@ -20,29 +20,21 @@ use uds_difference::Row;
 /// So many losses of an item are told.
 const TOLD: usize = 20;
 
-/// Whether something is missing of the items of the left log that belong to a change, or where it has none, of the last
-/// item before it.
-pub(crate) fn left_lossy(session: &Session, change: Change) -> bool
-    ensures { result ≡ Verdict.left_lossy session.now change }
+/// Whether something is missing of the items of a log that belong to a change, or where it has none, of the last item
+/// before it.
+pub(crate) fn is_lossy(log: Log, session: &Session, change: Change) -> bool
+    ensures { result ≡ Verdict.is_lossy log session.now change }
 {
-    match change.kind {
-        Row::Same | Row::Changed | Row::OnlyLeft => is_lossy(session, change.left, change.count),
-        Row::OnlyRight => is_lossy(session, change.left.saturating_sub(1), 1),
-    }
-}
-
-/// The same of the right log.
-pub(crate) fn right_lossy(session: &Session, change: Change) -> bool
-    ensures { result ≡ Verdict.right_lossy session.now change }
-{
-    match change.kind {
-        Row::Same | Row::Changed | Row::OnlyRight => is_lossy(session, change.right, change.count),
-        Row::OnlyLeft => is_lossy(session, change.right.saturating_sub(1), 1),
+    let before = items_before(log, change);
+    if has_item(log, change.kind) {
+        misses(session, before, change.count)
+    } else {
+        misses(session, before.saturating_sub(1), 1)
     }
 }
 
 /// Whether something is missing of so many items, from this one on.
-fn is_lossy(session: &Session, item: usize, count: usize) -> bool
+fn misses(session: &Session, item: usize, count: usize) -> bool
     ensures { result ≡ nat_lt 0 (losses_from session.now.rows item count) }
 {
     count_losses(session, item, count) > 0

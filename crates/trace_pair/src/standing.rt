@@ -1,14 +1,14 @@
 //! What stands before a row of the table of items.
 ghost use Rattle.std.specs.Prelude.{◌≡◌, ◌∷◌, List, length};
 ghost use Rattle.uds_difference.specs.declared.row.Row.{Row as RowValue};
-ghost use Rattle.trace_pair.specs.ItemTables.{IsRoomy, IsSmall};
-ghost use Rattle.trace_pair.specs.ItemTables as Spec;
+ghost use Rattle.trace_pair.specs.proving.Standings.{IsRoomy, IsSmall};
+ghost use Rattle.trace_pair.specs.proving.Standings as Spec;
 
 use shown_rows::{begins_change, context_behind, folded, is_shown, left_in, right_in};
 use uds_difference::Row;
 
-/// A table that folds has so many rows, and another one goes on.
-const FULL_TABLE: usize = 200;
+/// A table has so many rows at most, and another one goes on.
+pub(crate) const FULL_TABLE: usize = 200;
 
 /// The table that stands, with how many rows.
 #[derive(Clone, Copy, Debug, PartialEq, Eq)]

@@ -2,12 +2,14 @@
 ghost use Rattle.std.specs.Prelude.{◌≡◌, ◌≤◌, ◌<◌, ◌+◌, ◌^◌, ◌||◌, length, slice_get};
 ghost use Rattle.std.specs.List.{list_any};
 ghost use Rattle.shown_rows.specs.Changes.{changes};
+ghost use Rattle.trace_pair.specs.declared.log.Log.TheVariants.{A, B};
 ghost use Rattle.trace_pair.specs.Sessions.{values_in};
 ghost use Rattle.trace_pair.specs.Verdict as Spec;
-ghost use Rattle.trace_pair.specs.proving.Changing.{asks_if, count_if, left_lossy_if, lossy_if, right_lossy_if};
+ghost use Rattle.trace_pair.specs.proving.Changing.{asks_if, count_if, is_lossy_if, lossy_if};
 ghost use Rattle.uds_exchange.specs.ItemSeen.{item_value};
 
-use crate::losses::{left_lossy, right_lossy};
+use crate::log::Log;
+use crate::losses::is_lossy;
 use crate::same_words::{NothingVerdict, SameHeading, SameItems};
 use crate::sessions::{Sessions, item_at};
 use crate::verdict_words::{BoundLine, DifferentHeading, LossyLine, SizeLine};
@@ -128,8 +130,8 @@ fn is_exchange(item: Item<'_>) -> bool
 fn losses_at_changes(rows: &[Row], sessions: Sessions<'_>) -> LossyLine
     ensures lossy { result.lossy ≡ Spec.lossy_count sessions.entry.left.now sessions.entry.right.now (changes rows.now) }
     ensures all { result.all ≡ length (changes rows.now) }
-    ensures left { result.left ≡ list_any (Spec.left_lossy sessions.entry.left.now) (changes rows.now) }
-    ensures right { result.right ≡ list_any (Spec.right_lossy sessions.entry.right.now) (changes rows.now) }
+    ensures left { result.left ≡ list_any (Spec.is_lossy A sessions.entry.left.now) (changes rows.now) }
+    ensures right { result.right ≡ list_any (Spec.is_lossy B sessions.entry.right.now) (changes rows.now) }
 {
     let mut line = LossyLine::none();
     let mut front = Row::Same;
@@ -150,13 +152,13 @@ fn with_change(line: LossyLine, sessions: Sessions<'_>, change: Option<Change>) 
     requires few { line.lossy ≤ line.all }
     ensures lossy { result.lossy ≡ lossy_if sessions.entry.left.now sessions.entry.right.now change + line.lossy }
     ensures all { result.all ≡ line.all + count_if change }
-    ensures left { result.left ≡ (left_lossy_if sessions.entry.left.now change || line.left) }
-    ensures right { result.right ≡ (right_lossy_if sessions.entry.right.now change || line.right) }
+    ensures left { result.left ≡ (is_lossy_if A sessions.entry.left.now change || line.left) }
+    ensures right { result.right ≡ (is_lossy_if B sessions.entry.right.now change || line.right) }
 {
     match change {
         Some(change) => line.with(
-            left_lossy(sessions.left, change),
-            right_lossy(sessions.right, change),
+            is_lossy(Log::A, sessions.left, change),
+            is_lossy(Log::B, sessions.right, change),
         ),
         None => line,
     }

@@ -3,8 +3,10 @@ use Rattle.std.specs.Prelude.{ℕ, ◌+◌, ◌-◌, ◌==◌, Bool, false, ◌|
 use Rattle.uds_exchange.specs.Meaning.{ItemValue}
 use Rattle.shown_rows.specs.declared.changes.Change.{Change}
 use Rattle.trace_report.specs.Session.{SessionValue}
+use Rattle.trace_pair.specs.declared.log.Log.{Log}
+use Rattle.trace_pair.specs.declared.log.Log.TheVariants.{A, B}
 use Rattle.trace_pair.specs.Differences.{difference_line, more_start, open_differences}
-use Rattle.trace_pair.specs.Verdict.{is_exchange, left_lossy, right_lossy}
+use Rattle.trace_pair.specs.Verdict.{is_exchange, is_lossy}
 
 -- how many changes there are: one, or none
 abbrev pub count_if : Option Change → ℕ
@@ -19,17 +21,12 @@ line_if left right listed number (Some here) = (if number == open_differences + 
 -- at how many changes a log is not clean: at one, or at none
 abbrev pub lossy_if : SessionValue → SessionValue → Option Change → ℕ
 lossy_if left right None = 0
-lossy_if left right (Some here) = if left_lossy left here || right_lossy right here then 1 else 0
+lossy_if left right (Some here) = if is_lossy A left here || is_lossy B right here then 1 else 0
 
--- there is a change, and the left log is not clean at it
-abbrev pub left_lossy_if : SessionValue → Option Change → Bool
-left_lossy_if left None = false
-left_lossy_if left (Some here) = left_lossy left here
-
--- there is a change, and the right log is not clean at it
-abbrev pub right_lossy_if : SessionValue → Option Change → Bool
-right_lossy_if right None = false
-right_lossy_if right (Some here) = right_lossy right here
+-- there is a change, and the log is not clean at it
+abbrev pub is_lossy_if : Log → SessionValue → Option Change → Bool
+is_lossy_if log session None = false
+is_lossy_if log session (Some here) = is_lossy log session here
 
 -- the item at a place is an exchange, if there is one
 abbrev pub asks_if : Option ItemValue → Bool

@@ -4,5 +4,5 @@ use Rattle.trace_pair.proofs.differences.say_line.Goals as goal
 pub returns : goal.returns
 returns g c =
     let onward = g.met.S.TextSink.onward in
-    let line = rw (c.left_lossy.ensures, c.right_lossy.ensures) at c.say_change_line.ensures in
+    let line = rw (c.is_lossy.ensures, c.is_lossy-2.ensures) at c.say_change_line.ensures in
     onward _ _ _ _ _ (onward _ _ _ _ _ c.say.ensures line) c.say-2.ensures

@@ -12,7 +12,7 @@ returns g c =
     let here = c.args.change in
     let one = c.args.sessions.left.now in
     let other = c.args.sessions.right.now in
-    let line = rw (c.left_lossy.ensures, c.right_lossy.ensures) at c.say_change_line.ensures in
+    let line = rw (c.is_lossy.ensures, c.is_lossy-2.ensures) at c.say_change_line.ensures in
     let own : option_map marked_of c.marks.result ≡ left_marks one other here =
     c.marks.ensures ∙ (λ i. marks (here.left + 1) (c.changed_item-one.ensures i) (c.changed_item-other.ensures i)) in
     let theirs : option_map marked_of c.marks-2.result ≡ right_marks one other here =

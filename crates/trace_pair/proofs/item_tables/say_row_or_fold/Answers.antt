@@ -3,7 +3,8 @@ use Rattle.std.proofs.Common.{◌≡◌, ℕ, ◌∷◌, ◌++◌, Bool, false, 
 use Rattle.std.specs.Prelude.{nat_lt, if◌then◌else◌}
 use Rattle.std.proofs.lemmas.Bool.{le-ltb}
 use Rattle.shown_rows.specs.Folds.{folded, is_shown}
-use Rattle.trace_pair.specs.ItemTables.{fold_text, shown_text, table_end}
+use Rattle.trace_pair.specs.ItemTables.{fold_text}
+use Rattle.trace_pair.specs.proving.Standings.{fold_at, seen_text, table_end}
 use Rattle.trace_pair.proofs.item_tables.say_row_or_fold.Goals as goal
 
 pub returns-else-is_shown : goal.returns-else-is_shown
@@ -12,8 +13,8 @@ returns-else-is_shown g c = λ row later first.
     let other = c.args.sessions.right.now in
     let all = c.args.all in
     let at = c.args.at in
-    let fold = λ (count : ℕ). table_end at.table ++ fold_text one other at.left at.right count in
-    let by = λ (within is : Bool). if within then [] else if is then shown_text one other all at row later else fold (folded (row ∷ later)) in
+    let fold = λ (count : ℕ). table_end at.table ++ fold_text one other (fold_at at count) in
+    let by = λ (within is : Bool). if within then [] else if is then seen_text one other all at row later else fold (folded (row ∷ later)) in
     let free : nat_lt 0 c.args.at.folded ≡ false = le-ltb 0 c.args.at.folded (omega arith) in
     let hidden : is_shown c.args.at.context (row ∷ later) ≡ false =
     ap (is_shown c.args.at.context) (sym first) ∙ sym c.is_shown.ensures ∙ c.if-is_shown.false in

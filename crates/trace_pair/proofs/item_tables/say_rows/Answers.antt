@@ -1,13 +1,14 @@
 -- Each row is said, or the fold that begins with it, behind those before it.
-use Rattle.std.proofs.Common.{ℕ, ◌+◌, ◌≤◌, ◌<◌, ◌^◌, ◌∙◌, arith, rules, ap, subst, sym, length, drop, get_or}
+use Rattle.std.proofs.Common.{ℕ, List, ◌+◌, ◌≤◌, ◌<◌, ◌^◌, ◌∙◌, arith, rules, ap, subst, sym, length, drop, get_or}
 use Rattle.std.proofs.lemmas.List.{drop_all, drop_more, take_rest}
 use Rattle.text_parts.proofs.Promises.{none-said}
 use Rattle.uds_difference.specs.declared.row.Row.TheVariants.{Same}
 use Rattle.shown_rows.specs.Changes.{changes}
 use Rattle.trace_pair.specs.declared.standing.Standing.{Standing}
-use Rattle.trace_pair.specs.ItemTables.{row_or_fold, rows_text}
+use Rattle.trace_pair.specs.proving.Standings.{row_or_fold, rows_behind}
 use Rattle.trace_pair.proofs.Standings.{blocks-small, changes-small, left-small, right-small, roomy}
 use Rattle.trace_pair.proofs.Tables.{turn-row, turn-rows-end}
+use Rattle.trace_pair.proofs.WalkedRows.{walked}
 use Rattle.trace_pair.proofs.item_tables.say_rows.Goals as goal
 
 pub rows-init : goal.rows-init
@@ -20,7 +21,7 @@ rows-init g c =
       changes_small = omega (arith, ap (λ (at : Standing). at.changes) start);
       blocks_small = omega (arith, ap (λ (at : Standing). at.blocks) start);
       left = none-said g.S.TextSink.says c.args.out.now _ _ (g.met.S.TextSink.nothing c.args.out.now)
-          (ap (λ (at : Standing). rows_text c.args.sessions.left.now c.args.sessions.right.now (length (changes rows)) at rows) start);
+          (ap (λ (at : Standing). rows_behind c.args.sessions.left.now c.args.sessions.right.now (length (changes rows)) at rows) start);
     }
 
 pub say_row_or_fold-requires : goal.say_row_or_fold-requires
@@ -65,5 +66,6 @@ rows-preserved g c =
 pub returns : goal.returns
 returns g c =
     let rows = c.args.rows.now in
-    turn-rows-end g.S.TextSink.says g.met.S.TextSink.onward c.args.sessions.left.now c.args.sessions.right.now c.args.out.now _
-    (length (changes rows)) c.rows.at (drop c.rows.k rows) c.rows.out _ (drop_all c.rows.k rows c.rows-test.false) c.rows.invariant.left c.say.ensures
+    subst (λ (text : List ℕ). g.S.TextSink.says c.args.out.now text c.say.new.out) (walked c.args.sessions.left.now c.args.sessions.right.now c.args.rows.now)
+    (turn-rows-end g.S.TextSink.says g.met.S.TextSink.onward c.args.sessions.left.now c.args.sessions.right.now c.args.out.now _
+    (length (changes rows)) c.rows.at (drop c.rows.k rows) c.rows.out _ (drop_all c.rows.k rows c.rows-test.false) c.rows.invariant.left c.say.ensures)

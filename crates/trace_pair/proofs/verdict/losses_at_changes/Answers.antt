@@ -6,15 +6,16 @@ use Rattle.std.proofs.lemmas.List.{drop_all, drop_more, take_rest}
 use Rattle.shown_rows.specs.declared.changes.Change.{Change}
 use Rattle.shown_rows.specs.Changes.{changes, changes_from}
 use Rattle.trace_report.specs.Session.{SessionValue}
-use Rattle.trace_pair.specs.Verdict.{left_lossy, lossy_count, right_lossy}
+use Rattle.trace_pair.specs.declared.log.Log.TheVariants.{A, B}
+use Rattle.trace_pair.specs.Verdict.{is_lossy, lossy_count}
 use Rattle.trace_pair.specs.proving.Changing.{count_if, lossy_if}
-use Rattle.trace_pair.proofs.LossyChanges.{count-next, left-next, lossy-next, right-next}
+use Rattle.trace_pair.proofs.LossyChanges.{any-next, count-next, lossy-next}
 use Rattle.trace_pair.proofs.verdict.losses_at_changes.Goals as goal
 
 -- no more of these changes are lossy than there are
 lossy_within : (left right : SessionValue) (here : Option Change) → lossy_if left right here ≤ count_if here
 lossy_within left right None = omega arith
-lossy_within left right (Some it) = by (left_lossy left it || right_lossy right it)
+lossy_within left right (Some it) = by (is_lossy A left it || is_lossy B right it)
   where
     by : (lossy : Bool) → (if lossy then 1 else 0) ≤ 1
     by true = omega arith
@@ -42,8 +43,8 @@ rows-init c =
       fewer = omega (arith, none.lossy, none.all);
       lossy = omega (arith, none.lossy);
       all = omega (arith, none.all);
-      left = ap (λ (b : Bool). b || list_any (left_lossy left) (changes rows)) none.left;
-      right = ap (λ (b : Bool). b || list_any (right_lossy right) (changes rows)) none.right;
+      left = ap (λ (b : Bool). b || list_any (is_lossy A left) (changes rows)) none.left;
+      right = ap (λ (b : Bool). b || list_any (is_lossy B right) (changes rows)) none.right;
     }
 
 pub rows-preserved : goal.rows-preserved
@@ -68,9 +69,9 @@ rows-preserved c =
       fewer = omega (arith, inv.fewer, more.all, more.lossy, lossy_within left right here);
       lossy = omega (arith, inv.lossy, more.lossy, lossy_next);
       all = omega (arith, inv.all, more.all, all_next);
-      left = left-next left right c.rows.front c.rows.i c.rows.j c.left_in-i.result c.right_in-j.result (drop k rows) (drop (k + 1) rows) (get_or rows k _) first here is
+      left = any-next A left c.rows.front c.rows.i c.rows.j c.left_in-i.result c.right_in-j.result (drop k rows) (drop (k + 1) rows) (get_or rows k _) first here is
           c.left_in-i.ensures.value c.right_in-j.ensures.value c.rows.line.left c.with_change-line.result.left more.left ∙ inv.left;
-      right = right-next left right c.rows.front c.rows.i c.rows.j c.left_in-i.result c.right_in-j.result (drop k rows) (drop (k + 1) rows) (get_or rows k _) first here is
+      right = any-next B right c.rows.front c.rows.i c.rows.j c.left_in-i.result c.right_in-j.result (drop k rows) (drop (k + 1) rows) (get_or rows k _) first here is
           c.left_in-i.ensures.value c.right_in-j.ensures.value c.rows.line.right c.with_change-line.result.right more.right ∙ inv.right;
     }
 
@@ -85,6 +86,6 @@ returns c =
     record {
       lossy = omega (arith, inv.lossy, no_lossy);
       all = omega (arith, inv.all, no_count);
-      left = no_more c.rows.line.left (left_lossy left) _ _ none inv.left;
-      right = no_more c.rows.line.right (right_lossy right) _ _ none inv.right;
+      left = no_more c.rows.line.left (is_lossy A left) _ _ none inv.left;
+      right = no_more c.rows.line.right (is_lossy B right) _ _ none inv.right;
     }

@@ -3,7 +3,8 @@ use Rattle.std.proofs.Common.{◌≡◌, ◌≤◌, ◌+◌, length, drop}
 use Rattle.std.specs.Prelude.{◌||◌}
 use Rattle.std.specs.List.{list_any}
 use Rattle.shown_rows.specs.Changes.{changes, changes_from}
-use Rattle.trace_pair.specs.Verdict.{left_lossy, lossy_count, right_lossy}
+use Rattle.trace_pair.specs.declared.log.Log.TheVariants.{A, B}
+use Rattle.trace_pair.specs.Verdict.{is_lossy, lossy_count}
 use Rattle.trace_pair.proofs.verdict.losses_at_changes.Given as goal
 
 abbrev pub invariant-rows : goal.invariant-rows
@@ -15,8 +16,8 @@ invariant-rows l = record {
   lossy : l.line.lossy + lossy_count l.sessions.left.now l.sessions.right.now (changes_from l.front l.i l.j (drop l.k l.rows))
       ≡ lossy_count l.sessions.left.now l.sessions.right.now (changes l.rows);
   all : l.line.all + length (changes_from l.front l.i l.j (drop l.k l.rows)) ≡ length (changes l.rows);
-  left : (l.line.left || list_any (left_lossy l.sessions.left.now) (changes_from l.front l.i l.j (drop l.k l.rows)))
-      ≡ list_any (left_lossy l.sessions.left.now) (changes l.rows);
-  right : (l.line.right || list_any (right_lossy l.sessions.right.now) (changes_from l.front l.i l.j (drop l.k l.rows)))
-      ≡ list_any (right_lossy l.sessions.right.now) (changes l.rows);
+  left : (l.line.left || list_any (is_lossy A l.sessions.left.now) (changes_from l.front l.i l.j (drop l.k l.rows)))
+      ≡ list_any (is_lossy A l.sessions.left.now) (changes l.rows);
+  right : (l.line.right || list_any (is_lossy B l.sessions.right.now) (changes_from l.front l.i l.j (drop l.k l.rows)))
+      ≡ list_any (is_lossy B l.sessions.right.now) (changes l.rows);
 }
