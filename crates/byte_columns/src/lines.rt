@@ -128,12 +128,12 @@ impl<'a> Beside<'a> {
         requires before { before ≡ differing_before self.now number }
         ensures { result ≡ differing_before self.now (number + count) }
     {
-        let mut differ = before;
+        let mut behind = before;
         'lines: for at in number..number + count {
             if self.differing_in(at) > 0 {
-                differ += 1;
+                behind += 1;
             }
         }
-        differ
+        behind
     }
 }

@@ -9,8 +9,8 @@ use Rattle.byte_columns.proofs.column.Beside.differing_behind.Goals.{then-differ
 pub overflow_add-at-end : goal.overflow_add-at-end
 overflow_add-at-end c = let all = lines-few c.args.self.now in omega (arith, c.requires.inside, all)
 
-pub overflow_add-differ : goal.overflow_add-differ
-overflow_add-differ c =
+pub overflow_add-behind : goal.overflow_add-behind
+overflow_add-behind c =
     let few = before-few c.args.self.now c.lines.at in
     let all = lines-few c.args.self.now in
     omega (arith, c.lines.invariant.differ, c.requires.inside, c.lines-test.true, few, all)
