@@ -8,6 +8,7 @@ pub mod Standings
 pub mod FoldParts
 pub mod SeenTables
 pub mod WalkedRows
+mod ItemPlaces
 mod RowsOnce
 pub mod ChartRows
 pub mod ChangeSteps

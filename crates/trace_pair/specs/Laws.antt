@@ -78,8 +78,8 @@ abbrev pub UnansweredHasNone : Type 0
 UnansweredHasNone = (request : List ℕ)
     → ((answer : Option (List ℕ)) → (came_of request answer ≡ Unanswered → answer ≡ None) × (came_of request answer ≡ Silent → answer ≡ None))
     × ((reply : List ℕ) → is_suppressing request ≡ false
-    → (differ (exchange request (Some reply)) (exchange request None) ≡ outcome_words (came_of request (Some reply)) ++ codes " in A, without an answer in B")
-    × (differ (exchange request None) (exchange request (Some reply)) ≡ codes "without an answer in A, " ++ outcome_words (came_of request (Some reply)) ++ codes " in B"))
+    → (differ (exchange request (Some reply)) (exchange request None) ≡ outcome_words (came_of request (Some reply)) ++ codes " in A, " ++ outcome_words Unanswered ++ codes " in B")
+    × (differ (exchange request None) (exchange request (Some reply)) ≡ outcome_words Unanswered ++ codes " in A, " ++ outcome_words (came_of request (Some reply)) ++ codes " in B"))
 
 -- the first change stands behind so many items of both sessions
 abbrev pub BeginBehind : ℕ → List Change → Type 0
