@@ -1,6 +1,7 @@
 pub mod Pieces
 pub mod Cells
 pub mod LineCells
+mod SeenMarks
 pub mod LastDigits
 pub mod Stretches
 pub mod Tables
@@ -14,6 +15,7 @@ pub mod ChangeSteps
 pub mod ListedChanges
 pub mod LossyChanges
 pub mod LossPlaces
+mod LossesOnce
 pub mod LostRows
 pub mod ChartPlaces
 pub mod Asking
