@@ -9,6 +9,7 @@ pub mod Standings
 pub mod FoldParts
 pub mod SeenTables
 pub mod WalkedRows
+pub mod ItemPlaces
 mod RowsOnce
 pub mod ChartRows
 pub mod ChangeSteps

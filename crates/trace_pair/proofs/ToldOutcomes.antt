@@ -1,11 +1,11 @@
 -- What is told of an exchange without an answer.
-use Rattle.std.proofs.Common.{◌≡◌, ℕ, Bool, true, false, List, [], ◌∷◌, ◌++◌, Option, Some, None, nat_eq, refl}
+use Rattle.std.proofs.Common.{◌≡◌, ℕ, Bool, true, false, List, [], ◌∷◌, ◌++◌, Option, Some, None, append_assoc, nat_eq, refl}
 use Rattle.std.proofs.lemmas.Bool.{eq-eqb}
 use Rattle.std.specs.Prelude.{codes, if◌then◌else◌}
 use Rattle.uds_message.specs.Message.{is_negative_response, is_suppressing, response_code}
 use Rattle.uds_difference.specs.Likeness.{same_bytes}
 use Rattle.uds_exchange.specs.Meaning.{exchange}
-use Rattle.trace_pair.specs.ItemWords.{differ, outcome_words}
+use Rattle.trace_pair.specs.ItemWords.{came_of, differ, outcome_words}
 use Rattle.trace_pair.specs.Laws.{UnansweredHasNone}
 use Rattle.trace_pair.specs.declared.outcome.Outcome.{Outcome}
 use Rattle.trace_pair.specs.declared.outcome.Outcome.TheVariants.{Positive, Refused, Silent, Unanswered}
@@ -34,14 +34,18 @@ Told request negative reply =
     (differ (exchange request (Some reply)) (exchange request None) ≡ outcome_words came ++ codes " in A, without an answer in B")
     × (differ (exchange request None) (exchange request (Some reply)) ≡ codes "without an answer in A, " ++ outcome_words came ++ codes " in B")
 
+-- the words behind an answer, one after another
+ends : (words : List ℕ) → words ++ codes " in A, " ++ codes "without an answer" ++ codes " in B" ≡ words ++ codes " in A, without an answer in B"
+ends words = simp append_assoc
+
 told : (request reply : List ℕ) (negative : Bool) → is_negative_response reply ≡ negative → is_suppressing request ≡ false → Told request negative reply
-told request reply true is asks = rw (itself request) rw is rw asks (refl, refl)
+told request reply true is asks = rw (itself request) rw is rw asks (ends (outcome_words (Refused (response_code reply))), refl)
 told request reply false is asks = rw (itself request) rw is rw asks (refl, refl)
 
 pub unanswered_has_none : UnansweredHasNone
 unanswered_has_none request = (none, λ reply. told request reply (is_negative_response reply) refl)
   where
-    none : (answer : Option (List ℕ)) → _
+    none : (answer : Option (List ℕ)) → (came_of request answer ≡ Unanswered → answer ≡ None) × (came_of request answer ≡ Silent → answer ≡ None)
     none None = (λ is. refl, λ is. refl)
     none (Some reply) =
         (λ is. absurd (never_unanswered (is_negative_response reply) (response_code reply) is), λ is. absurd (never_silent (is_negative_response reply) (response_code reply) is))
