@@ -83,6 +83,11 @@ DIFFERENCES = [
     ("frames that are dropped", [REQUEST, ANSWER], [REQUEST, UNKNOWN, ANSWER, FIRST], None),
     ("no answer in both", [REQUEST], [REQUEST], None),
     ("silence in both", [SILENT, KEEP_ALIVE], [SILENT, KEEP_ALIVE], None),
+    ("as many frames that are dropped as are told of an item", [REQUEST, *20 * [UNKNOWN]], [REQUEST], None),
+    ("more than that", [REQUEST], [REQUEST, *21 * [UNKNOWN], FIRST], None),
+    ("more than that before any item", [*22 * [UNKNOWN], REQUEST], [REQUEST], None),
+    ("more than that, and no item", [*22 * [UNKNOWN]], [STRAY], (1, "only in B", "stray from the unit 41")),
+    ("more than that, and no item in both", [FIRST, *23 * [UNKNOWN]], [*20 * [UNKNOWN]], None),
 ]
 
 # The other frames of the message that FIRST begins.
@@ -431,6 +436,28 @@ def known_texts(cases):
         cases.report(f"what is known of {name}", [f"{text!r} is not there" for text in texts if text not in page])
 
 
+def known_notes(cases):
+    """A page says that there may be a shorter difference exactly where the bound was passed up to which one is looked for, and how many rows
+    it has exactly where these are more than 100,000."""
+    for count, is_passed in ((1000, False), (1001, True)):
+        left, right = (log_of(*(frame for number in range(count) for frame in answered(number, byte))) for byte in ("01", "02"))
+        note = "<p>Perhaps not the shortest: more than 2000 items would be removed or added.</p>\n"
+        cases.report(f"{count} answers that differ", noted_otherwise(cases, left, right, note, is_passed))
+    for count, is_large in ((100_000, False), (100_001, True)):
+        log = count * log_of(STRAY)
+        cases.report(f"{count} rows", noted_otherwise(cases, log, log, f"<p>This page has {count} rows. ", is_large))
+
+
+def answered(number, byte):
+    return f"7E0#0322{number:04X}", f"7E8#0462{number:04X}{byte}"
+
+
+def noted_otherwise(cases, left, right, note, is_noted):
+    with files(left, right) as names:
+        page = cases.run(["report", *names]).output.decode()
+    return [] if (note in page) == is_noted else [f"{note!r} is {'not ' if is_noted else ''}there"]
+
+
 def strays(*messages):
     return log_of_messages(*((UNIT, message) for message in messages))
 
@@ -617,7 +644,7 @@ def main():
     if len(sys.argv) < 2:
         sys.exit(__doc__)
     cases = Cases(os.path.abspath(sys.argv[1]), sys.argv[2:])
-    cases.each([golden, pages, told_differences, known_texts, refused_logs, refused_by_compare, names, options, strict_runs, streams, devices, memory])
+    cases.each([golden, pages, told_differences, known_texts, known_notes, refused_logs, refused_by_compare, names, options, strict_runs, streams, devices, memory])
     cases.end()
 
 
