@@ -1,6 +1,6 @@
 -- Each loss of a log stands with one of its items.
 use Rattle.std.proofs.Common.{◌≡◌, ℕ, zero, suc, ◌+◌, ◌-◌, ◌≤◌, ◌<◌, Bool, true, false, List, [], ◌∷◌, ◌++◌, length, ap, sym, ◌∙◌, arith, refl, inl, inr}
-use Rattle.std.specs.Prelude.{max, Option, Some, None, if◌then◌else◌}
+use Rattle.std.specs.Prelude.{max, Some, None, if◌then◌else◌}
 use Rattle.std.specs.List.{filter, flat_map, range_with_len}
 use Rattle.std.proofs.lemmas.Bool.{cases_Bool}
 use Rattle.std.proofs.lemmas.List.{take_all}

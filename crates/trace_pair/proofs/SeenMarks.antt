@@ -7,7 +7,7 @@ use Rattle.can_log.specs.Digits.{digit, digits}
 use Rattle.byte_columns.specs.declared.column.Column.{Column}
 use Rattle.byte_columns.specs.Columns.{differs}
 use Rattle.trace_pair.specs.declared.log.Log.{Log}
-use Rattle.trace_pair.specs.ColumnLines.{byte_or_gap, cells, cells_behind, mark_end, mark_start}
+use Rattle.trace_pair.specs.ColumnLines.{byte_or_gap, cells_behind, mark_end, mark_start}
 use Rattle.trace_pair.specs.Laws.{MarksAreOfColumnsThatDiffer, SeenLetter, seen_from, seen_letter, seen_of}
 use Rattle.trace_pair.specs.Logs.{byte_of}
 
