@@ -2,10 +2,10 @@
 ghost use Rattle.std.specs.Prelude.{◌≡◌, ◌<◌, ◌^◌, ◌∷◌, ◌++◌, [], IfOk, OnErr, OnOk, length, option_map, slice_get};
 ghost use Rattle.uds_exchange.specs.Blocks.{GoesOn};
 ghost use Rattle.trace_report.specs.Items.{items_in, rows_before, item_of};
+ghost use Rattle.trace_report.specs.Rows.{row_of};
 ghost use Rattle.trace_report.specs.Sorts.{counts_in};
 ghost use Rattle.trace_report.specs.proving.Keeping.{IsLaid, rows_at};
 ghost use Rattle.trace_report.specs.proving.Keeping as Keeping;
-ghost use Rattle.trace_report.specs.Rows.{row_of};
 
 use crate::counts::SortCounts;
 use crate::item_places::{ItemPlace, note_row};
