@@ -282,8 +282,9 @@ def notes_of(came, rows, changes):
     notes = []
     if changes:
         notes = lossy_note(came, rows, changes)
-        bound = difference_oracle.bound_for(sum(map(len, came.items)))
-        is_shortest = difference_oracle.is_shortest(*came.items)
+        count = sum(map(len, came.items))
+        bound = difference_oracle.bound_for(count)
+        is_shortest = count <= bound or difference_oracle.is_shortest(*came.items)
         notes += [] if is_shortest else [f"Perhaps not the shortest: more than {bound} items would be removed or added."]
     if len(rows) > LARGE_PAGE:
         notes.append(f"This page has {len(rows)} rows. udsnorm diff has the differences alone, and udsnorm list any part of a session.")

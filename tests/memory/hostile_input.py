@@ -62,9 +62,18 @@ LONGEST_PLACE_OBJECT = (
 ROW_OF_ONE = Fraction(398 + 6 * 4, 22)
 
 # What it has for two such requests of which one asks for no answer, and for one behind them that one log has alone, of a service whose name
-# has a letter less. The numbers of these differences, of which each row has four, have three digits.
+# has a letter less. The numbers of these differences, of which each row has four, have three digits. After 200 rows a table ends, and another
+# one begins.
 SILENT_REQUEST, ALONE = b"(0.000000) a 7E0#022C80\n", b"(0.000000) a 7E0#012F\n"
-CHANGED_AND_ALONE = Fraction((819 + 8 * 4 - 4) + (397 + 6 * 4 - 4), 24 + 22 + 22)
+BLOCK = len("""</table>
+</details>
+<details class="b" open>
+<summary>From A&#160;1000, B&#160;1000</summary>
+<table class="pair">
+<thead><tr><th scope="col">A<th scope="col">B<th scope="col">Item</thead>
+<tbody>
+""")
+CHANGED_AND_ALONE = Fraction(100 * ((819 + 8 * 4 - 4) + (397 + 6 * 4 - 4)) + BLOCK, 100 * (24 + 22 + 22))
 
 # Who sends a message of each role.
 ROLES = {"request tester", "stray tester", "answer unit", "pending unit", "stray unit"}
