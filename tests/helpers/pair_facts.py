@@ -1,5 +1,7 @@
 """A second reading of what the page of two logs tells: its rows, changes, folds and verdict, from the items of both logs."""
 
+import datetime
+import itertools
 from collections import namedtuple
 
 import difference_oracle
@@ -9,8 +11,12 @@ import report_reader
 from difference_oracle import ADDED, CHANGED, REMOVED, SAME
 
 # How the program ends over two logs and what it tells then; the items of both, where both can be read, and else the letter of the one that
-# can't; and of both whether it is clean, and whether its sides look exchanged; and the charts of both, where they differ.
-Came = namedtuple("Came", "status fault items refused clean exchanged charts")
+# can't; and of both whether it is clean, and whether its sides look exchanged; the charts of both, where they differ; what is found of each
+# recording; and what is missing of each log, by items.
+Came = namedtuple("Came", "status fault items refused clean exchanged charts recordings losses", defaults=(None, None))
+
+# A recording: its state up to the counts, how many items it has, when its first frame was, and how long it is.
+Recording = namedtuple("Recording", "state items first length")
 
 # A row: what becomes of the items, and their places in both lists, counted from 0.
 Row = namedtuple("Row", "kind left right")
@@ -23,6 +29,12 @@ Chart = namedtuple("Chart", "rows more is_end")
 
 # A row of a chart: how it looks, its item, its lines, and its time.
 ChartRow = namedtuple("ChartRow", "look item lines time")
+
+# 100,000,000 seconds after the beginning of 1970.
+DATED_FROM = datetime.datetime(1973, 3, 3, 9, 46, 40)
+
+# So many losses of an item are told, and of more rows than so many a page says how many it has.
+TOLD_LOSSES, LARGE_PAGE = 20, 100_000
 
 # So many rows before a change and behind it are shown.
 CONTEXT = 3
@@ -49,7 +61,28 @@ def came_of(left, right, limit=oracle.GIBIBYTE, sides=oracle.SIDES, is_strict=Fa
     status = oracle.UNCLEAN if told else oracle.DONE if items[0] == items[1] else oracle.DIFFERENT
     exchanged = [oracle.look_exchanged(session) for session in sessions]
     charts = None if items[0] == items[1] else charts_of(frames, items)
-    return Came(status, "\n".join(told) or None, items, None, [not fault for fault in unclean], exchanged, charts)
+    recordings = [recording_of(*log) for log in zip(frames, items, unclean, exchanged)]
+    losses = [losses_of(trace) for trace in frames]
+    return Came(status, "\n".join(told) or None, items, None, [not fault for fault in unclean], exchanged, charts, recordings, losses)
+
+
+def recording_of(frames, items, unclean, exchanged):
+    """What is found of a log with these frames and items."""
+    counts = f"{unclean.removeprefix('not clean: ')}." if unclean else ""
+    states = {(False, False): "clean", (False, True): "tester and unit look exchanged: ", (True, False): "not clean: "}
+    state = states.get((bool(unclean), exchanged), "not clean, and tester and unit look exchanged: ") + counts
+    if not frames:
+        return Recording(state, len(items), "\u2013", "\u2013")
+    first, last = frames[0].micros, frames[-1].micros
+    return Recording(state, len(items), moment(first), f"{report_facts.seconds(first, last)} s")
+
+
+def moment(micros):
+    """A stamp, with its date in UTC where it is of March 1973 or later, and of a year with four digits."""
+    date = DATED_FROM + datetime.timedelta(seconds=micros // 1_000_000 - 100_000_000) if micros // 1_000_000 < 253_402_300_800 else None
+    if micros < 100_000_000_000_000 or not date:
+        return oracle.stamp(micros)
+    return f"{date:%Y-%m-%d %H:%M:%S} UTC ({oracle.stamp(micros)})"
 
 
 def rows_of(ours, theirs):
@@ -153,21 +186,109 @@ def cells_of(columns, side):
     return [("--" if pair[side] is None else f"{pair[side]:02X}", pair[0] != pair[1]) for pair in columns]
 
 
-def lines_of(one, other):
-    """The lines of both messages: whose each is, the number of its first byte, its cells, and whether it is folded."""
-    columns = columns_of(one, other)
+def shown_lines(columns):
+    """The lines of some columns, each with whether it is shown, and not folded."""
     lines, other_lines = [], 0
     for start in range(0, min(len(columns), MOST_COLUMNS), WIDTH):
         line = columns[start : min(start + WIDTH, MOST_COLUMNS)]
         differs = any(left != right for left, right in line)
-        is_shown = len(columns) <= ALL_COLUMNS or start == 0 or (differs and other_lines < OTHER_LINES)
+        lines.append((line, len(columns) <= ALL_COLUMNS or start == 0 or (differs and other_lines < OTHER_LINES)))
         other_lines += differs
+    return lines
+
+
+def lines_of(one, other):
+    """The lines of both messages: whose each is, the number of its first byte, its cells, and whether it is folded."""
+    columns, lines = columns_of(one, other), []
+    for number, (line, is_shown) in enumerate(shown_lines(columns)):
+        differs = any(left != right for left, right in line)
         for side in (0, 1) if differs else (0,):
-            before = sum(pair[side] is not None for pair in columns[:start])
+            before = sum(pair[side] is not None for pair in columns[: number * WIDTH])
             cells = cells_of(line, side)
             is_empty = all(cell == "--" for cell, _ in cells)
             lines.append(("AB"[side] if differs else "=", None if is_empty else before + 1, None if is_empty else cells, not is_shown))
     return lines
+
+
+def folded_of(one, other):
+    """Of each longest run of lines that are folded how many columns it has, and how many of them differ; and the same of all columns that
+    stand in no line, if some are there."""
+    columns = columns_of(one, other)
+    runs = itertools.groupby(shown_lines(columns), key=lambda line: line[1])
+    folds = [[column for line, _ in run for column in line] for is_shown, run in runs if not is_shown]
+    folds += [columns[MOST_COLUMNS:]] if columns[MOST_COLUMNS:] else []
+    return [(len(fold), sum(left != right for left, right in fold)) for fold in folds]
+
+
+# --- What is missing ----------------------------------------------------------------------------------------------------
+
+
+def losses_of(frames):
+    """What is missing of a log, by the places of its items: each loss belongs to the item that began last before it, or to the first."""
+    rows = [*report_facts.rows_of(frames), *report_facts.end_rows(frames)] if frames else []
+    begun = [place for place, row in enumerate(rows) if isinstance(row, report_facts.Message) and row.asked is None]
+    losses = {}
+    for place, row in enumerate(rows):
+        if not isinstance(row, (report_facts.Message, report_facts.NoAnswer)):
+            losses.setdefault(max(sum(begin < place for begin in begun) - 1, 0), []).append(loss_words(row))
+    return losses
+
+
+def loss_words(row):
+    """How a loss is told, up to why in other words."""
+    match row:
+        case report_facts.Dropped():
+            return f"line {row.entry.line}: dropped {row.entry.direction} frame: {row.reason}"
+        case report_facts.Ended():
+            return f"line {row.entry.line}: ended {partial_words(row)} {row.cause}"
+    return f"unfinished {partial_words(row)} the log ends before its last frame"
+
+
+def partial_words(row):
+    return f"{row.side} message from line {row.begun.line}, {row.begun.layout.announced} bytes announced:"
+
+
+def losses_told(log, losses):
+    """What is told of the losses of an item: the first ones, and how many more there are."""
+    more = len(losses) - TOLD_LOSSES
+    return [f"{log} {words}" for words in losses[:TOLD_LOSSES]] + ([f"and {more} more in {log}"] if more > 0 else [])
+
+
+def is_lossy(losses, has_item, before, count):
+    """Whether something is missing of the items that a log has in a change, or where it has none, of the last one before it."""
+    places = range(before, before + count) if has_item else [max(before - 1, 0)]
+    return any(losses.get(place) for place in places)
+
+
+def lossy_note(came, rows, changes):
+    """What is said of the changes at which a log is not clean, if there are some."""
+    at = [[], []]
+    for change in changes:
+        for side, kind in ((0, ADDED), (1, REMOVED)):
+            before = sum(row[1 + side] is not None for row in rows[: change.first])
+            at[side].append(is_lossy(came.losses[side], change.kind != kind, before, change.count))
+    lossy, everywhere = sum(map(any, zip(*at))), len(changes)
+    if not lossy:
+        return []
+    each = "At this difference" if everywhere == 1 else "At each of these differences"
+    place = each if lossy == everywhere else f"At {lossy} of these {everywhere} differences"
+    who = {(True, True): "A or B is", (True, False): "A is", (False, True): "B is"}[tuple(map(any, at))]
+    told = "frames are missing, late, out of order or of no legal form there. The recording may differ, and not the session."
+    return [f"{place} {who} not clean: {told}"]
+
+
+def notes_of(came, rows, changes):
+    """What is said below the heading and its sentence."""
+    notes = []
+    if changes:
+        notes = lossy_note(came, rows, changes)
+        count = sum(map(len, came.items))
+        bound = difference_oracle.bound_for(count)
+        is_shortest = count <= bound or difference_oracle.is_shortest(*came.items)
+        notes += [] if is_shortest else [f"Perhaps not the shortest: more than {bound} items would be removed or added."]
+    if len(rows) > LARGE_PAGE:
+        notes.append(f"This page has {len(rows)} rows. udsnorm diff has the differences alone, and udsnorm list any part of a session.")
+    return notes
 
 
 def look_of(came):

@@ -30,8 +30,16 @@ def told_otherwise(page, came):
         fault = came.fault.split(": ", 1)[1]
         text = f"{came.refused} is refused, so nothing is compared</h2>\n<p><em>{fault}.</em>"
         return ([] if text in page else [f"{text!r} is not there"]) + (["a refused log has rows"] if "<tr" in page else [])
-    read = pair_reader.read(page)
-    return faults(page, *came.items) + verdict_faults(read, came) + chart_faults(read, came)
+    read, rows = pair_reader.read(page), pair_facts.rows_of(*came.items)
+    changes = pair_facts.changes_of(rows)
+    return [
+        *faults(page, *came.items),
+        *verdict_faults(read, came),
+        *note_faults(read, came, rows, changes),
+        *recording_faults(read, came),
+        *chart_faults(read, came),
+        *loss_faults(read, came),
+    ]
 
 
 def verdict_faults(read, came):
@@ -62,7 +70,7 @@ def row_faults(read, rows):
     shown = pair_facts.shown_of(rows)
     wrong = [] if told == wanted else [f"the rows are {told[:5]}.., not {wanted[:5]}.."]
     wrong += [] if [not row.is_folded for row in read.rows] == shown else ["other rows are folded"]
-    wrong += [] if [tuple(fold) for fold in read.folds] == pair_facts.folds_of(rows) else [f"the folds are {read.folds}"]
+    wrong += [] if [tuple(fold[:3]) for fold in read.folds] == pair_facts.folds_of(rows) else [f"the folds are {read.folds}"]
     return wrong
 
 
@@ -122,7 +130,54 @@ def mark_faults(read, ours, theirs):
         told = [[tuple(line) for line in lines] for lines, _ in row.lines]
         if told != wanted:
             wrong.append(f"the bytes of A {row.left}, B {row.right} have other marks")
+        folded = [pair_facts.folded_of(one, other) for one, other in messages_of(ours[row.left - 1], theirs[row.right - 1])]
+        if [counts for _, counts in row.lines] != folded:
+            wrong.append(f"of the bytes of A {row.left}, B {row.right} that are folded others are counted")
     return wrong
+
+
+def recording_faults(read, came):
+    """Whether the row of each recording has its state, its items, the date of its first frame, and its length."""
+    if len(read.recordings) != len(came.recordings):
+        return [f"there are {len(read.recordings)} recordings"]
+    wrong = []
+    for log, told, wanted in zip("AB", read.recordings, came.recordings):
+        is_state = told.state == wanted.state if wanted.state == "clean" else told.state.startswith(wanted.state)
+        wrong += [] if is_state else [f"{log} is {told.state!r}, not {wanted.state!r}"]
+        wrong += [] if told[1:] == wanted[1:] else [f"{log} has {told[1:]}, not {wanted[1:]}"]
+    return wrong
+
+
+def note_faults(read, came, rows, changes):
+    """Whether it is said below the heading where a log is not clean, that there may be a shorter difference, and of a large page its size."""
+    notes = pair_facts.notes_of(came, rows, changes)
+    return [] if read.notes == notes else [f"the notes are {read.notes}, not {notes}"]
+
+
+def loss_faults(read, came):
+    """Whether each loss stands in the row of its item, and is counted where that is folded; and above the items of a log that has none."""
+    wrong, alone = [], []
+    for log, items, losses in zip("AB", came.items, came.losses):
+        alone += [] if items else pair_facts.losses_told(log, losses.get(0, []))
+    wrong += [] if are_told(read.alone, alone) else [f"above the items stands {read.alone}, not {alone}"]
+    for row in read.rows:
+        wanted = []
+        for log, number, losses in zip("AB", (row.left, row.right), came.losses):
+            wanted += pair_facts.losses_told(log, losses.get(number - 1, [])) if number else []
+        wrong += [] if are_told(row.losses, wanted) else [f"of A {row.left}, B {row.right} is missing {row.losses}, not {wanted}"]
+    for fold in read.folds:
+        count = {
+            log: sum(len(losses.get(place, [])) for place in range(first - 1, last))
+            for log, (first, last), losses in zip("AB", (fold.left, fold.right), came.losses)
+        }
+        counted = {log: lost for log, lost in count.items() if lost}
+        wrong += [] if fold.losses == counted else [f"of a fold is missing {fold.losses}, not {counted}"]
+    return wrong
+
+
+def are_told(told, wanted):
+    """Whether each of these losses is told, with why in other words behind it or not."""
+    return len(told) == len(wanted) and all(words.startswith(front) for words, front in zip(told, wanted))
 
 
 def messages_of(one, other):

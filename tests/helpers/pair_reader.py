@@ -3,12 +3,16 @@
 What has none of the forms below is an error, so that nothing of a row is passed over.
 """
 
+import html
 import re
 from collections import namedtuple
 
-# The heading, the sentence below it, the lines of the list, what the first difference is said to be, the charts of both logs there, and the
-# rows of the table of items.
-Page = namedtuple("Page", "look heading same_line notes listed first charts rows folds identifiers targets")
+# The heading, the sentence below it, the notes behind that, both recordings, the lines of the list, what the first difference is said to
+# be, the charts of both logs there, what is missing of a log without an item, and the rows of the table of items.
+Page = namedtuple("Page", "look heading same_line notes recordings listed first charts alone rows folds identifiers targets")
+
+# A recording: its state, how many items it has, when its first frame was, and how long it is.
+Recording = namedtuple("Recording", "state items first length")
 
 # What becomes of the items, their numbers, the identifier, whether it stands in a fold of equal items, what stands above its items, the lines
 # of bytes that stand under each other, what is missing of each log, and all its text.
@@ -17,8 +21,8 @@ Row = namedtuple("Row", "kind left right identifier is_folded top lines losses t
 # A line of bytes: whose it is, the number of its first byte, and its cells, each with whether it has a mark; and whether it is folded.
 Line = namedtuple("Line", "whose first cells is_folded")
 
-# A fold of equal items: how many, and the first and last numbers of both logs.
-Fold = namedtuple("Fold", "count left right")
+# A fold of equal items: how many, the first and last numbers of both logs, and how much is missing of each log.
+Fold = namedtuple("Fold", "count left right losses")
 
 # A line of the list: the number of the difference, where it stands, what kind it is of, and what it says.
 Listed = namedtuple("Listed", "number place tag words")
@@ -53,7 +57,11 @@ WORDS_ROW = re.compile(
 TAG = re.compile(r"<[^>]*>")
 FOLD = re.compile(
     r'<details class="b same(?: long)?">\n<summary><b>(\d+) items?, the same</b> <i>A&#160;(\d+)(?:&#8211;(\d+))?, B&#160;(\d+)(?:&#8211;(\d+))?</i>'
+    r'((?: <em class="loss">\d+ dropped, ended or unfinished in [AB]</em>)*)</summary>'
 )
+FOLD_LOSS = re.compile(r">(\d+) [^<]* in ([AB])<")
+RECORDING = re.compile(r'<tr><th scope="row"><span class="who">[AB]</span> [^<\n]*<td>(.*?)<td>(\d+)<td>(.*?)<td>(.*?)\n')
+ALONE = re.compile(r'<section id="items">\n<h2>Items</h2>\n(?:<p class="filter">[^\n]*\n)?((?:<p class="lost">.*?</p>)*)<')
 LINES = re.compile(r'<div class="hx">(.*?)</div>')
 LINE = re.compile(r'<p><i>(\d*)</i>(?:<span class="who(?: eq)?">([AB=])</span>)?<code>(.*?)</code>(?: <samp>([^<]*)</samp>)?</p>')
 MORE = re.compile(r"<details><summary>(\d+) bytes? more, (the same|(\d+) of them differs?)</summary>(.*?)</details>")
@@ -103,14 +111,23 @@ def number(text):
 def row_of(match, is_folded):
     top = TOP.search(match[5])
     lines = [lines_of(block) for block in LINES.findall(match[5])]
-    return Row(
-        KINDS[match[1]], number(match[3]), number(match[4]), match[2], is_folded, top and top[1], lines, LOST.findall(match[5]), match[5]
-    )
+    return Row(KINDS[match[1]], number(match[3]), number(match[4]), match[2], is_folded, top and top[1], lines, losses_in(match[5]), match[5])
+
+
+def losses_in(text):
+    """What a text says that is missing, without its tags."""
+    return [plain(words) for words in LOST.findall(text)]
+
+
+def plain(text):
+    """A text without its tags, and with the signs that stand by their numbers."""
+    return html.unescape(TAG.sub("", text)).replace("\xA0", " ")
 
 
 def fold_of(match):
-    count, left, left_end, right, right_end = (int(part) if part else None for part in match.groups())
-    return Fold(count, (left, left_end or left), (right, right_end or right))
+    count, left, left_end, right, right_end = (int(part) if part else None for part in match.groups()[:5])
+    losses = {log: int(lost) for lost, log in FOLD_LOSS.findall(match[6])}
+    return Fold(count, (left, left_end or left), (right, right_end or right), losses)
 
 
 def fold_spans(page):
@@ -168,15 +185,20 @@ def read(page):
     rows = [row_of(match, any(start < match.start() < end for start, end in spans)) for match in ROW.finditer(page)]
     if len(rows) != len(re.findall(r'<tr class="(?:same|d )', page)):
         raise ValueError("a row of another form")
-    paragraphs = re.findall(r"<p[^>]*>(.*?)</p>\n", verdict[4])
+    paragraphs = [plain(text) for text in re.findall(r"<p[^>]*>(.*?)</p>\n", verdict[4])]
+    alone = ALONE.search(page)
+    if not alone:
+        raise ValueError("the items begin in another way")
     return Page(
         verdict[1],
         verdict[3],
         paragraphs[0] if paragraphs else None,
         paragraphs[1:],
+        [Recording(plain(match[1]), int(match[2]), plain(match[3]), plain(match[4])) for match in RECORDING.finditer(page)],
         [Listed(int(match[1]), match[2], match[3], words_of(match[4])) for match in LISTED.finditer(page)],
         first_of(page),
         charts_of(page),
+        losses_in(alone[1]),
         rows,
         [fold_of(match) for match in FOLD.finditer(page)],
         re.findall(r' id="(\w+)"', page),

@@ -83,6 +83,25 @@ DIFFERENCES = [
     ("frames that are dropped", [REQUEST, ANSWER], [REQUEST, UNKNOWN, ANSWER, FIRST], None),
     ("no answer in both", [REQUEST], [REQUEST], None),
     ("silence in both", [SILENT, KEEP_ALIVE], [SILENT, KEEP_ALIVE], None),
+    ("as many frames that are dropped as are told of an item", [REQUEST, *20 * [UNKNOWN]], [REQUEST], None),
+    ("more than that", [REQUEST], [REQUEST, *21 * [UNKNOWN], FIRST], None),
+    ("more than that before any item", [*22 * [UNKNOWN], REQUEST], [REQUEST], None),
+    ("more than that, and no item", [*22 * [UNKNOWN]], [STRAY], (1, "only in B", "stray from the unit 41")),
+    ("more than that, and no item in both", [FIRST, *23 * [UNKNOWN]], [*20 * [UNKNOWN]], None),
+]
+
+# Faults, each as a text of a page of golden/pairs and what stands in its place.
+PLANTED = [
+    ("a log that is not clean is called clean", "none_in_a", r'<b class="bd">not clean:</b> <em>[^<]*</em>', "clean"),
+    ("an item too many", "none_in_a", r"clean<td>30<td>", "clean<td>31<td>"),
+    ("another day", "request_changed", r"2023-11-14", "2023-11-15"),
+    ("another length", "request_changed", r"<td>0\.039000", "<td>0.038000"),
+    ("a bound that was not passed", "request_changed", r'<table class="recs">', '<p>Perhaps not the shortest: more than 2000 items would be removed or added.</p>\n\\g<0>'),
+    ("a loss of an item", "request_changed", r'(?<=<tr class="d ch)(.*)\n', '\\1<p class="lost"><span class="who">A</span> line 1: <b>dropped</b></p>\n'),
+    ("a loss above the items", "none_in_a", r"<h2>Items</h2>\n", '\\g<0><p class="lost"><span class="who">A</span> line 1: <b>dropped</b></p>'),
+    ("a loss of a fold", "request_changed", r"</i></summary>", '</i> <em class="loss">1 dropped, ended or unfinished in B</em></summary>'),
+    ("a mark of a byte that is the same", "request_changed", r'(?s)(<section id="items">.*?<div class="hx">.*?<code>)22', "\\1<mark>22</mark>"),
+    ("a folded byte that differs", "bytes_put_in", r'(?s)(<section id="items">.*?bytes more, )the same', "\\g<1>1 of them differs"),
 ]
 
 # The other frames of the message that FIRST begins.
@@ -166,6 +185,15 @@ def golden(cases):
         cases.report(f"golden/pairs/{path.name}: {told}", wrong + second_reading.told_otherwise(page, pair_facts.came_of(*golden_pairs.logs(name))))
     names = {f"{name}.html" for name in golden_pairs.NAMES}
     cases.report("golden/pairs has no other page", differences("its pages", {path.name for path in golden_pairs.PAIRS.glob("*.html")}, names))
+
+
+def planted(cases):
+    """A second reading finds each fault that is put into a page."""
+    for what, name, old, new in PLANTED:
+        page, came = (golden_pairs.PAIRS / f"{name}.html").read_text(), pair_facts.came_of(*golden_pairs.logs(name))
+        changed, count = re.subn(old, new, page, count=1)
+        found = set(second_reading.told_otherwise(changed, came)) - set(second_reading.told_otherwise(page, came))
+        cases.report(f"planted: {what}", ([] if count else [f"no {old!r} in golden/pairs/{name}.html"]) + ([] if found else ["it is not found"]))
 
 
 def pair_faults(cases, left, right, sides=oracle.SIDES, limit=None, is_strict=False):
@@ -431,6 +459,28 @@ def known_texts(cases):
         cases.report(f"what is known of {name}", [f"{text!r} is not there" for text in texts if text not in page])
 
 
+def known_notes(cases):
+    """A page says that there may be a shorter difference exactly where the bound was passed up to which one is looked for, and how many rows
+    it has exactly where these are more than 100,000."""
+    for count, is_passed in ((1000, False), (1001, True)):
+        left, right = (log_of(*(frame for number in range(count) for frame in answered(number, byte))) for byte in ("01", "02"))
+        note = "<p>Perhaps not the shortest: more than 2000 items would be removed or added.</p>\n"
+        cases.report(f"{count} answers that differ", noted_otherwise(cases, left, right, note, is_passed))
+    for count, is_large in ((100_000, False), (100_001, True)):
+        log = count * log_of(STRAY)
+        cases.report(f"{count} rows", noted_otherwise(cases, log, log, f"<p>This page has {count} rows. ", is_large))
+
+
+def answered(number, byte):
+    return f"7E0#0322{number:04X}", f"7E8#0462{number:04X}{byte}"
+
+
+def noted_otherwise(cases, left, right, note, is_noted):
+    with files(left, right) as names:
+        page = cases.run(["report", *names]).output.decode()
+    return [] if (note in page) == is_noted else [f"{note!r} is {'not ' if is_noted else ''}there"]
+
+
 def strays(*messages):
     return log_of_messages(*((UNIT, message) for message in messages))
 
@@ -617,7 +667,7 @@ def main():
     if len(sys.argv) < 2:
         sys.exit(__doc__)
     cases = Cases(os.path.abspath(sys.argv[1]), sys.argv[2:])
-    cases.each([golden, pages, told_differences, known_texts, refused_logs, refused_by_compare, names, options, strict_runs, streams, devices, memory])
+    cases.each([golden, planted, pages, told_differences, known_texts, known_notes, refused_logs, refused_by_compare, names, options, strict_runs, streams, devices, memory])
     cases.end()
 
 

@@ -1,5 +1,5 @@
 -- The changes of rows by the first row that is not the same.
-use Rattle.std.proofs.Common.{◌≡◌, ℕ, suc, ◌+◌, true, false, List, [], ◌∷◌, length, Option, Some, None, option_map, refl, ap, sym, ◌∙◌, arith}
+use Rattle.std.proofs.Common.{◌≡◌, ℕ, suc, ◌+◌, true, false, List, [], ◌∷◌, Option, Some, None, option_map, refl, arith}
 use Rattle.trace_canon.specs.declared.comparing.Comparison.TheVariants as comparison
 use Rattle.uds_difference.specs.Laws.{first_change}
 use Rattle.uds_difference.specs.declared.row.Row.{Row}

@@ -1,5 +1,5 @@
--- Each item of both sessions stands in one row, in order, by the rows that set them side by side.
-use Rattle.std.proofs.Common.{◌≡◌, ℕ, ◌+◌, List, [], ◌∷◌, length, ap, ◌∙◌, refl}
+-- The places of the items that rows have: each item of both sessions stands in one row, in order.
+use Rattle.std.proofs.Common.{◌≡◌, ℕ, ◌+◌, List, [], ◌∷◌, length, ap, refl}
 use Rattle.std.specs.List.{range_with_len}
 use Rattle.uds_exchange.specs.Meaning.{ItemValue}
 use Rattle.uds_difference.specs.Rows.{AreBeside, rows_of}
@@ -39,7 +39,8 @@ rights j (OnlyLeft ∷ rows) (x ∷ xs) ys h = rights j rows xs ys h
 rights j (OnlyRight ∷ rows) xs (y ∷ ys) h = ap (λ (l : List ℕ). j ∷ l) (rights (j + 1) rows xs ys h)
 rights j _ _ _ h = absurd h
 
-pub each_item_once : (xs ys : List ItemValue)
-    → (left_places 0 (rows_of xs ys) ≡ range_with_len 0 (length xs)) × (right_places 0 (rows_of xs ys) ≡ range_with_len 0 (length ys))
-each_item_once xs ys =
-    (lefts 0 (rows_of xs ys) xs ys (rows_are_beside xs ys), rights 0 (rows_of xs ys) xs ys (rows_are_beside xs ys))
+pub left-placed : (xs ys : List ItemValue) → left_places 0 (rows_of xs ys) ≡ range_with_len 0 (length xs)
+left-placed xs ys = lefts 0 (rows_of xs ys) xs ys (rows_are_beside xs ys)
+
+pub right-placed : (xs ys : List ItemValue) → right_places 0 (rows_of xs ys) ≡ range_with_len 0 (length ys)
+right-placed xs ys = rights 0 (rows_of xs ys) xs ys (rows_are_beside xs ys)

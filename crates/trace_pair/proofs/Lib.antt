@@ -1,6 +1,7 @@
 pub mod Pieces
 pub mod Cells
 pub mod LineCells
+mod SeenMarks
 pub mod LastDigits
 pub mod Stretches
 pub mod Tables
@@ -8,13 +9,14 @@ pub mod Standings
 pub mod FoldParts
 pub mod SeenTables
 pub mod WalkedRows
-mod ItemPlaces
+pub mod ItemPlaces
 mod RowsOnce
 pub mod ChartRows
 pub mod ChangeSteps
 pub mod ListedChanges
 pub mod LossyChanges
 pub mod LossPlaces
+mod LossesOnce
 pub mod LostRows
 pub mod ChartPlaces
 pub mod Asking

@@ -196,7 +196,7 @@ before begun item more (row ∷ rows) is some =
 
 -- Of one item, and of several.
 
-first-some : (item : ℕ) (rows : List RowValue) → 0 < item → first_row item rows ≡ rows_before item rows
+pub first-some : (item : ℕ) (rows : List RowValue) → 0 < item → first_row item rows ≡ rows_before item rows
 first-some item rows some = ap (λ (b : Bool). if b then 0 else rows_before item rows) (ne_eqb item 0 (λ same. omega arith))
 
 pub losses-are-lost : (rows : List RowValue) (item : ℕ) → losses_of rows item ≡ lost (piece (first_row item rows) (first_row (item + 1) rows) rows)
@@ -205,7 +205,7 @@ losses-are-lost rows (suc n) =
     before 0 (suc n) (suc n) rows (omega arith) (omega arith)
     ∙ sym (ap lost (λ i. piece (first-some (suc n) rows (omega arith) i) (first-some (suc n + 1) rows (omega arith) i) rows))
 
-lost-joined : (xs ys : List RowValue) → lost (xs ++ ys) ≡ lost xs ++ lost ys
+pub lost-joined : (xs ys : List RowValue) → lost (xs ++ ys) ≡ lost xs ++ lost ys
 lost-joined [] ys = refl
 lost-joined (row ∷ xs) ys = by (is_loss row) (lost-joined xs ys)
   where
@@ -214,14 +214,14 @@ lost-joined (row ∷ xs) ys = by (is_loss row) (lost-joined xs ys)
     by true rest = ap (λ (l : List RowValue). row ∷ l) rest
     by false rest = rest
 
-first-up : (item : ℕ) (rows : List RowValue) → first_row item rows ≤ first_row (item + 1) rows
+pub first-up : (item : ℕ) (rows : List RowValue) → first_row item rows ≤ first_row (item + 1) rows
 first-up zero rows = omega arith
 first-up (suc n) rows =
     let one = first-some (suc n) rows (omega arith) in
     let next = first-some (suc n + 1) rows (omega arith) in
     omega (arith, one, next, before-up (suc n) rows)
 
-first-later : (item more : ℕ) (rows : List RowValue) → first_row item rows ≤ first_row (item + more) rows
+pub first-later : (item more : ℕ) (rows : List RowValue) → first_row item rows ≤ first_row (item + more) rows
 first-later item zero rows = let same : item + 0 ≡ item = omega arith in omega (arith, ap (λ (n : ℕ). first_row n rows) same)
 first-later item (suc more) rows =
     let same : item + suc more ≡ item + more + 1 = omega arith in

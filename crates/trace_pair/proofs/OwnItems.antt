@@ -4,7 +4,6 @@ use Rattle.isotp_receive.specs.Trace.{Entry}
 use Rattle.trace_log.proofs.Promises.{has_own_frame}
 use Rattle.trace_log.specs.Settings.{Settings}
 use Rattle.trace_log.specs.Summing.{summary_of}
-use Rattle.trace_log.specs.Trace.{trace}
 use Rattle.trace_log.specs.declared.fault.CompareFault.{CompareFault}
 use Rattle.trace_log.specs.declared.fault.CompareFault.TheVariants.{Right}
 use Rattle.trace_log.specs.declared.fault.Fault.TheVariants.{Memory}

@@ -12,10 +12,10 @@ use Rattle.shown_rows.specs.Changes.{begins_change, change, change_length, chang
 use Rattle.shown_rows.specs.Folds.{context_behind, is_shown}
 use Rattle.shown_rows.specs.Rows.{left_in, right_in}
 use Rattle.trace_pair.specs.declared.log.Log.TheVariants.{A, B}
-use Rattle.trace_pair.proofs.ItemPlaces.{each_item_once, left_places, right_places}
 use Rattle.trace_pair.specs.ItemRows.{begun_number}
 use Rattle.trace_pair.specs.Laws.{EachItemStandsOnce, EachRowStandsOnce, LinksHaveTargets, identifier, item_place, kind_of, rows_in, rows_of_table, table_rows}
 use Rattle.trace_pair.specs.RowStretches.{PlacedRow, Stretch, shown, folded, begun, changes_with, fold_rows, folded_row, parts_of, placed, placed_from, placed_row, same_rows, stretches, tables_of, with_folded, with_seen}
+use Rattle.trace_pair.proofs.ItemPlaces.{left-placed, left_places, right-placed, right_places}
 
 -- The tables of a stretch have its rows.
 
@@ -207,10 +207,9 @@ each_row_stands_once rows = (of-table rows, ap (map kind_of) (of-table rows) ∙
 pub each_item_stands_once : EachItemStandsOnce
 each_item_stands_once xs ys =
     let rows = rows_of xs ys in
-    let all = length (changes rows) in
-    let once = each_item_once xs ys in (
-      ap (flat_map (item_place A)) (of-table rows) ∙ left-places all 0 Same 0 0 0 rows ∙ once.0,
-      ap (flat_map (item_place B)) (of-table rows) ∙ right-places all 0 Same 0 0 0 rows ∙ once.1,
+    let all = length (changes rows) in (
+      ap (flat_map (item_place A)) (of-table rows) ∙ left-places all 0 Same 0 0 0 rows ∙ left-placed xs ys,
+      ap (flat_map (item_place B)) (of-table rows) ∙ right-places all 0 Same 0 0 0 rows ∙ right-placed xs ys,
     )
 
 pub links_have_targets : LinksHaveTargets

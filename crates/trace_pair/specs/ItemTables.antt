@@ -5,6 +5,7 @@ use Rattle.std.specs.List.{flat_map}
 use Rattle.uds_difference.specs.declared.row.Row.{Row}
 use Rattle.uds_difference.specs.declared.row.Row.TheVariants.{Same}
 use Rattle.shown_rows.specs.Rows.{count_of, differs}
+use Rattle.trace_report.specs.Items.{items_in}
 use Rattle.trace_report.specs.Session.{SessionValue}
 use Rattle.trace_pair.specs.declared.folds.Fold.{Fold}
 use Rattle.trace_pair.specs.declared.log.Log.{Log}
@@ -12,7 +13,7 @@ use Rattle.trace_pair.specs.declared.log.Log.TheVariants.{A, B}
 use Rattle.trace_pair.specs.ChangeWords.{items_range}
 use Rattle.trace_pair.specs.ItemRows.{row_text}
 use Rattle.trace_pair.specs.Logs.{letter}
-use Rattle.trace_pair.specs.Losses.{losses_from}
+use Rattle.trace_pair.specs.Losses.{losses_from, losses_of, losses_text}
 use Rattle.trace_pair.specs.RowStretches.{PlacedRow, Stretch, shown, folded, fold_rows, full_table, parts, placed, stretches, tables}
 use Rattle.trace_pair.specs.Verdict.{items_word}
 
@@ -36,7 +37,7 @@ both_ranges fold = items_range A fold.left fold.count ++ codes ", " ++ items_ran
 
 -- how much is missing of the folded items of a log, where something is
 abbrev pub fold_losses : Log → ℕ → List ℕ
-fold_losses log count = if count == 0 then [] else codes " <em class=\"loss\">" ++ decimal count ++ codes " dropped or ended in " ++ letter log ++ codes "</em>"
+fold_losses log count = if count == 0 then [] else codes " <em class=\"loss\">" ++ decimal count ++ codes " dropped, ended or unfinished in " ++ letter log ++ codes "</em>"
 
 -- the line of a fold: how many items, which, and what is missing of them
 abbrev pub fold_line : SessionValue → SessionValue → Fold → List ℕ
@@ -110,8 +111,12 @@ filter_text rows =
     if differs rows && not (count_of Same rows == 0)
     then codes "<p class=\"filter\"><input type=\"checkbox\" id=\"apart\"> <label for=\"apart\">Show only differences</label></p>\n" else []
 
+-- what is missing of a log without an item: no row of the table has it, so it stands above that
+abbrev pub losses_of_no_item : Log → SessionValue → List ℕ
+losses_of_no_item log session = if length (items_in session.rows) == 0 then losses_text log (losses_of session.rows 0) else []
+
 -- all items of two sessions with these rows
 abbrev pub items_text : SessionValue → SessionValue → List Row → List ℕ
 items_text one other rows =
-    codes "<section id=\"items\">\n<h2>Items</h2>\n" ++ filter_text rows
+    codes "<section id=\"items\">\n<h2>Items</h2>\n" ++ filter_text rows ++ losses_of_no_item A one ++ losses_of_no_item B other
     ++ (if length rows == 0 then codes "<p>None.</p>\n" else stretches_text one other 0 (stretches (placed rows))) ++ codes "</section>\n"

@@ -1,7 +1,9 @@
 -- What holds of a page of two logs, whatever logs it is of.
 use Prim.Native.Char.{code}
-use Rattle.std.specs.Prelude.{◌≡◌, ◌==◌, ◌≤◌, ◌⊎◌, ℕ, suc, ◌+◌, ◌-◌, Bool, true, false, List, [], ◌∷◌, ◌++◌, codes, map, drop, length, take, Option, Some, None, slice_get, Ok, if◌then◌else◌}
-use Rattle.std.specs.List.{flat_map, list_any, range_with_len}
+use Rattle.std.specs.Prelude.{◌≡◌, ◌==◌, ◌≤◌, ◌⊎◌, ℕ, suc, ◌+◌, ◌-◌, Bool, true, false, not, ◌&&◌, List, [], ◌∷◌, ◌++◌, codes, map, drop, length, max, take, Option, Some, None, slice_get, Ok, if◌then◌else◌}
+use Rattle.std.specs.List.{filter, flat_map, list_any, range_with_len}
+use Rattle.byte_columns.specs.declared.column.Column.{Column}
+use Rattle.byte_columns.specs.Columns.{differs as column_differs}
 use Rattle.byte_columns.specs.Laws.{listed}
 use Rattle.isotp_receive.specs.declared.TheConstants.{MESSAGE_LIMIT}
 use Rattle.trace_canon.specs.Compared.{Compares, difference}
@@ -18,16 +20,18 @@ use Rattle.shown_rows.specs.Changes.{changes}
 use Rattle.shown_rows.specs.Rows.{differs}
 use Rattle.shown_rows.specs.declared.changes.Change.{Change}
 use Rattle.trace_report.specs.Blocks.{begins_exchange}
-use Rattle.trace_report.specs.Items.{answer_in, rows_before}
+use Rattle.trace_report.specs.Items.{answer_in, items_in, rows_before}
 use Rattle.trace_report.specs.Kept.{KeepsTwo, TwoValue}
 use Rattle.trace_report.specs.Rows.{RowValue}
 use Rattle.trace_pair.specs.declared.log.Log.{Log}
 use Rattle.trace_pair.specs.declared.log.Log.TheVariants.{A, B}
+use Rattle.trace_pair.specs.ColumnLines.{byte_or_gap, cells}
 use Rattle.trace_pair.specs.Compared.{comparison_by, comparison_in}
 use Rattle.trace_pair.specs.First.{asks, chart_rows, most_before, most_rows, rows_more}
 use Rattle.trace_pair.specs.ItemRows.{begun_number, place_in}
 use Rattle.trace_pair.specs.ItemWords.{came_of, differ, outcome_words}
-use Rattle.trace_pair.specs.Logs.{has_item}
+use Rattle.trace_pair.specs.Logs.{byte_of, has_item}
+use Rattle.trace_pair.specs.Losses.{is_loss, losses_of}
 use Rattle.trace_pair.specs.RowStretches.{PlacedRow, Stretch, shown, folded, fold_rows, parts, placed, stretches, tables}
 use Rattle.trace_pair.specs.Sessions.{values_in}
 use Rattle.trace_pair.specs.Style.{page_style}
@@ -78,8 +82,8 @@ abbrev pub UnansweredHasNone : Type 0
 UnansweredHasNone = (request : List ℕ)
     → ((answer : Option (List ℕ)) → (came_of request answer ≡ Unanswered → answer ≡ None) × (came_of request answer ≡ Silent → answer ≡ None))
     × ((reply : List ℕ) → is_suppressing request ≡ false
-    → (differ (exchange request (Some reply)) (exchange request None) ≡ outcome_words (came_of request (Some reply)) ++ codes " in A, " ++ outcome_words Unanswered ++ codes " in B")
-    × (differ (exchange request None) (exchange request (Some reply)) ≡ outcome_words Unanswered ++ codes " in A, " ++ outcome_words (came_of request (Some reply)) ++ codes " in B"))
+    → (differ (exchange request (Some reply)) (exchange request None) ≡ outcome_words (came_of request (Some reply)) ++ codes " in A, without an answer in B")
+    × (differ (exchange request None) (exchange request (Some reply)) ≡ codes "without an answer in A, " ++ outcome_words (came_of request (Some reply)) ++ codes " in B"))
 
 -- the first change stands behind so many items of both sessions
 abbrev pub BeginBehind : ℕ → List Change → Type 0
@@ -129,6 +133,11 @@ EachItemStandsOnce = (xs ys : List ItemValue)
     → (flat_map (item_place A) (table_rows (rows_of xs ys)) ≡ range_with_len 0 (length xs))
     × (flat_map (item_place B) (table_rows (rows_of xs ys)) ≡ range_with_len 0 (length ys))
 
+-- Each loss that a log tells stands with one of its items, once and in order; in a log without an item it stands with the
+-- first one all the same, of which the page tells above the table.
+abbrev pub EachLossStandsOnce : Type 0
+EachLossStandsOnce = (rows : List RowValue) → flat_map (losses_of rows) (range_with_len 0 (max 1 (length (items_in rows)))) ≡ filter is_loss rows
+
 -- the number of a row's identifier, if it has one
 abbrev pub identifier : PlacedRow → List ℕ
 identifier row = listed (begun_number row.begins)
@@ -137,3 +146,35 @@ identifier row = listed (begun_number row.begins)
 -- links of the page lead to: of the list, of its end, of the verdict, and from one change to the next.
 abbrev pub LinksHaveTargets : Type 0
 LinksHaveTargets = (rows : List Row) → flat_map identifier (table_rows rows) ≡ range_with_len 1 (length (changes rows))
+
+-- The marks of two messages byte under byte.
+
+-- a letter as a reader sees it, with a mark or without
+pub record SeenLetter : Type 0 where
+  pub letter : ℕ
+  pub is_marked : Bool
+
+abbrev pub seen_letter : Bool → ℕ → SeenLetter
+seen_letter marked byte = record { letter = byte; is_marked = marked }
+
+-- What a reader sees of a text, where a mark is open or none is, and outside of a tag or within one: a tag opens a mark, or
+-- with a stroke closes it. Blanks only stand between.
+abbrev pub seen_from : Bool → Bool → List ℕ → List SeenLetter
+seen_from marked within [] = []
+seen_from marked true (b ∷ rest) = seen_from (marked && not (b == code "/")) (not (b == code ">")) rest
+seen_from marked false (b ∷ rest) =
+    if b == code "<" then seen_from true true rest
+    else if b == code " " then seen_from marked false rest
+    else seen_letter marked b ∷ seen_from marked false rest
+
+-- what is seen of a text
+abbrev pub seen_in : List ℕ → List SeenLetter
+seen_in text = seen_from false false text
+
+-- what is to be seen of a column: the digits of the byte that the log has there, or a gap, with a mark where it differs
+abbrev pub seen_of : Log → Column → List SeenLetter
+seen_of log here = map (seen_letter (column_differs here)) (byte_or_gap (byte_of log here))
+
+-- each column of a line that differs has a mark, and no other has; without the marks what stands there is what the log has
+abbrev pub MarksAreOfColumnsThatDiffer : Type 0
+MarksAreOfColumnsThatDiffer = (log : Log) (columns : List Column) → seen_in (cells log columns) ≡ flat_map (seen_of log) columns

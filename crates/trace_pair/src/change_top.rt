@@ -21,7 +21,7 @@ pub(crate) struct TopIf<'a>(
 
 impl<'a> Part for TopIf<'a> {
     ghost use Rattle.std.specs.Prelude.{option_map};
-    ghost use Rattle.trace_report.specs.proving.Lending.{item_of};
+    ghost use Rattle.trace_report.specs.Items.{item_of};
     ghost use Rattle.trace_pair.specs.ItemRows.{top_of};
 
     ghost text = { λ t. top_of t.0 t.1 (option_map item_of t.2) (option_map item_of t.3) };
@@ -49,7 +49,7 @@ struct ChangeWords<'a>(Row, usize, Option<PlacedItem<'a>>, Option<PlacedItem<'a>
 
 impl<'a> Part for ChangeWords<'a> {
     ghost use Rattle.std.specs.Prelude.{option_map};
-    ghost use Rattle.trace_report.specs.proving.Lending.{item_of};
+    ghost use Rattle.trace_report.specs.Items.{item_of};
     ghost use Rattle.trace_pair.specs.ItemRows.{change_words};
 
     ghost text = { λ t. change_words t.0 t.1 (option_map item_of t.2) (option_map item_of t.3) };

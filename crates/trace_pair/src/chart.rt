@@ -1,7 +1,7 @@
 //! A chart of one log: the rows around an item, with a mark at each byte that differs.
 ghost use Rattle.std.specs.Prelude.{◌≡◌, ◌==◌, ◌-◌, ◌||◌, drop, option_map, slice_get, take, true};
 ghost use Rattle.trace_report.specs.Blocks.{begins_exchange as asks};
-ghost use Rattle.trace_report.specs.proving.Pages.{row_of};
+ghost use Rattle.trace_report.specs.Rows.{row_of};
 ghost use Rattle.trace_pair.specs.First as Spec;
 ghost use Rattle.trace_pair.specs.proving.Marks.{marked_of};
 

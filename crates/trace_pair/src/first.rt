@@ -1,7 +1,7 @@
 //! The first difference as recorded: both logs around it.
 ghost use Rattle.std.specs.Prelude.{◌≡◌, ◌+◌, ◌<◌, ◌^◌, IfSome, option_map, slice_get};
 ghost use Rattle.shown_rows.specs.Changes.{changes};
-ghost use Rattle.trace_report.specs.proving.Lending.{item_of};
+ghost use Rattle.trace_report.specs.Items.{item_of};
 ghost use Rattle.trace_pair.specs.ChangeWords.{IsSmall};
 ghost use Rattle.trace_pair.specs.First as Spec;
 ghost use Rattle.trace_pair.specs.proving.Marks.{marked_of};

@@ -148,7 +148,7 @@ impl Part for FoldLosses {
                 (
                     " <em class=\"loss\">",
                     Number(self.1 as u64),
-                    " dropped or ended in ",
+                    " dropped, ended or unfinished in ",
                     self.0,
                     "</em>",
                 ),

@@ -1,6 +1,6 @@
 //! A row of the table of items.
 ghost use Rattle.std.specs.Prelude.{◌≡◌, option_map};
-ghost use Rattle.trace_report.specs.proving.Lending.{item_of};
+ghost use Rattle.trace_report.specs.Items.{item_of};
 ghost use Rattle.trace_pair.specs.ItemRows as Spec;
 
 use crate::change_top::TopIf;
@@ -176,7 +176,7 @@ struct Told<'a>(Row, Option<PlacedItem<'a>>, Option<PlacedItem<'a>>);
 
 impl<'a> Part for Told<'a> {
     ghost use Rattle.std.specs.Prelude.{option_map};
-    ghost use Rattle.trace_report.specs.proving.Lending.{item_of};
+    ghost use Rattle.trace_report.specs.Items.{item_of};
     ghost use Rattle.trace_pair.specs.ItemRows.{told};
 
     ghost text = { λ t. told t.0 (option_map item_of t.1) (option_map item_of t.2) };
@@ -201,7 +201,7 @@ struct ToldIf<'a>(Option<PlacedItem<'a>>);
 
 impl<'a> Part for ToldIf<'a> {
     ghost use Rattle.std.specs.Prelude.{option_map};
-    ghost use Rattle.trace_report.specs.proving.Lending.{item_of};
+    ghost use Rattle.trace_report.specs.Items.{item_of};
     ghost use Rattle.trace_pair.specs.ItemRows.{told_if};
 
     ghost text = { λ t. told_if (option_map item_of t.0) };
@@ -219,7 +219,7 @@ struct NoteIf<'a>(Log, u64, Option<PlacedItem<'a>>);
 
 impl<'a> Part for NoteIf<'a> {
     ghost use Rattle.std.specs.Prelude.{option_map};
-    ghost use Rattle.trace_report.specs.proving.Lending.{item_of};
+    ghost use Rattle.trace_report.specs.Items.{item_of};
     ghost use Rattle.trace_pair.specs.ItemRows.{note_if};
 
     ghost text = { λ t. note_if t.0 t.1 (option_map item_of t.2) };

@@ -3,17 +3,20 @@ ghost use Rattle.std.specs.Prelude.{◌≡◌, ◌==◌, ◌+◌, ◌<◌, ◌&&
 ghost use Rattle.uds_difference.specs.declared.row.Row.{Row as RowValue};
 ghost use Rattle.uds_difference.specs.declared.row.Row.TheVariants as RowKind;
 ghost use Rattle.shown_rows.specs.Rows.{count_of, differs};
-ghost use Rattle.trace_pair.specs.ItemTables.{items_text, stretches_text};
+ghost use Rattle.trace_pair.specs.ItemTables.{items_text, losses_of_no_item, stretches_text};
 ghost use Rattle.trace_pair.specs.RowStretches.{begun, placed, stretches};
 ghost use Rattle.trace_pair.specs.proving.Standings.{IsRoomy, row_or_fold, seen_text};
 
 use crate::folds::{Fold, say_fold};
 use crate::item_row::{Begun, RowPlace, say_item_row};
+use crate::log::Log;
+use crate::losses::say_losses;
 use crate::sessions::Sessions;
 use crate::standing::{Standing, Table};
 use shown_rows::{change_at, count_changes, count_of, differs, folded, is_shown};
 use text_parts::{Either, Part, When, say};
 use trace_io::TextSink;
+use trace_report::Session;
 use trace_text::Place;
 use uds_difference::Row;
 
@@ -34,8 +37,19 @@ pub(crate) fn say_items<S: TextSink>(sessions: Sessions<'_>, rows: &[Row], out: 
             ),
         ),
     );
+    say_losses_of_no_item(Log::A, sessions.left, out);
+    say_losses_of_no_item(Log::B, sessions.right, out);
     say_rows_or_none(sessions, rows, out);
     say(out, "</section>\n");
+}
+
+/// Says what is missing of a log without an item.
+fn say_losses_of_no_item<S: TextSink>(log: Log, session: &Session, out: &mut S)
+    ensures { S.says out.old (losses_of_no_item log session.now) out.new }
+{
+    if session.rows().items() == 0 {
+        say_losses(log, session, 0, out);
+    }
 }
 
 /// Whether a box can leave the differences alone: something differs, and something is the same.

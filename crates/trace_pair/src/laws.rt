@@ -1,6 +1,6 @@
 //! What holds of a page of two logs, whatever logs it is of. A law is its contract; a call does nothing. A law of a lower
 //! crate that a proof needs is called.
-ghost use Rattle.trace_pair.specs.Laws.{AgreesWithCompare, ChangesAreOfComparison, ChartHasTheItem, ComparisonIsOfItems, EachItemStandsOnce, EachRowStandsOnce, LinksHaveTargets, StyleHoldsNoTag, UnansweredHasNone};
+ghost use Rattle.trace_pair.specs.Laws.{AgreesWithCompare, ChangesAreOfComparison, ChartHasTheItem, ComparisonIsOfItems, EachItemStandsOnce, EachLossStandsOnce, EachRowStandsOnce, LinksHaveTargets, MarksAreOfColumnsThatDiffer, StyleHoldsNoTag, UnansweredHasNone};
 
 use trace_report::laws::items_are_the_meaning;
 
@@ -45,6 +45,16 @@ pub fn each_row_stands_once()
 /// The table of items has each item of both sessions once.
 pub fn each_item_stands_once()
     ensures { EachItemStandsOnce }
+{}
+
+/// What is missing of a log stands with one of its items, once.
+pub fn each_loss_stands_once()
+    ensures { EachLossStandsOnce }
+{}
+
+/// Each byte that differs has a mark, and no other.
+pub fn marks_are_of_columns_that_differ()
+    ensures { MarksAreOfColumnsThatDiffer }
 {}
 
 /// Each difference to which a link leads begins with a row of the table of items.

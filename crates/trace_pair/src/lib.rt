@@ -42,6 +42,7 @@ mod item_words;
 pub mod laws;
 mod log;
 mod losses;
+mod lossy_changes;
 mod outcome;
 mod page;
 mod pair_bytes;

@@ -5,7 +5,7 @@ ghost use Rattle.trace_pair.specs.Losses.{first_row, loss_line, losses_from, los
 ghost use Rattle.trace_pair.specs.Losses as Spec;
 ghost use Rattle.trace_pair.specs.Verdict as Verdict;
 ghost use Rattle.trace_pair.specs.proving.Losing.{loss_if, lost, lost_if};
-ghost use Rattle.trace_report.specs.proving.Pages.{missing_of, row_of};
+ghost use Rattle.trace_report.specs.Rows.{missing_of, row_of};
 
 use crate::log::{LetterMark, Log, has_item, items_before};
 use shown_rows::Change;
@@ -172,7 +172,7 @@ impl Part for MoreLosses {
 struct LossLine<'a>(Log, SessionRow<'a>);
 
 impl<'a> Part for LossLine<'a> {
-    ghost use Rattle.trace_report.specs.proving.Pages.{row_of};
+    ghost use Rattle.trace_report.specs.Rows.{row_of};
     ghost use Rattle.trace_pair.specs.Losses.{loss_line};
 
     ghost text = { λ loss. loss_line loss.0 (row_of loss.1) };
@@ -195,7 +195,7 @@ impl<'a> Part for LossLine<'a> {
 struct LossWords<'a>(SessionRow<'a>);
 
 impl<'a> Part for LossWords<'a> {
-    ghost use Rattle.trace_report.specs.proving.Pages.{row_of};
+    ghost use Rattle.trace_report.specs.Rows.{row_of};
     ghost use Rattle.trace_pair.specs.Losses.{loss_words};
 
     ghost text = { λ loss. loss_words (row_of loss.0) };
@@ -213,7 +213,7 @@ impl<'a> Part for LossWords<'a> {
 struct MissingWords(Missing);
 
 impl Part for MissingWords {
-    ghost use Rattle.trace_report.specs.proving.Pages.{missing_of};
+    ghost use Rattle.trace_report.specs.Rows.{missing_of};
     ghost use Rattle.trace_pair.specs.Losses.{loss_words};
 
     ghost text = { λ words. loss_words (missing_of words.0) };

@@ -1,6 +1,6 @@
 //! Two items that changed, one above the other.
 ghost use Rattle.std.specs.Prelude.{◌≡◌};
-ghost use Rattle.trace_report.specs.proving.Lending.{item_of};
+ghost use Rattle.trace_report.specs.Items.{item_of};
 ghost use Rattle.trace_pair.specs.ItemRows.{both_bytes, outcome_by};
 
 use crate::column_lines::{Sides, have_word, say_columns};
@@ -18,7 +18,7 @@ use trace_report::{Data, PlacedItem, RoleWords, RowMessage, is_request_role};
 pub(crate) struct ToldPair<'a>(pub PlacedItem<'a>, pub PlacedItem<'a>);
 
 impl<'a> Part for ToldPair<'a> {
-    ghost use Rattle.trace_report.specs.proving.Lending.{item_of};
+    ghost use Rattle.trace_report.specs.Items.{item_of};
     ghost use Rattle.trace_pair.specs.ItemRows.{told_pair};
 
     ghost text = { λ t. told_pair (item_of t.0) (item_of t.1) };
@@ -59,7 +59,7 @@ pub(crate) fn outcome_by(item: PlacedItem<'_>) -> Outcome
 struct OfBoth<'a>(RowMessage<'a>, RowMessage<'a>);
 
 impl<'a> Part for OfBoth<'a> {
-    ghost use Rattle.trace_report.specs.proving.Lending.{message_of};
+    ghost use Rattle.trace_report.specs.Items.{message_of};
     ghost use Rattle.trace_pair.specs.ItemRows.{message_of_both};
 
     ghost text = { λ t. message_of_both (message_of t.0) (message_of t.1) };
@@ -92,7 +92,7 @@ struct Answers<'a>(PlacedItem<'a>, PlacedItem<'a>);
 struct SameOutcomes<'a>(Answers<'a>);
 
 impl<'a> Part for SameOutcomes<'a> {
-    ghost use Rattle.trace_report.specs.proving.Lending.{item_of};
+    ghost use Rattle.trace_report.specs.Items.{item_of};
     ghost use Rattle.trace_pair.specs.ItemRows.{same_outcomes};
 
     ghost text = { λ t. same_outcomes (item_of t.0.0).begin.bytes (item_of t.0.0).answer (item_of t.0.1).answer };
@@ -111,7 +111,7 @@ impl<'a> Part for SameOutcomes<'a> {
 struct OtherOutcomes<'a>(Answers<'a>);
 
 impl<'a> Part for OtherOutcomes<'a> {
-    ghost use Rattle.trace_report.specs.proving.Lending.{item_of};
+    ghost use Rattle.trace_report.specs.Items.{item_of};
     ghost use Rattle.trace_pair.specs.ItemRows.{other_outcomes};
 
     ghost text = { λ t. other_outcomes (item_of t.0.0).begin.bytes (item_of t.0.0).answer (item_of t.0.1).begin.bytes (item_of t.0.1).answer };
@@ -135,7 +135,7 @@ impl<'a> Part for OtherOutcomes<'a> {
 struct OutcomeLine<'a>(Log, PlacedItem<'a>);
 
 impl<'a> Part for OutcomeLine<'a> {
-    ghost use Rattle.trace_report.specs.proving.Lending.{item_of};
+    ghost use Rattle.trace_report.specs.Items.{item_of};
     ghost use Rattle.trace_pair.specs.ColumnLines.{whose_text};
     ghost use Rattle.trace_pair.specs.declared.column_words.Whose.TheVariants.{Of};
     ghost use Rattle.trace_pair.specs.ItemRows.{outcome_line};

@@ -2,7 +2,7 @@
 ghost use Rattle.std.specs.Prelude.{◌≡◌, option_map, slice_get};
 ghost use Rattle.uds_exchange.specs.ItemSeen.{item_value};
 ghost use Rattle.trace_report.specs.Items as placed;
-ghost use Rattle.trace_report.specs.proving.Lending.{item_of as placed_item, message_of};
+ghost use Rattle.trace_report.specs.Items.{item_of as placed_item, message_of};
 ghost use Rattle.trace_pair.specs.Sessions.{values_in};
 
 use trace_report::{PlacedItem, RowMessage, Session, is_request_role};

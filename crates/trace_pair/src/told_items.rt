@@ -13,7 +13,7 @@ use uds_message::is_suppressing;
 pub(crate) struct ToldMessage<'a>(pub RowMessage<'a>);
 
 impl<'a> Part for ToldMessage<'a> {
-    ghost use Rattle.trace_report.specs.proving.Lending.{message_of};
+    ghost use Rattle.trace_report.specs.Items.{message_of};
     ghost use Rattle.trace_pair.specs.ToldItems.{told_message};
 
     ghost text = { λ t. told_message (message_of t.0) };
@@ -31,7 +31,7 @@ pub(crate) struct ToldAnswer<'a>(pub &'a [u8], pub Option<RowMessage<'a>>);
 
 impl<'a> Part for ToldAnswer<'a> {
     ghost use Rattle.std.specs.Prelude.{option_map};
-    ghost use Rattle.trace_report.specs.proving.Lending.{message_of};
+    ghost use Rattle.trace_report.specs.Items.{message_of};
     ghost use Rattle.trace_pair.specs.ToldItems.{told_answer};
 
     ghost text = { λ t. told_answer t.0.now (option_map message_of t.1) };
@@ -67,7 +67,7 @@ impl Part for NoAnswer {
 pub(crate) struct ToldItem<'a>(pub PlacedItem<'a>);
 
 impl<'a> Part for ToldItem<'a> {
-    ghost use Rattle.trace_report.specs.proving.Lending.{item_of};
+    ghost use Rattle.trace_report.specs.Items.{item_of};
     ghost use Rattle.trace_pair.specs.ToldItems.{told_item};
 
     ghost text = { λ t. told_item (item_of t.0) };
@@ -90,7 +90,7 @@ impl<'a> Part for ToldItem<'a> {
 pub(crate) struct NoteOf<'a>(pub Log, pub u64, pub PlacedItem<'a>);
 
 impl<'a> Part for NoteOf<'a> {
-    ghost use Rattle.trace_report.specs.proving.Lending.{item_of};
+    ghost use Rattle.trace_report.specs.Items.{item_of};
     ghost use Rattle.trace_pair.specs.ToldItems.{note_of};
 
     ghost text = { λ t. note_of t.0 t.1 (item_of t.2) };
@@ -109,7 +109,7 @@ impl<'a> Part for NoteOf<'a> {
 struct ItemNote<'a>(Log, u64, RowMessage<'a>, RowMessage<'a>);
 
 impl<'a> Part for ItemNote<'a> {
-    ghost use Rattle.trace_report.specs.proving.Lending.{message_of};
+    ghost use Rattle.trace_report.specs.Items.{message_of};
     ghost use Rattle.trace_pair.specs.ToldItems.{item_note};
 
     ghost text = { λ t. item_note t.0 t.1 (message_of t.2) (message_of t.3) };

@@ -1,19 +1,16 @@
 //! The verdict of a page of two logs.
-ghost use Rattle.std.specs.Prelude.{◌≡◌, ◌≤◌, ◌<◌, ◌+◌, ◌^◌, ◌||◌, length, slice_get};
+ghost use Rattle.std.specs.Prelude.{◌≡◌, ◌||◌, slice_get};
 ghost use Rattle.std.specs.List.{list_any};
-ghost use Rattle.shown_rows.specs.Changes.{changes};
-ghost use Rattle.trace_pair.specs.declared.log.Log.TheVariants.{A, B};
 ghost use Rattle.trace_pair.specs.Sessions.{values_in};
 ghost use Rattle.trace_pair.specs.Verdict as Spec;
-ghost use Rattle.trace_pair.specs.proving.Changing.{asks_if, count_if, is_lossy_if, lossy_if};
+ghost use Rattle.trace_pair.specs.proving.Changing.{asks_if};
 ghost use Rattle.uds_exchange.specs.ItemSeen.{item_value};
 
-use crate::log::Log;
-use crate::losses::is_lossy;
+use crate::lossy_changes::losses_at_changes;
 use crate::same_words::{NothingVerdict, SameHeading, SameItems};
 use crate::sessions::{Sessions, item_at};
-use crate::verdict_words::{BoundLine, DifferentHeading, LossyLine, SizeLine};
-use shown_rows::{Change, change_at, count_changes, count_of, differs, left_in, right_in};
+use crate::verdict_words::{BoundLine, DifferentHeading, SizeLine};
+use shown_rows::{count_changes, count_of, differs};
 use text_parts::say;
 use trace_io::TextSink;
 use trace_log::Summary;
@@ -123,43 +120,5 @@ fn is_exchange(item: Item<'_>) -> bool
     match item {
         Item::Exchange { .. } => true,
         Item::Stray { .. } => false,
-    }
-}
-
-/// At how many changes a log is not clean, and which.
-fn losses_at_changes(rows: &[Row], sessions: Sessions<'_>) -> LossyLine
-    ensures lossy { result.lossy ≡ Spec.lossy_count sessions.entry.left.now sessions.entry.right.now (changes rows.now) }
-    ensures all { result.all ≡ length (changes rows.now) }
-    ensures left { result.left ≡ list_any (Spec.is_lossy A sessions.entry.left.now) (changes rows.now) }
-    ensures right { result.right ≡ list_any (Spec.is_lossy B sessions.entry.right.now) (changes rows.now) }
-{
-    let mut line = LossyLine::none();
-    let mut front = Row::Same;
-    let mut i: usize = 0;
-    let mut j: usize = 0;
-    'rows: for k in 0..rows.len() {
-        line = with_change(line, sessions, change_at(front, i, j, &rows[k..]));
-        front = rows[k];
-        i += left_in(front);
-        j += right_in(front);
-    }
-    line
-}
-
-/// With what is missing at a change, if there is one.
-fn with_change(line: LossyLine, sessions: Sessions<'_>, change: Option<Change>) -> LossyLine
-    requires small { line.all + 1 < 2 ^ 63 }
-    requires few { line.lossy ≤ line.all }
-    ensures lossy { result.lossy ≡ lossy_if sessions.entry.left.now sessions.entry.right.now change + line.lossy }
-    ensures all { result.all ≡ line.all + count_if change }
-    ensures left { result.left ≡ (is_lossy_if A sessions.entry.left.now change || line.left) }
-    ensures right { result.right ≡ (is_lossy_if B sessions.entry.right.now change || line.right) }
-{
-    match change {
-        Some(change) => line.with(
-            is_lossy(Log::A, sessions.left, change),
-            is_lossy(Log::B, sessions.right, change),
-        ),
-        None => line,
     }
 }

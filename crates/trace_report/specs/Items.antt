@@ -5,6 +5,8 @@ use Rattle.direction.specs.declared.Dir.{Dir}
 use Rattle.uds_exchange.specs.Meaning.{ItemValue, exchange, stray}
 use Rattle.trace_report.specs.Roles.{is_request_role, begins_item, is_answer_role}
 use Rattle.trace_report.specs.Rows.{RowValue, message, no_answer, dropped, ended, unfinished}
+use Rattle.trace_report.specs.declared.items.PlacedItem.{PlacedItem}
+use Rattle.trace_report.specs.declared.items.RowMessage.{RowMessage}
 use Rattle.trace_report.specs.declared.row.MessagePlace.{MessagePlace}
 use Rattle.trace_report.specs.declared.roles.MessageRole.{MessageRole}
 
@@ -19,6 +21,14 @@ pub record RowMessageValue : Type 0 where
 pub record PlacedItemValue : Type 0 where
   pub begin : RowMessageValue
   pub answer : Option RowMessageValue
+
+-- a message that is lent, as it is
+abbrev pub message_of : RowMessage → RowMessageValue
+message_of lent = record { role = lent.sent.now.role; dir = lent.sent.now.dir; place = lent.sent.now.place; bytes = lent.bytes.now }
+
+-- an item that is lent, as it is
+abbrev pub item_of : PlacedItem → PlacedItemValue
+item_of item = record { begin = message_of item.begin; answer = option_map message_of item.answer }
 
 -- the message that a row tells, if it tells one
 abbrev pub message_in : RowValue → Option RowMessageValue

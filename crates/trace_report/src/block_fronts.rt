@@ -18,7 +18,7 @@ pub(crate) struct Opening<'a> {
 
 impl<'a> Part for Opening<'a> {
     ghost use Rattle.trace_report.specs.Blocks.{opening_text};
-    ghost use Rattle.trace_report.specs.proving.Pages.{row_of};
+    ghost use Rattle.trace_report.specs.Rows.{row_of};
 
     ghost text = { λ opening. opening_text opening.origin opening.blocks (row_of opening.row) };
 
@@ -55,7 +55,7 @@ struct BlockFront<'a> {
 
 impl<'a> Part for BlockFront<'a> {
     ghost use Rattle.trace_report.specs.Blocks.{block_front};
-    ghost use Rattle.trace_report.specs.proving.Pages.{row_of};
+    ghost use Rattle.trace_report.specs.Rows.{row_of};
 
     ghost text = { λ front. block_front front.origin front.before (row_of front.row) };
 
@@ -120,7 +120,7 @@ struct BlockTitle<'a>(u64, Row<'a>);
 
 impl<'a> Part for BlockTitle<'a> {
     ghost use Rattle.trace_report.specs.Blocks.{block_title};
-    ghost use Rattle.trace_report.specs.proving.Pages.{row_of};
+    ghost use Rattle.trace_report.specs.Rows.{row_of};
 
     ghost text = { λ title. block_title title.0 (row_of title.1) };
 
@@ -164,7 +164,7 @@ struct MissingTitle(u64, Missing);
 
 impl Part for MissingTitle {
     ghost use Rattle.trace_report.specs.Blocks.{block_title};
-    ghost use Rattle.trace_report.specs.proving.Pages.{missing_of};
+    ghost use Rattle.trace_report.specs.Rows.{missing_of};
 
     ghost text = { λ title. block_title title.0 (missing_of title.1) };
 

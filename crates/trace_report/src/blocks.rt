@@ -1,7 +1,7 @@
 //! The blocks in which the rows of a report stand.
 ghost use Rattle.std.specs.Prelude.{◌≡◌, ◌^◌, ◌-◌, ◌<◌, ◌||◌};
 ghost use Rattle.trace_report.specs.Blocks as Spec;
-ghost use Rattle.trace_report.specs.proving.Pages.{row_of};
+ghost use Rattle.trace_report.specs.Rows.{row_of};
 
 use crate::roles::is_request_role;
 use crate::row::Row;

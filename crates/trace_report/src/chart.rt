@@ -2,9 +2,8 @@
 ghost use Rattle.std.specs.Prelude.{◌≡◌, ◌^◌, ◌<◌, ◌-◌, List, [], ◌∷◌, ◌++◌, length};
 ghost use Rattle.trace_report.specs.Blocks.{blocks_behind, blocks_of};
 ghost use Rattle.trace_report.specs.Chart.{message_text, row_text, rows_text};
-ghost use Rattle.trace_report.specs.Rows.{RowValue};
+ghost use Rattle.trace_report.specs.Rows.{RowValue, row_of};
 ghost use Rattle.trace_report.specs.proving.Following.{IsChartOf, row_if, rows_in};
-ghost use Rattle.trace_report.specs.proving.Pages.{row_of};
 
 use crate::block_fronts::Opening;
 use crate::blocks::{Blocks, begins_exchange, is_brief, no_blocks, one_more_row};

@@ -11,9 +11,8 @@ ghost use Rattle.uds_exchange.specs.Judging.{IsJudgedAfter, number_after, sent, 
 ghost use Rattle.trace_canon.specs.MessageLines.{place_of};
 ghost use Rattle.trace_report.specs.Events.{closing_before, closing_rows, end_rows, ended_rows, frame_rows};
 ghost use Rattle.trace_report.specs.Roles.{role_of_step as role_by};
-ghost use Rattle.trace_report.specs.Rows.{message as tells_message};
+ghost use Rattle.trace_report.specs.Rows.{message as tells_message, row_of};
 ghost use Rattle.trace_report.specs.proving.Following.{Follows, IsSilent, IsWaiting, MeetsMessage, dropped_rows, row_if, rows_in, unfinished_if};
-ghost use Rattle.trace_report.specs.proving.Pages.{row_of};
 
 use crate::places::{MessageExtent, Places};
 use crate::roles::role_of_step;

@@ -1,9 +1,9 @@
 //! Where the items of a session stand among its rows, noted as these come.
 ghost use Rattle.std.specs.Prelude.{◌≡◌, ◌<◌, ◌∷◌, ◌++◌, [], None, IfSome, length};
 ghost use Rattle.std.specs.Vec.{vec_capacity, vec_len};
+ghost use Rattle.trace_report.specs.Rows.{row_of};
 ghost use Rattle.trace_report.specs.proving.Keeping.{places_answered, places_by, places_next, waiting_by, waiting_next};
 ghost use Rattle.trace_report.specs.proving.Keeping as Keeping;
-ghost use Rattle.trace_report.specs.proving.Pages.{row_of};
 
 use crate::roles::MessageRole;
 use crate::row::Row;

@@ -1,9 +1,8 @@
 //! The items of a session, lent.
 ghost use Rattle.std.specs.Prelude.{◌≡◌, option_map};
-ghost use Rattle.trace_report.specs.Items.{message_in};
+ghost use Rattle.trace_report.specs.Items.{message_in, item_of, message_of};
 ghost use Rattle.trace_report.specs.proving.Keeping.{AreLaid, IsLaid, rows_at};
 ghost use Rattle.trace_report.specs.proving.Keeping as Keeping;
-ghost use Rattle.trace_report.specs.proving.Lending.{item_of, message_of};
 
 use crate::item_places::ItemPlace;
 use crate::kept_rows::KeptRow;

@@ -1,12 +1,11 @@
 //! The rows of a session, kept as they come, and where its items stand among them.
 ghost use Rattle.std.specs.Prelude.{◌≡◌, ◌<◌, ◌^◌, ◌∷◌, ◌++◌, [], IfOk, OnErr, OnOk, length, option_map, slice_get};
 ghost use Rattle.uds_exchange.specs.Blocks.{GoesOn};
-ghost use Rattle.trace_report.specs.Items.{items_in, rows_before};
+ghost use Rattle.trace_report.specs.Items.{items_in, rows_before, item_of};
+ghost use Rattle.trace_report.specs.Rows.{row_of};
 ghost use Rattle.trace_report.specs.Sorts.{counts_in};
 ghost use Rattle.trace_report.specs.proving.Keeping.{IsLaid, rows_at};
 ghost use Rattle.trace_report.specs.proving.Keeping as Keeping;
-ghost use Rattle.trace_report.specs.proving.Lending.{item_of};
-ghost use Rattle.trace_report.specs.proving.Pages.{row_of};
 
 use crate::counts::SortCounts;
 use crate::item_places::{ItemPlace, note_row};

@@ -1,7 +1,7 @@
 //! The sorts of a report's rows: what is counted, and where links lead.
 ghost use Rattle.std.specs.Prelude.{◌≡◌};
 ghost use Rattle.trace_report.specs.Sorts as Spec;
-ghost use Rattle.trace_report.specs.proving.Pages.{missing_of, row_of};
+ghost use Rattle.trace_report.specs.Rows.{missing_of, row_of};
 
 use crate::roles::MessageRole;
 use crate::row::{Missing, Row};

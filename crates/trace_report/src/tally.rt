@@ -1,8 +1,7 @@
 //! What a report keeps of its rows for the verdict.
 ghost use Rattle.std.specs.Prelude.{◌≡◌, ◌<◌, ◌^◌, ◌-◌, List, [], ◌∷◌, ◌++◌, length, take};
-ghost use Rattle.trace_report.specs.Rows.{RowValue};
+ghost use Rattle.trace_report.specs.Rows.{RowValue, row_of};
 ghost use Rattle.trace_report.specs.Sorts.{first_targets, most_links, tally_of};
-ghost use Rattle.trace_report.specs.proving.Pages.{row_of};
 ghost use Rattle.trace_report.specs.proving.Tallying.{first_with};
 
 use crate::counts::SortCounts;

@@ -3,7 +3,7 @@ use Rattle.std.specs.Prelude.{◌≡◌, ℕ, ◌+◌, zero, suc, ⊤, Bool, tru
 use Rattle.uds_exchange.specs.Blocks.{IsInside, bytes_at}
 use Rattle.trace_report.specs.Items as Items
 use Rattle.trace_report.specs.Items.{RowMessageValue, PlacedItemValue, items_in, message_in}
-use Rattle.trace_report.specs.Rows.{RowValue, message, no_answer, dropped, ended, unfinished}
+use Rattle.trace_report.specs.Rows.{RowValue, message, no_answer, dropped, ended, unfinished, missing_of}
 use Rattle.trace_report.specs.Sorts.{counts_in}
 use Rattle.trace_report.specs.declared.counts.SortCounts.{SortCounts}
 use Rattle.trace_report.specs.declared.item_places.ItemPlace.{ItemPlace}
@@ -11,7 +11,6 @@ use Rattle.trace_report.specs.declared.kept_rows.KeptRow.{KeptRow}
 use Rattle.trace_report.specs.declared.kept_rows.KeptRow.TheVariants as kept
 use Rattle.trace_report.specs.declared.roles.MessageRole.{MessageRole}
 use Rattle.trace_report.specs.declared.roles.MessageRole.TheVariants as role
-use Rattle.trace_report.specs.proving.Pages.{missing_of}
 
 -- Rows.
 

@@ -3,7 +3,7 @@ use Rattle.std.proofs.Common.{◌≡◌, ℕ, false, List, Option, ap, option_ma
 use Rattle.trace_report.specs.LostRows.{missing_row}
 use Rattle.trace_report.specs.declared.row.Missing.{Missing}
 use Rattle.trace_report.specs.declared.row.Missing.TheVariants as missing
-use Rattle.trace_report.specs.proving.Pages.{missing_of, row_of}
+use Rattle.trace_report.specs.Rows.{missing_of, row_of}
 use Rattle.trace_pair.specs.First.{Marked, chart_row}
 use Rattle.trace_pair.specs.declared.log.Log.{Log}
 use Rattle.trace_pair.specs.proving.Marks.{marked_of}

@@ -3,7 +3,7 @@ use Rattle.std.proofs.Common.{◌≡◌, ◌-◌, Bool, Some, None, take, drop, 
 use Rattle.std.specs.Prelude.{slice_get}
 use Rattle.std.proofs.lemmas.Bool.{eq-eqb}
 use Rattle.text_parts.proofs.Promises.{none-said}
-use Rattle.trace_report.specs.proving.Pages.{row_of}
+use Rattle.trace_report.specs.Rows.{row_of}
 use Rattle.trace_pair.specs.First.{body_start, rows_text}
 use Rattle.trace_pair.specs.proving.Marks.{marked_of}
 use Rattle.trace_pair.proofs.ChartRows.{turn-end, turn-past, turn-row}

@@ -4,7 +4,7 @@ use Rattle.trace_report.specs.Chart.{row_text}
 use Rattle.trace_report.specs.LostRows.{missing_row}
 use Rattle.trace_report.specs.declared.row.Missing.{Missing}
 use Rattle.trace_report.specs.declared.row.Missing.TheVariants as missing
-use Rattle.trace_report.specs.proving.Pages.{missing_of, row_of}
+use Rattle.trace_report.specs.Rows.{missing_of, row_of}
 use Rattle.trace_report.proofs.chart.say_row.Goals as goal
 
 pub returns-in-Message : goal.returns-in-Message

@@ -1,6 +1,6 @@
 -- Two items that changed are told by what differs.
 use Rattle.std.proofs.Common.{ℕ, List, option_map, subst, sym}
-use Rattle.trace_report.specs.proving.Lending.{item_of}
+use Rattle.trace_report.specs.Items.{item_of}
 use Rattle.trace_pair.specs.ItemRows.{change_words}
 use Rattle.trace_pair.proofs.change_top.ChangeWordsPart.say.Goals as goal
 

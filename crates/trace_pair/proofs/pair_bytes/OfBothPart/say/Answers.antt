@@ -3,7 +3,7 @@ use Rattle.std.proofs.Common.{◌++◌, Bool, subst}
 use Rattle.std.specs.Prelude.{if◌then◌else◌}
 use Rattle.trace_report.specs.Data.{data_text}
 use Rattle.trace_report.specs.MessageRows.{role_words}
-use Rattle.trace_report.specs.proving.Lending.{message_of}
+use Rattle.trace_report.specs.Items.{message_of}
 use Rattle.trace_pair.specs.ItemRows.{both_bytes}
 use Rattle.trace_pair.proofs.pair_bytes.OfBothPart.say.Goals as goal
 

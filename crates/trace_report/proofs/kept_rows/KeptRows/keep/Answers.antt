@@ -1,7 +1,7 @@
 -- One row more stays with its bytes, its item and its count; or all is as before.
 use Rattle.std.proofs.Common.{◌≡◌, ◌<◌, ◌^◌, ◌∷◌, ◌++◌, [], length, arith, ap, ◌∙◌, rules}
+use Rattle.trace_report.specs.Rows.{row_of}
 use Rattle.trace_report.specs.proving.Keeping.{places_next, rows_at, waiting_next}
-use Rattle.trace_report.specs.proving.Pages.{row_of}
 use Rattle.trace_report.specs.proving.Tallying.{counts_with}
 use Rattle.trace_report.proofs.Keeping.{kept-more, rows-more}
 use Rattle.trace_report.proofs.Placing.{waiting-placed}

@@ -5,7 +5,7 @@ use Rattle.std.specs.List.{list_any}
 use Rattle.shown_rows.specs.Changes.{changes, changes_from}
 use Rattle.trace_pair.specs.declared.log.Log.TheVariants.{A, B}
 use Rattle.trace_pair.specs.Verdict.{is_lossy, lossy_count}
-use Rattle.trace_pair.proofs.verdict.losses_at_changes.Given as goal
+use Rattle.trace_pair.proofs.lossy_changes.losses_at_changes.Given as goal
 
 abbrev pub invariant-rows : goal.invariant-rows
 invariant-rows l = record {

@@ -3,7 +3,7 @@ use Rattle.std.proofs.Common.{◌≡◌, ℕ, ◌++◌, Bool, false, List, [], a
 use Rattle.std.specs.Prelude.{◌==◌, if◌then◌else◌}
 use Rattle.std.proofs.lemmas.Bool.{ne_eqb}
 use Rattle.trace_pair.specs.Verdict.{at_words, who_words}
-use Rattle.trace_pair.proofs.verdict_words.LossyLinePart.say.Goals as goal
+use Rattle.trace_pair.proofs.lossy_changes.LossyLinePart.say.Goals as goal
 
 pub returns-then-self-gt0 : goal.returns-then-self-gt0
 returns-then-self-gt0 g c =

@@ -10,7 +10,7 @@ use Rattle.trace_pair.specs.declared.log.Log.TheVariants.{A, B}
 use Rattle.trace_pair.specs.Verdict.{is_lossy, lossy_count}
 use Rattle.trace_pair.specs.proving.Changing.{count_if, lossy_if}
 use Rattle.trace_pair.proofs.LossyChanges.{any-next, count-next, lossy-next}
-use Rattle.trace_pair.proofs.verdict.losses_at_changes.Goals as goal
+use Rattle.trace_pair.proofs.lossy_changes.losses_at_changes.Goals as goal
 
 -- no more of these changes are lossy than there are
 lossy_within : (left right : SessionValue) (here : Option Change) → lossy_if left right here ≤ count_if here
