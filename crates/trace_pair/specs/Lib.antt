@@ -10,6 +10,7 @@ pub mod Losses
 pub mod ChangeWords
 pub mod Verdict
 pub mod Recordings
+pub mod Widths
 pub mod Differences
 pub mod First
 pub mod ItemRows

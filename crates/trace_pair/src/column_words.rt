@@ -2,7 +2,7 @@
 use crate::log::Log;
 use text_parts::{Either, Part, say};
 use trace_io::TextSink;
-use trace_text::{Byte, Number};
+use trace_text::{Byte, Number, Place};
 
 /// Whose a line is.
 #[derive(Clone, Copy)]
@@ -19,9 +19,45 @@ impl Part for Whose {
 
     fn say<S: TextSink>(self, out: &mut S) {
         match self {
-            Whose::Of(log) => say(out, ("<span class=\"who\">", log, "</span>")),
-            Whose::OfBoth => say(out, "<span class=\"who eq\">=</span>"),
+            Whose::Of(log) => say(out, ("<span class=\"who\">", log, "</span> ")),
+            Whose::OfBoth => say(out, "<span class=\"who eq\">=</span> "),
             Whose::Untold => {}
+        }
+    }
+}
+
+/// The number of a line's first byte, of so many lines: where several are there.
+#[derive(Clone, Copy)]
+pub(crate) struct LineNumber(pub usize, pub FirstNumber);
+
+impl Part for LineNumber {
+    ghost use Rattle.trace_pair.specs.ColumnLines.{number_text};
+
+    ghost text = { λ number. number_text number.0 number.1.0 number.1.1 number.1.2 };
+
+    fn say<S: TextSink>(self, out: &mut S) {
+        if self.0 > 1 {
+            say(out, self.1);
+        }
+    }
+}
+
+/// The number of a line's first byte, by how many the log has before, and how many the other log has.
+#[derive(Clone, Copy)]
+pub(crate) struct FirstNumber(pub Whose, pub usize, pub usize);
+
+impl Part for FirstNumber {
+    ghost use Rattle.trace_pair.specs.ColumnLines.{first_number};
+
+    ghost text = { λ number. first_number number.0 number.1 number.2 };
+
+    fn say<S: TextSink>(self, out: &mut S) {
+        let FirstNumber(whose, before, there) = self;
+        let other = (", ", Place(there));
+        match whose {
+            Whose::Of(_) => say(out, Place(before)),
+            Whose::OfBoth => say(out, (Place(before), Either(before == there, (), other))),
+            Whose::Untold => say(out, Place(before)),
         }
     }
 }

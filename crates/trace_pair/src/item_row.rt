@@ -52,6 +52,7 @@ pub(crate) fn say_item_row<S: TextSink>(
             Told(place.kind, one, other),
             "</div><div class=\"ab\">",
             NoteIf(Log::A, sessions.left.first(), one),
+            " ",
             NoteIf(Log::B, sessions.right.first(), other),
             "</div>",
         ),

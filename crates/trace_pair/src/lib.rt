@@ -54,6 +54,7 @@ mod title;
 mod told_items;
 mod verdict;
 mod verdict_words;
+mod widths;
 
 pub use aligned::Aligned;
 pub use aligner::align_two;
