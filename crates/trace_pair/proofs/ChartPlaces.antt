@@ -191,11 +191,3 @@ module _ (item : ℕ) (rows : List RowValue) (few : length rows < 2 ^ 63) where
 
     pub more-are : to - end ≡ rows_more item rows
     more-are = omega (arith, end_is, up, within, few, from_is, to_is)
-
-    pub none-are : (from == end) ≡ (length (chart_rows item rows) == 0)
-    none-are =
-        let many : length (take (end - from) (drop from rows)) ≡ min (end - from) (length rows - from) =
-        length-take (end - from) (drop from rows) ∙ ap (min (end - from)) (length-drop from rows) in
-        let count = ap (λ (l : List RowValue). length l) rows-are in
-        same-test from end (length (chart_rows item rows)) 0
-        (λ same. omega (arith, many, count, same)) (λ none. omega (arith, many, count, none, end_is, up, within, few))

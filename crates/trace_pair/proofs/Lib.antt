@@ -9,6 +9,7 @@ pub mod FoldParts
 pub mod SeenTables
 pub mod WalkedRows
 mod RowsOnce
+mod RowsWith
 pub mod ChartRows
 pub mod ChangeSteps
 pub mod ListedChanges

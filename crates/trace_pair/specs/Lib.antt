@@ -12,6 +12,7 @@ pub mod Verdict
 pub mod Recordings
 pub mod Widths
 pub mod Differences
+pub mod Counterparts
 pub mod First
 pub mod ItemRows
 pub mod RowStretches

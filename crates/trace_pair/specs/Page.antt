@@ -73,7 +73,7 @@ counts_section title left right =
 abbrev pub body : TitleValue → Bool → ℕ → List Row → SessionValue → SessionValue → List ℕ
 body title shortest bound rows left right =
     front title (length (changes rows)) ++ verdict shortest bound rows left right ++ recordings title.left title.right left right ++ codes "</section>\n<main>\n"
-    ++ list_text left right (changes rows) ++ first_text title.left title.right left right (changes rows) ++ items_text left right rows
+    ++ list_text left right (changes rows) ++ first_text title.left title.right left right rows ++ items_text left right rows
     ++ counts_section title left right ++ codes "</main>\n" ++ help_text
 
 -- the page of two sessions: its rows are those of their difference

@@ -83,7 +83,7 @@ fn row_item(log: Log, session: &Session, place: RowPlace) -> Option<PlacedItem<'
 }
 
 /// How many items of a log stand before a row.
-fn place_in(log: Log, place: RowPlace) -> usize
+pub(crate) fn place_in(log: Log, place: RowPlace) -> usize
     ensures { result ≡ Spec.place_in log place }
 {
     match log {

@@ -28,6 +28,7 @@ mod column_cells;
 mod column_lines;
 mod column_words;
 mod comparing;
+mod counterparts;
 mod dates;
 mod differ_words;
 mod differences;
