@@ -1,6 +1,7 @@
 pub mod Pieces
 pub mod Cells
 pub mod LineCells
+pub mod CountedColumns
 pub mod LastDigits
 pub mod Stretches
 pub mod Tables

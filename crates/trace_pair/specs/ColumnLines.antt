@@ -1,5 +1,5 @@
 -- Two messages byte under byte, as a page has them: lines of sixteen columns, in which each byte that differs has a mark.
-use Rattle.std.specs.Prelude.{ℕ, ◌+◌, ◌*◌, ◌==◌, Bool, false, not, ◌&&◌, List, [], ◌∷◌, ◌++◌, codes, length, nat_le, take, Option, Some, None, if◌then◌else◌}
+use Rattle.std.specs.Prelude.{ℕ, ◌+◌, ◌*◌, ◌==◌, Bool, true, false, not, ◌&&◌, List, [], ◌∷◌, ◌++◌, codes, length, nat_le, take, Option, Some, None, if◌then◌else◌}
 use Rattle.std.specs.Fmt.{decimal}
 use Rattle.std.specs.List.{flat_map, range_with_len}
 use Rattle.can_log.specs.Digits.{hexadecimal}
@@ -115,6 +115,21 @@ line_text Both lettered columns number =
     else line_of lettered OfBoth A columns number
 line_text (Only log) lettered columns number = line_of lettered Untold log columns number
 
+-- a log has a byte in a column
+abbrev pub has_byte : Option ℕ → Bool
+has_byte None = false
+has_byte (Some byte) = true
+
+-- A column counts: for both logs each does, and for one log alone each in which that has a byte.
+abbrev pub is_counted : Sides → Column → Bool
+is_counted Both here = true
+is_counted (Only log) here = has_byte (byte_of log here)
+
+-- the columns that count
+abbrev pub counted : Sides → List Column → List Column
+counted sides [] = []
+counted sides (here ∷ later) = if is_counted sides here then here ∷ counted sides later else counted sides later
+
 -- how many of some bytes differ
 abbrev pub differ_words : ℕ → List ℕ
 differ_words count = if count == 0 then codes "the same" else if count == 1 then codes "1 of them differs" else decimal count ++ codes " of them differ"
@@ -123,20 +138,29 @@ differ_words count = if count == 0 then codes "the same" else if count == 1 then
 abbrev pub bytes_more : ℕ → List ℕ
 bytes_more count = if count == 1 then codes "1 byte more" else decimal count ++ codes " bytes more"
 
--- a stretch of lines: one that is shown, or several that are folded, with how many columns they have and how many differ
+-- so many bytes more, of which so many differ
+abbrev pub fold_words : ℕ → ℕ → List ℕ
+fold_words count differ = if count == 0 then codes "no byte more" else bytes_more count ++ codes ", " ++ differ_words differ
+
+-- a stretch of lines: one that is shown, or several that are folded, with how many columns of theirs count, and how many of
+-- these differ
 abbrev pub stretch_text : Sides → Bool → List Column → Stretch → List ℕ
 stretch_text sides lettered columns (shown number) = line_text sides lettered columns number
 stretch_text sides lettered columns (folded first count) =
-    codes "<details><summary>" ++ bytes_more (length (columns_from columns first count)) ++ codes ", " ++ differ_words (differing (columns_from columns first count))
+    codes "<details><summary>"
+    ++ fold_words (length (counted sides (columns_from columns first count))) (differing (counted sides (columns_from columns first count)))
     ++ codes "</summary>" ++ flat_map (line_text sides lettered columns) (range_with_len first count) ++ codes "</details>"
 
--- what is not shown: how many columns there are of it, and how many of them differ
-abbrev pub hidden_text : List Column → List ℕ
-hidden_text [] = []
-hidden_text (here ∷ later) =
-    codes "<p class=\"rest\"><i>" ++ bytes_more (length (here ∷ later)) ++ codes ", not shown; " ++ differ_words (differing (here ∷ later)) ++ codes "</i></p>"
+-- so many bytes more that are not shown, of which so many differ
+abbrev pub hidden_words : ℕ → ℕ → List ℕ
+hidden_words count differ =
+    if count == 0 then [] else codes "<p class=\"rest\"><i>" ++ bytes_more count ++ codes ", not shown; " ++ differ_words differ ++ codes "</i></p>"
+
+-- what is not shown: how many columns of it count, and how many of these differ
+abbrev pub hidden_text : Sides → List Column → List ℕ
+hidden_text sides columns = hidden_words (length (counted sides columns)) (differing (counted sides columns))
 
 -- two messages byte under byte
 abbrev pub lines_text : Sides → Bool → List Column → List ℕ
 lines_text sides lettered columns =
-    codes "<div class=\"hx\">" ++ flat_map (stretch_text sides lettered columns) (stretches columns) ++ hidden_text (hidden columns) ++ codes "</div>"
+    codes "<div class=\"hx\">" ++ flat_map (stretch_text sides lettered columns) (stretches columns) ++ hidden_text sides (hidden columns) ++ codes "</div>"

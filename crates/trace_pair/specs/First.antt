@@ -5,18 +5,18 @@ use Rattle.std.specs.Fmt.{decimal}
 use Rattle.byte_columns.specs.declared.column.Column.{Column}
 use Rattle.byte_columns.specs.Columns.{beside}
 use Rattle.direction.specs.declared.Dir.{Dir}
+use Rattle.direction.specs.declared.Dir.TheVariants as dir
 use Rattle.shown_rows.specs.declared.changes.Change.{Change}
 use Rattle.shown_rows.specs.Changes.{changes}
 use Rattle.uds_difference.specs.declared.row.Row.{Row}
 use Rattle.trace_report.specs.Blocks.{begins_exchange}
 use Rattle.trace_report.specs.Items.{begins, rows_before}
-use Rattle.trace_report.specs.Rows.{RowValue, message, no_answer, dropped, ended, unfinished, cell_end, cell_front}
+use Rattle.trace_report.specs.Rows.{RowValue, message, no_answer, dropped, ended, unfinished, cell_front}
 use Rattle.trace_report.specs.LostRows.{dropped_row, ended_row, no_answer_row, unfinished_row}
 use Rattle.trace_report.specs.MessageRows.{message_front, note_text, role_words}
 use Rattle.trace_report.specs.Session.{SessionValue}
 use Rattle.trace_report.specs.Data.{data_text}
 use Rattle.trace_report.specs.Letters.{has_word}
-use Rattle.trace_report.specs.declared.row.Arrow.TheVariants.{Headed}
 use Rattle.trace_report.specs.declared.row.MessagePlace.{MessagePlace}
 use Rattle.trace_report.specs.declared.roles.MessageRole.{MessageRole}
 use Rattle.trace_pair.specs.declared.column_lines.Sides.TheVariants.{Only}
@@ -85,11 +85,16 @@ abbrev pub chart_data : Log → List ℕ → Option (List ℕ) → List ℕ
 chart_data log bytes None = data_text bytes
 chart_data log bytes (Some other) = lines_text (Only log) (has_word bytes || has_word other) (beside_of log bytes other)
 
+-- a cell behind the words of a message: its arrow, which is no smaller than this, and the end of the row
+abbrev pub message_end : Dir → List ℕ
+message_end dir.Tester = codes "</div><svg aria-hidden=\"true\" width=\"32\" height=\"12\"><use href=\"#t\"/></svg></div>\n"
+message_end dir.Unit = codes "</div><svg aria-hidden=\"true\" width=\"32\" height=\"12\"><use href=\"#u\"/></svg></div>\n"
+
 -- the row of a message in a chart: when it was, what it is, its bytes, and its arrow
 abbrev pub chart_message : Charted → ℕ → MessageRole → Dir → MessagePlace → List ℕ → List ℕ
 chart_message chart origin is d place bytes =
     message_front false origin is place ++ cell_front d ++ role_words is d bytes ++ chart_data chart.log bytes (counterpart (marks_at chart place.item) is)
-    ++ note_text is place (length bytes) ++ cell_end d Headed
+    ++ note_text is place (length bytes) ++ message_end d
 
 -- a row, to which no link leads
 abbrev pub chart_row : Charted → ℕ → RowValue → List ℕ

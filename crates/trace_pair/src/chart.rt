@@ -10,11 +10,12 @@ use crate::counterparts::{Charted, counterpart, is_other, marks_at};
 use crate::log::Log;
 use crate::widths::SessionClasses;
 use byte_columns::Beside;
+use direction::Dir;
 use text_parts::{Either, Part, When, say};
 use trace_io::TextSink;
 use trace_report::{
-    Arrow, CellEnd, CellFront, Data, KeptRows, MessageFront, Missing, Note, RoleWords, Row,
-    SentMessage, Session, begins_item, is_request_role, say_missing_row,
+    CellFront, Data, KeptRows, MessageFront, Missing, Note, RoleWords, Row, SentMessage, Session,
+    begins_item, is_request_role, say_missing_row,
 };
 use trace_text::Number;
 
@@ -200,7 +201,7 @@ fn say_row<S: TextSink>(chart: Charted<'_>, origin: u64, row: Row<'_>, out: &mut
             let marked = marks_at(chart, place.item);
             say_data(chart.log, message, counterpart(marked, role), out);
             say(out, Note(role, place, message.len() as u64));
-            say(out, CellEnd(dir, Arrow::Headed));
+            say(out, MessageEnd(dir));
         }
         Row::Missing(missing) => say_missing_row(false, origin, missing, out),
     }
@@ -226,6 +227,29 @@ fn beside_of<'a>(log: Log, own: &'a [u8], other: &'a [u8]) -> Beside<'a>
     match log {
         Log::A => Beside::of(own, other),
         Log::B => Beside::of(other, own),
+    }
+}
+
+/// A cell behind the words of a message: its arrow, which is no smaller than this, and the end of the row.
+#[derive(Clone, Copy)]
+struct MessageEnd(Dir);
+
+impl Part for MessageEnd {
+    ghost use Rattle.trace_pair.specs.First.{message_end};
+
+    ghost text = { λ end. message_end end.0 };
+
+    fn say<S: TextSink>(self, out: &mut S) {
+        match self.0 {
+            Dir::Tester => say(
+                out,
+                "</div><svg aria-hidden=\"true\" width=\"32\" height=\"12\"><use href=\"#t\"/></svg></div>\n",
+            ),
+            Dir::Unit => say(
+                out,
+                "</div><svg aria-hidden=\"true\" width=\"32\" height=\"12\"><use href=\"#u\"/></svg></div>\n",
+            ),
+        }
     }
 }
 

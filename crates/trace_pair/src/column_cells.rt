@@ -147,7 +147,7 @@ fn say_letter<S: TextSink>(byte: Option<u8>, out: &mut S)
 }
 
 /// What a log has in a column, if it has a byte there.
-fn byte_of(log: Log, column: Column) -> Option<u8>
+pub(crate) fn byte_of(log: Log, column: Column) -> Option<u8>
     ensures { result ≡ Spec.byte_of log column }
 {
     match log {

@@ -1,4 +1,5 @@
 //! The words beside two messages byte under byte.
+use crate::column_counts::ColumnCounts;
 use crate::log::Log;
 use text_parts::{Either, Part, say};
 use trace_io::TextSink;
@@ -115,9 +116,47 @@ impl Part for ByteOrGap {
     }
 }
 
+/// How many bytes are folded, and how many of them differ.
+#[derive(Clone, Copy)]
+pub(crate) struct FoldWords(pub ColumnCounts);
+
+impl Part for FoldWords {
+    ghost use Rattle.trace_pair.specs.ColumnLines.{fold_words};
+
+    ghost text = { λ words. fold_words words.0.all words.0.differing };
+
+    fn say<S: TextSink>(self, out: &mut S) {
+        let ColumnCounts { all, differing } = self.0;
+        let some = (BytesMore(all), ", ", Differ(differing));
+        say(out, Either(all == 0, "no byte more", some));
+    }
+}
+
+/// How many bytes are not shown, if some are not, and how many of them differ.
+#[derive(Clone, Copy)]
+pub(crate) struct Hidden(pub ColumnCounts);
+
+impl Part for Hidden {
+    ghost use Rattle.trace_pair.specs.ColumnLines.{hidden_words};
+
+    ghost text = { λ words. hidden_words words.0.all words.0.differing };
+
+    fn say<S: TextSink>(self, out: &mut S) {
+        let ColumnCounts { all, differing } = self.0;
+        let some = (
+            "<p class=\"rest\"><i>",
+            BytesMore(all),
+            ", not shown; ",
+            Differ(differing),
+            "</i></p>",
+        );
+        say(out, Either(all == 0, (), some));
+    }
+}
+
 /// So many bytes more.
 #[derive(Clone, Copy)]
-pub(crate) struct BytesMore(pub usize);
+struct BytesMore(usize);
 
 impl Part for BytesMore {
     ghost use Rattle.trace_pair.specs.ColumnLines.{bytes_more};
@@ -132,7 +171,7 @@ impl Part for BytesMore {
 
 /// How many of some bytes differ.
 #[derive(Clone, Copy)]
-pub(crate) struct Differ(pub usize);
+struct Differ(usize);
 
 impl Part for Differ {
     ghost use Rattle.trace_pair.specs.ColumnLines.{differ_words};

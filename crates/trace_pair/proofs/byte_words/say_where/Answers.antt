@@ -1,5 +1,5 @@
 -- A message has bytes alone where the definition tests for it.
-use Rattle.std.proofs.Common.{◌≡◌, ℕ, ◌++◌, Bool, true, false, List, ap, subst, sym, ◌∙◌}
+use Rattle.std.proofs.Common.{◌≡◌, ℕ, ◌++◌, Bool, true, List, ap, subst, sym, ◌∙◌}
 use Rattle.std.specs.Prelude.{if◌then◌else◌, slice_get}
 use Rattle.byte_columns.specs.Columns.{differing}
 use Rattle.trace_pair.specs.ByteWords.{alone_words, first_words, has_alone, others_words}

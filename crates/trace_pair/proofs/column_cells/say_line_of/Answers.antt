@@ -1,8 +1,7 @@
 -- A log has bytes in a line where it has more behind it than before.
-use Rattle.std.proofs.Common.{◌≡◌, ◌-◌, ◌*◌, ◌<◌, ℕ, List, ◌++◌, codes, length, take, drop, arith, ap, subst, ◌∙◌}
+use Rattle.std.proofs.Common.{◌≡◌, ◌-◌, ◌<◌, ℕ, List, ◌++◌, codes, length, take, drop, arith, ap, subst, ◌∙◌}
 use Rattle.byte_columns.specs.declared.column.Column.{Column}
 use Rattle.byte_columns.specs.Lines.{line, line_count}
-use Rattle.trace_pair.specs.declared.log.Log.{Log}
 use Rattle.trace_pair.specs.ColumnLines.{bytes_before, bytes_in, cells, grey_columns, number_text, whose_text}
 use Rattle.trace_pair.specs.Logs.{other_log}
 use Rattle.trace_pair.proofs.LineCells.{bytes-behind, line-piece, no-byte, some-bytes}

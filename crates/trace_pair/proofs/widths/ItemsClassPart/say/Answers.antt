@@ -1,5 +1,5 @@
 -- The numbers are those of both sessions.
-use Rattle.std.proofs.Common.{◌≡◌, ℕ, List, ◌++◌, codes, length, max, ap, subst, ◌∙◌}
+use Rattle.std.proofs.Common.{ℕ, List, ◌++◌, codes, length, max, ap, subst, ◌∙◌}
 use Rattle.trace_report.specs.Items.{items_in}
 use Rattle.trace_report.specs.Rows.{RowValue}
 use Rattle.trace_pair.specs.Widths.{room}
