@@ -25,10 +25,10 @@ is-so (Same ∷ rows) left right = behind (first_change rows) (is-so rows (left 
   where
     behind : (found : Option ℕ) → Is found (left + 1) (right + 1) rows → Is (option_map (λ (n : ℕ). suc n) found) left right (Same ∷ rows)
     behind None so = so
-    behind (Some place) (differs, first, later, are, at, beside) = (differs, first, later, are, omega (arith, at), omega (arith, beside))
-is-so (Changed ∷ rows) left right = (refl, _, _, refl, omega arith, omega arith)
-is-so (OnlyLeft ∷ rows) left right = (refl, _, _, refl, omega arith, omega arith)
-is-so (OnlyRight ∷ rows) left right = (refl, _, _, refl, omega arith, omega arith)
+    behind (Some place) (other, (first, later, are, at, beside)) = (other, (first, later, are, omega (arith, at), omega (arith, beside)))
+is-so (Changed ∷ rows) left right = (refl, (_, _, refl, omega arith, omega arith))
+is-so (OnlyLeft ∷ rows) left right = (refl, (_, _, refl, omega arith, omega arith))
+is-so (OnlyRight ∷ rows) left right = (refl, (_, _, refl, omega arith, omega arith))
 
 pub of-comparison : ChangesAreOfComparison
 of-comparison rows = by (first_change rows) (is-so rows 0 0)
@@ -37,5 +37,5 @@ of-comparison rows = by (first_change rows) (is-so rows 0 0)
         → (comparison_by found ≡ comparison.Same → (differs rows ≡ false) × (changes rows ≡ []))
         × ((place : ℕ) → comparison_by found ≡ comparison.Different place → (differs rows ≡ true) × BeginBehind place (changes rows))
     by None so = (λ same. so, λ place is. absurd (cc is))
-    by (Some place) (differs, first, later, are, at, beside) =
-        (λ same. absurd (cc same), λ other is. let e : place ≡ other = cc in (differs, first, later, are, omega (arith, at, e), omega (arith, beside, e)))
+    by (Some place) (differ, (first, later, are, at, beside)) =
+        (λ same. absurd (cc same), λ other is. let e : place ≡ other = cc in (differ, (first, later, are, omega (arith, at, e), omega (arith, beside, e))))

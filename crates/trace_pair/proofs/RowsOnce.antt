@@ -4,15 +4,15 @@ use Rattle.std.specs.Prelude.{if◌then◌else◌, Some, None}
 use Rattle.std.specs.List.{flat_map, range_with_len}
 use Rattle.std.proofs.lemmas.List.{length-drop, take-append-drop}
 use Rattle.byte_columns.specs.Laws.{listed}
-use Rattle.uds_difference.specs.Rows.{rows_of}
+use Rattle.uds_exchange.specs.Meaning.{ItemValue}
+use Rattle.uds_difference.specs.Rows.{AreBeside, rows_of}
 use Rattle.uds_difference.specs.declared.row.Row.{Row}
 use Rattle.uds_difference.specs.declared.row.Row.TheVariants.{Same, Changed, OnlyLeft, OnlyRight}
 use Rattle.shown_rows.specs.declared.changes.Change.{Change}
 use Rattle.shown_rows.specs.Changes.{begins_change, change, change_length, changes, changes_from}
 use Rattle.shown_rows.specs.Folds.{context_behind, is_shown}
-use Rattle.shown_rows.specs.Laws.{left_places, right_places}
-use Rattle.shown_rows.specs.Rows.{left_in, right_in}
-use Rattle.shown_rows.proofs.Promises as promises
+use Rattle.shown_rows.specs.Rows.{left_count, left_in, right_count, right_in}
+use Rattle.uds_difference.proofs.Promises.{rows_are_beside}
 use Rattle.trace_pair.specs.declared.log.Log.TheVariants.{A, B}
 use Rattle.trace_pair.specs.ItemRows.{begun_number}
 use Rattle.trace_pair.specs.Laws.{EachItemStandsOnce, EachRowStandsOnce, LinksHaveTargets, identifier, item_place, kind_of, rows_in, rows_of_table, table_rows}
@@ -159,23 +159,39 @@ module _ (all : ℕ) where
 
   -- The places of items.
 
-  left-places : (before : ℕ) (front : Row) (left right more : ℕ) (rows : List Row) → flat_map (item_place A) (placed_from all before front left right more rows) ≡ left_places left rows
+  left-places : (before : ℕ) (front : Row) (left right more : ℕ) (rows : List Row)
+      → flat_map (item_place A) (placed_from all before front left right more rows) ≡ range_with_len left (left_count rows)
   left-places before front left right more [] = refl
-  left-places before front left right more (Same ∷ rows) = ap (λ (l : List ℕ). left ∷ l) (left-places (changes_with front before Same) Same (left + 1) (right + 1) (context_behind more Same) rows)
-  left-places before front left right more (Changed ∷ rows) = ap (λ (l : List ℕ). left ∷ l) (left-places (changes_with front before Changed) Changed (left + 1) (right + 1) (context_behind more Changed) rows)
-  left-places before front left right more (OnlyLeft ∷ rows) = ap (λ (l : List ℕ). left ∷ l) (left-places (changes_with front before OnlyLeft) OnlyLeft (left + 1) (right + 0) (context_behind more OnlyLeft) rows)
+  left-places before front left right more (Same ∷ rows) =
+      let more_by_one : suc (left_count rows) ≡ 1 + left_count rows = omega arith in
+      ap (λ (l : List ℕ). left ∷ l) (left-places (changes_with front before Same) Same (left + 1) (right + 1) (context_behind more Same) rows) ∙ ap (range_with_len left) more_by_one
+  left-places before front left right more (Changed ∷ rows) =
+      let more_by_one : suc (left_count rows) ≡ 1 + left_count rows = omega arith in
+      ap (λ (l : List ℕ). left ∷ l) (left-places (changes_with front before Changed) Changed (left + 1) (right + 1) (context_behind more Changed) rows) ∙ ap (range_with_len left) more_by_one
+  left-places before front left right more (OnlyLeft ∷ rows) =
+      let more_by_one : suc (left_count rows) ≡ 1 + left_count rows = omega arith in
+      ap (λ (l : List ℕ). left ∷ l) (left-places (changes_with front before OnlyLeft) OnlyLeft (left + 1) (right + 0) (context_behind more OnlyLeft) rows) ∙ ap (range_with_len left) more_by_one
   left-places before front left right more (OnlyRight ∷ rows) =
       let none : left + 0 ≡ left = omega arith in
-      left-places (changes_with front before OnlyRight) OnlyRight (left + 0) (right + 1) (context_behind more OnlyRight) rows ∙ ap (λ (n : ℕ). left_places n rows) none
+      let as_many : left_count rows ≡ 0 + left_count rows = omega arith in
+      left-places (changes_with front before OnlyRight) OnlyRight (left + 0) (right + 1) (context_behind more OnlyRight) rows ∙ (λ i. range_with_len (none i) (as_many i))
 
-  right-places : (before : ℕ) (front : Row) (left right more : ℕ) (rows : List Row) → flat_map (item_place B) (placed_from all before front left right more rows) ≡ right_places right rows
+  right-places : (before : ℕ) (front : Row) (left right more : ℕ) (rows : List Row)
+      → flat_map (item_place B) (placed_from all before front left right more rows) ≡ range_with_len right (right_count rows)
   right-places before front left right more [] = refl
-  right-places before front left right more (Same ∷ rows) = ap (λ (l : List ℕ). right ∷ l) (right-places (changes_with front before Same) Same (left + 1) (right + 1) (context_behind more Same) rows)
-  right-places before front left right more (Changed ∷ rows) = ap (λ (l : List ℕ). right ∷ l) (right-places (changes_with front before Changed) Changed (left + 1) (right + 1) (context_behind more Changed) rows)
-  right-places before front left right more (OnlyRight ∷ rows) = ap (λ (l : List ℕ). right ∷ l) (right-places (changes_with front before OnlyRight) OnlyRight (left + 0) (right + 1) (context_behind more OnlyRight) rows)
+  right-places before front left right more (Same ∷ rows) =
+      let more_by_one : suc (right_count rows) ≡ 1 + right_count rows = omega arith in
+      ap (λ (l : List ℕ). right ∷ l) (right-places (changes_with front before Same) Same (left + 1) (right + 1) (context_behind more Same) rows) ∙ ap (range_with_len right) more_by_one
+  right-places before front left right more (Changed ∷ rows) =
+      let more_by_one : suc (right_count rows) ≡ 1 + right_count rows = omega arith in
+      ap (λ (l : List ℕ). right ∷ l) (right-places (changes_with front before Changed) Changed (left + 1) (right + 1) (context_behind more Changed) rows) ∙ ap (range_with_len right) more_by_one
+  right-places before front left right more (OnlyRight ∷ rows) =
+      let more_by_one : suc (right_count rows) ≡ 1 + right_count rows = omega arith in
+      ap (λ (l : List ℕ). right ∷ l) (right-places (changes_with front before OnlyRight) OnlyRight (left + 0) (right + 1) (context_behind more OnlyRight) rows) ∙ ap (range_with_len right) more_by_one
   right-places before front left right more (OnlyLeft ∷ rows) =
       let none : right + 0 ≡ right = omega arith in
-      right-places (changes_with front before OnlyLeft) OnlyLeft (left + 1) (right + 0) (context_behind more OnlyLeft) rows ∙ ap (λ (n : ℕ). right_places n rows) none
+      let as_many : right_count rows ≡ 0 + right_count rows = omega arith in
+      right-places (changes_with front before OnlyLeft) OnlyLeft (left + 1) (right + 0) (context_behind more OnlyLeft) rows ∙ (λ i. range_with_len (none i) (as_many i))
 
   -- The numbers of changes.
 
@@ -205,13 +221,38 @@ of-table rows = all-in-tables (stretches (placed rows)) ∙ once (length (change
 pub each_row_stands_once : EachRowStandsOnce
 each_row_stands_once rows = (of-table rows, ap (map kind_of) (of-table rows) ∙ kinds (length (changes rows)) 0 Same 0 0 0 rows)
 
+-- how many items the rows of two lists have of each
+are-counted : (rows : List Row) (xs ys : List ItemValue) → AreBeside rows xs ys → (left_count rows ≡ length xs) × (right_count rows ≡ length ys)
+are-counted [] [] [] h = (refl, refl)
+are-counted (Same ∷ rows) (x ∷ xs) (y ∷ ys) h =
+    let more = are-counted rows xs ys h.1 in
+    let one = more.0 in
+    let other = more.1 in
+    (omega arith, omega arith)
+are-counted (Changed ∷ rows) (x ∷ xs) (y ∷ ys) h =
+    let more = are-counted rows xs ys h.2 in
+    let one = more.0 in
+    let other = more.1 in
+    (omega arith, omega arith)
+are-counted (OnlyLeft ∷ rows) (x ∷ xs) ys h =
+    let more = are-counted rows xs ys h in
+    let one = more.0 in
+    let other = more.1 in
+    (omega arith, omega arith)
+are-counted (OnlyRight ∷ rows) xs (y ∷ ys) h =
+    let more = are-counted rows xs ys h in
+    let one = more.0 in
+    let other = more.1 in
+    (omega arith, omega arith)
+are-counted _ _ _ h = absurd h
+
 pub each_item_stands_once : EachItemStandsOnce
 each_item_stands_once xs ys =
     let rows = rows_of xs ys in
     let all = length (changes rows) in
-    let once = promises.each_item_stands_once xs ys in (
-      ap (flat_map (item_place A)) (of-table rows) ∙ left-places all 0 Same 0 0 0 rows ∙ once.0,
-      ap (flat_map (item_place B)) (of-table rows) ∙ right-places all 0 Same 0 0 0 rows ∙ once.1,
+    let counts = are-counted (rows_of xs ys) xs ys (rows_are_beside xs ys) in (
+      ap (flat_map (item_place A)) (of-table rows) ∙ left-places all 0 Same 0 0 0 rows ∙ ap (range_with_len 0) counts.0,
+      ap (flat_map (item_place B)) (of-table rows) ∙ right-places all 0 Same 0 0 0 rows ∙ ap (range_with_len 0) counts.1,
     )
 
 pub links_have_targets : LinksHaveTargets
