@@ -1,7 +1,7 @@
 """A second reading of what the page of two logs tells: its rows, changes, folds and verdict, from the items of both logs."""
 
 import datetime
-import itertools
+import re
 from collections import namedtuple
 
 import difference_oracle
@@ -27,8 +27,9 @@ Change = namedtuple("Change", "kind first count")
 # A chart: what each of its rows is told as, how many rows it leaves out, and whether it says that the log ends.
 Chart = namedtuple("Chart", "rows more is_end")
 
-# A row of a chart: how it looks, its item, its lines, and its time.
-ChartRow = namedtuple("ChartRow", "look item lines time")
+# A row of a chart: how it looks, its item, its lines, its time, whether the item that it is of is not the same in both logs, and the lines
+# of its bytes, where some of them have marks, with how many are told of each fold.
+ChartRow = namedtuple("ChartRow", "look item lines time is_other bytes")
 
 # 100,000,000 seconds after the beginning of 1970.
 DATED_FROM = datetime.datetime(1973, 3, 3, 9, 46, 40)
@@ -111,10 +112,18 @@ def charts_of(frames, items):
     """The charts of two logs around their first difference."""
     rows = rows_of(*items)
     same = rows[: changes_of(rows)[0].first]
-    return [chart_of(trace, len(same)) for trace in frames]
+    return [chart_of(trace, len(same), beside(rows, items, side)) for side, trace in enumerate(frames)]
 
 
-def chart_of(frames, item):
+def beside(rows, items, side):
+    """Of each item of a log that is not the same in the other, by its number, that and the item that it changed to, if it changed to one; and
+    which of both logs it is."""
+    places = {row[1 + side] + 1: row for row in rows if row.kind != SAME and row[1 + side] is not None}
+    pairs = {number: (items[0][row.left], items[1][row.right]) if row.kind == CHANGED else None for number, row in places.items()}
+    return pairs, side
+
+
+def chart_of(frames, item, others):
     """The chart of a log around the item of this place, counted from 0. It goes from the row with which the item before begins, or from the
     request in whose exchange that row stands, to before the first request at or behind the row with which the second item behind begins."""
     rows = [*report_facts.rows_of(frames), *report_facts.end_rows(frames)]
@@ -125,13 +134,38 @@ def chart_of(frames, item):
     begin = max(begin, begun[item] - MOST_BEFORE)
     end = min((place for place in requests if place >= begun[item + 2]), default=len(rows))
     last = min(end, begin + MOST_ROWS)
-    told = [chart_row(frames[0].micros, row) for row in rows[begin:last]]
+    numbers = numbers_of(rows)
+    told = [chart_row(frames[0].micros, rows[place], numbers[place], others) for place in range(begin, last)]
     return Chart(told, end - last, last == len(rows))
 
 
-def chart_row(origin, row):
-    told = report_facts.row_told(origin, row)
-    return ChartRow(report_reader.KINDS[told.kind].look, told.item, told.lines, told.time)
+def numbers_of(rows):
+    """The number of the item that each row is of. What is missing of the log is of the item that began last before it, or of the first."""
+    numbers, last = [], 1
+    for row in rows:
+        own = row.item if isinstance(row, (report_facts.Message, report_facts.NoAnswer)) else last
+        last = own if isinstance(row, report_facts.Message) and row.asked is None else last
+        numbers.append(own)
+    return numbers
+
+
+def chart_row(origin, row, number, others):
+    told, (pairs, side) = report_facts.row_told(origin, row), others
+    marked = marked_lines(row, pairs.get(number), side)
+    return ChartRow(report_reader.KINDS[told.kind].look, told.item, told.lines, told.time, number in pairs, marked)
+
+
+def marked_lines(row, pair, side):
+    """The lines of the bytes of a row, if it tells a message of an item that changed and not the same one as in the other log."""
+    if pair is None or not isinstance(row, report_facts.Message):
+        return []
+    if row.asked is None:
+        messages = [item.message if isinstance(item, oracle.Stray) else item.request for item in pair]
+    elif row.kind in report_facts.REPLIES and all(item.answer for item in pair) and outcome_of(pair[0]) == outcome_of(pair[1]):
+        messages = [item.answer for item in pair]
+    else:
+        return []
+    return [(lines_of(*messages, only=side), counts_of(*messages, only=side))] if messages[0] != messages[1] else []
 
 
 def shown_of(rows):
@@ -186,38 +220,50 @@ def cells_of(columns, side):
     return [("--" if pair[side] is None else f"{pair[side]:02X}", pair[0] != pair[1]) for pair in columns]
 
 
-def shown_lines(columns):
-    """The lines of some columns, each with whether it is shown, and not folded."""
-    lines, other_lines = [], 0
+def letters_of(columns, side):
+    """The letters for what a log has in each column, with a blank in a gap."""
+    return "".join(" " if pair[side] is None else re.sub(rb"[^ %s]" % report_facts.MARK, b".", bytes([pair[side]])).decode() for pair in columns)
+
+
+def lines_of(one, other, only=None):
+    """The lines of both messages, or of one of them alone: whose each is, the number of its first byte, or both numbers, where it stands once
+    for both and they are not the same, its cells, its letters, where one of both may be text, and whether it is folded."""
+    columns = columns_of(one, other)
+    is_text = any(re.search(rb"[%s]{4}" % report_facts.MARK, message) for message in (one, other))
+    lines = []
+    for start, line, differs, is_shown in cut(columns):
+        first = [1 + sum(pair[side] is not None for pair in columns[:start]) for side in (0, 1)]
+        for side in (0, 1) if differs and only is None else (only or 0,):
+            whose = None if only is not None else "AB"[side] if differs else "="
+            cells = cells_of(line, side)
+            is_empty = all(cell == "--" for cell, _ in cells)
+            numbers = tuple(sorted(set(first), key=first.index)) if whose == "=" else (first[side],)
+            told = () if is_empty or len(columns) <= WIDTH else numbers
+            letters = letters_of(line, side) if is_text and not is_empty else None
+            lines.append((whose, told, None if is_empty else cells, letters, not is_shown))
+    return lines
+
+
+def cut(columns):
+    """The lines of columns: where each begins, its columns, whether one of them differs, and whether it is shown where no fold is opened."""
+    other_lines = 0
     for start in range(0, min(len(columns), MOST_COLUMNS), WIDTH):
         line = columns[start : min(start + WIDTH, MOST_COLUMNS)]
         differs = any(left != right for left, right in line)
-        lines.append((line, len(columns) <= ALL_COLUMNS or start == 0 or (differs and other_lines < OTHER_LINES)))
+        yield start, line, differs, len(columns) <= ALL_COLUMNS or start == 0 or (differs and other_lines < OTHER_LINES)
         other_lines += differs
-    return lines
 
 
-def lines_of(one, other):
-    """The lines of both messages: whose each is, the number of its first byte, its cells, and whether it is folded."""
-    columns, lines = columns_of(one, other), []
-    for number, (line, is_shown) in enumerate(shown_lines(columns)):
-        differs = any(left != right for left, right in line)
-        for side in (0, 1) if differs else (0,):
-            before = sum(pair[side] is not None for pair in columns[: number * WIDTH])
-            cells = cells_of(line, side)
-            is_empty = all(cell == "--" for cell, _ in cells)
-            lines.append(("AB"[side] if differs else "=", None if is_empty else before + 1, None if is_empty else cells, not is_shown))
-    return lines
-
-
-def folded_of(one, other):
-    """Of each longest run of lines that are folded how many columns it has, and how many of them differ; and the same of all columns that
-    stand in no line, if some are there."""
+def counts_of(one, other, only=None):
+    """Of each longest run of lines that are folded, and of what stands behind all lines, how many bytes there are, and how many of them
+    differ: columns, where both messages are told, and else the bytes of one of them. Nothing is said of none behind all lines."""
     columns = columns_of(one, other)
-    runs = itertools.groupby(shown_lines(columns), key=lambda line: line[1])
-    folds = [[column for line, _ in run for column in line] for is_shown, run in runs if not is_shown]
-    folds += [columns[MOST_COLUMNS:]] if columns[MOST_COLUMNS:] else []
-    return [(len(fold), sum(left != right for left, right in fold)) for fold in folds]
+    runs = [[]]
+    for _, line, _, is_shown in cut(columns):
+        runs = [*runs, []] if is_shown else [*runs[:-1], runs[-1] + line]
+    counted = [[pair for pair in run if only is None or pair[only] is not None] for run in [*filter(None, runs), columns[MOST_COLUMNS:]]]
+    counts = [(len(run), sum(left != right for left, right in run)) for run in counted]
+    return counts if counts[-1][0] else counts[:-1]
 
 
 # --- What is missing ----------------------------------------------------------------------------------------------------
@@ -358,22 +404,37 @@ def differing(one, other):
     if isinstance(one, oracle.Stray):
         return "message" + bytes_differing(one.message, other.message)
     words = [] if one.request == other.request else ["request" + bytes_differing(one.request, other.request)]
-    outcomes = outcome_of(one), outcome_of(other)
-    if outcomes[0] != outcomes[1]:
-        words.append(f"{outcomes[0]} in A, {outcomes[1]} in B")
+    if outcome_of(one) != outcome_of(other):
+        words.append(outcomes_differing(outcome_of(one), outcome_of(other)))
     elif one.answer != other.answer and one.answer and other.answer:
         words.append("answer" + bytes_differing(one.answer, other.answer))
     return "; ".join(words)
 
 
+def outcomes_differing(one, other):
+    """Two outcomes that are not the same, each with its log: what both are, refusals, is said once, and why a log is silent behind its name."""
+    both = [outcome.replace("silent, as", f"silent in {log}, as") for log, outcome in (("A", one), ("B", other))]
+    both = [words if "silent" in words else f"{words} in {log}" for log, words in zip("AB", both)]
+    refused = "refused "
+    rest = both[1].removeprefix(refused) if both[0].startswith(refused) else both[1]
+    return f"{both[0]}{';' if 'silent' in both[0] else ','} {rest}"
+
+
 def bytes_differing(one, other):
-    """At which byte two messages differ first, what both have there, how many more bytes differ, and how long they are."""
+    """Where two messages differ, and how long they are: which bytes one of them has alone, where all others are the same; or at which byte
+    they differ first, what both have there, and how many more bytes differ."""
     columns = columns_of(one, other)
     places = [place for place, (ours, theirs) in enumerate(columns) if ours != theirs]
-    names = ["no byte" if byte is None else f"{byte:02X}" for byte in columns[places[0]]]
-    words = f" byte {places[0] + 1}: {names[0]} in A, {names[1]} in B"
-    if len(places) > 1:
-        words += "; and 1 more byte" if len(places) == 2 else f"; and {len(places) - 1} more bytes"
+    alone = [[pair[side] for pair in columns if pair[1 - side] is None] for side in (0, 1)]
+    if len(places) == max(map(len, alone)):
+        log, own = next((log, own) for log, own in zip("AB", alone) if own)
+        where = f"byte {places[0] + 1} only in {log}" if len(own) == 1 else f"{len(own)} bytes only in {log}, from byte {places[0] + 1} on"
+        words = f": {where}: {bytes(own[:8]).hex(' ').upper()}" + (f" and {len(own) - 8} more" if len(own) > 8 else "")
+    else:
+        names = ["no byte" if byte is None else f"{byte:02X}" for byte in columns[places[0]]]
+        words = f" byte {places[0] + 1}: {names[0]} in A, {names[1]} in B"
+        if len(places) > 1:
+            words += "; and 1 more byte" if len(places) == 2 else f"; and {len(places) - 1} more bytes"
     if len(one) != len(other):
         words += f"; {len(one)} byte{'' if len(one) == 1 else 's'} in A, {len(other)} in B"
     return words

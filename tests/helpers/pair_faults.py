@@ -57,10 +57,15 @@ def chart_faults(read, came):
         return [] if read.charts is came.charts else ["there are charts of no difference, or none of one"]
     wrong = []
     for log, told, wanted in zip("AB", read.charts, came.charts):
-        wrong += [] if [tuple(row) for row in told.rows] == [tuple(row) for row in wanted.rows] else [f"the chart of {log} has other rows"]
+        wrong += [] if [plain(row) for row in told.rows] == [plain(row) for row in wanted.rows] else [f"the chart of {log} has other rows"]
         if (told.more, told.is_end) != (wanted.more, wanted.is_end):
             wrong.append(f"the chart of {log} ends with {told.more} rows more, {told.is_end}, not {wanted.more}, {wanted.is_end}")
     return wrong
+
+
+def plain(row):
+    """A row of a chart without the names of its parts."""
+    return (*row[:-1], [([tuple(line) for line in lines], counts) for lines, counts in row[-1]])
 
 
 def row_faults(read, rows):
@@ -130,9 +135,9 @@ def mark_faults(read, ours, theirs):
         told = [[tuple(line) for line in lines] for lines, _ in row.lines]
         if told != wanted:
             wrong.append(f"the bytes of A {row.left}, B {row.right} have other marks")
-        folded = [pair_facts.folded_of(one, other) for one, other in messages_of(ours[row.left - 1], theirs[row.right - 1])]
-        if [counts for _, counts in row.lines] != folded:
-            wrong.append(f"of the bytes of A {row.left}, B {row.right} that are folded others are counted")
+        counts = [pair_facts.counts_of(one, other) for one, other in messages_of(ours[row.left - 1], theirs[row.right - 1])]
+        if [told for _, told in row.lines] != counts:
+            wrong.append(f"of the bytes of A {row.left}, B {row.right} others are counted")
     return wrong
 
 
@@ -208,4 +213,4 @@ def text_faults(page):
     """What must not stand in any page: what is no ASCII, what is fetched, or an empty group of rows."""
     wrong = [] if page.isascii() else ["a byte that is no ASCII"]
     wrong += ["something is fetched"] if re.search(r'\b(?:src|href)="(?!#)', page) else []
-    return wrong + (["an empty group of rows"] if re.search(r"<tbody>\n(?:<tbody>|</table>)|</thead>\n</table>", page) else [])
+    return wrong + (["an empty group of rows"] if re.search(r"<tbody[^>]*>\n(?:<tbody|</table>)|</thead>\n</table>", page) else [])

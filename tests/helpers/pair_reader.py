@@ -18,8 +18,9 @@ Recording = namedtuple("Recording", "state items first length")
 # of bytes that stand under each other, what is missing of each log, and all its text.
 Row = namedtuple("Row", "kind left right identifier is_folded top lines losses text")
 
-# A line of bytes: whose it is, the number of its first byte, and its cells, each with whether it has a mark; and whether it is folded.
-Line = namedtuple("Line", "whose first cells is_folded")
+# A line of bytes: whose it is, the number of its first byte, or those in both logs, and its cells, each with whether it has a mark; its
+# letters, if it has some; and whether it is folded.
+Line = namedtuple("Line", "whose first cells letters is_folded")
 
 # A fold of equal items: how many, the first and last numbers of both logs, and how much is missing of each log.
 Fold = namedtuple("Fold", "count left right losses")
@@ -28,9 +29,10 @@ Fold = namedtuple("Fold", "count left right losses")
 Listed = namedtuple("Listed", "number place tag words")
 
 # A chart: its rows, how many more it says that there are, and whether it says that the log ends; and of a row how it looks, its item, its
-# lines, and its time.
+# lines, its time, whether its item is told as another one than in the other log, and the lines of bytes that stand in it with marks, with how
+# many of them are told of each fold.
 Chart = namedtuple("Chart", "rows more is_end")
-ChartRow = namedtuple("ChartRow", "look item lines time")
+ChartRow = namedtuple("ChartRow", "look item lines time is_other bytes")
 
 KINDS = {"same": "same", "d ch": "changed", "d oa": "removed", "d ob": "added"}
 
@@ -46,14 +48,16 @@ LISTED = re.compile(
 )
 FIRST = re.compile(r'<section id="difference">\n<h2>(.*?)</h2>\n<p><span class="where">(.*?)</span> <b class="tag">(.*?)</b> <span class="what">(.*?)</span></p>\n')
 CHARTS = re.compile(r'<section id="difference">\n.*?\n<div class="two">\n(.*?)</div>\n</section>\n', re.DOTALL)
-CHART = re.compile(r"<section>\n<h3>[^\n]*</h3>\n<table>\n<thead>[^\n]*</thead>\n((?:<[^\n]*\n)*?)</table>\n</section>\n")
+CHART = re.compile(r'<section>\n<h3>[^\n]*</h3>\n<table class="ch w[2-7] l[2-8] s[2-7]">\n<thead>[^\n]*</thead>\n((?:<[^\n]*\n)*?)</table>\n</section>\n')
 CHART_ROW = re.compile(
-    r'<tr class="(\w+)">(?:<th scope="row">(\d+)|<td>(\d*))<td>(?:(\d+)(?:&#8211;(\d+))?)?<td>((?:-?\d+\.\d{6})?)<td><div class="[tu]"><div>.*'
-    r'</div><svg aria-hidden="true"><use href="#\w+"/></svg></div>'
+    r'<tr class="(\w+)">(?:<th scope="row">(\d+)|<td>(\d*))<td>(?:(\d+)(?:&#8211;(\d+))?)?<td>((?:-?\d+\.\d{6})?)<td><div class="[tu]"><div>(.*)'
+    r'</div><svg aria-hidden="true"(?: width="32" height="12")?><use href="#\w+"/></svg></div>'
 )
 WORDS_ROW = re.compile(
-    r'<tr class="p"><td><td><td><td><div class="t"><div>(?:<i>(\d+) rows? more, not shown here</i>|<b>end</b> <i>of the log</i>)</div></div>'
+    r'<tr class="p(?: end)?"><td><td><td><td><div class="t"><div>(?:<i>(\d+) rows? more, not shown here</i>|<b>end</b> <i>of the log</i>)</div></div>'
 )
+# The groups of rows of a chart: of items that are the same in both logs, and of others.
+BODIES = {"<tbody>": False, '<tbody class="df">': True}
 TAG = re.compile(r"<[^>]*>")
 FOLD = re.compile(
     r'<details class="b same(?: long)?">\n<summary><b>(\d+) items?, the same</b> <i>A&#160;(\d+)(?:&#8211;(\d+))?, B&#160;(\d+)(?:&#8211;(\d+))?</i>'
@@ -61,10 +65,10 @@ FOLD = re.compile(
 )
 FOLD_LOSS = re.compile(r">(\d+) [^<]* in ([AB])<")
 RECORDING = re.compile(r'<tr><th scope="row"><span class="who">[AB]</span> [^<\n]*<td>(.*?)<td>(\d+)<td>(.*?)<td>(.*?)\n')
-ALONE = re.compile(r'<section id="items">\n<h2>Items</h2>\n(?:<p class="filter">[^\n]*\n)?((?:<p class="lost">.*?</p>)*)<')
+ALONE = re.compile(r'<section id="items" class="[^"\n]*">\n<h2>Items</h2>\n(?:<p class="filter">[^\n]*\n)?((?:<p class="lost">.*?</p>)*)<')
 LINES = re.compile(r'<div class="hx">(.*?)</div>')
-LINE = re.compile(r'<p><i>(\d*)</i>(?:<span class="who(?: eq)?">([AB=])</span>)?<code>(.*?)</code>(?: <samp>([^<]*)</samp>)?</p>')
-MORE = re.compile(r"<details><summary>(\d+) bytes? more, (the same|(\d+) of them differs?)</summary>(.*?)</details>")
+LINE = re.compile(r'<p><i>(\d*)(?:, (\d+))?</i> (?:<span class="who(?: eq)?">([AB=])</span> )?<code>(.*?)</code>(?: <samp>([^<]*)</samp>)?</p>')
+MORE = re.compile(r"<details><summary>(?:no byte more|(\d+) bytes? more, (the same|(\d+) of them differs?))</summary>(.*?)</details>")
 HIDDEN = re.compile(r'<p class="rest"><i>(\d+) bytes? more, not shown; (the same|(\d+) of them differs?)</i></p>')
 
 
@@ -91,11 +95,11 @@ def lines_of(text, is_folded=False):
     while rest:
         more, line, hidden = MORE.match(rest), LINE.match(rest), HIDDEN.match(rest)
         if line:
-            lines.append(Line(line[2], int(line[1]) if line[1] else None, cells_of(line[3]), is_folded))
+            lines.append(Line(line[3], tuple(int(part) for part in line.group(1, 2) if part), cells_of(line[4]), line[5], is_folded))
         elif more:
             inner, _ = lines_of(more[4], True)
             lines += inner
-            told.append((int(more[1]), int(more[3] or 0)))
+            told.append((int(more[1] or 0), int(more[3] or 0)))
         elif hidden:
             told.append((int(hidden[1]), int(hidden[3] or 0)))
         else:
@@ -167,12 +171,20 @@ def charts_of(page):
 
 def chart_of(text):
     """A chart, by its lines: rows, and then perhaps one of words alone."""
-    lines = [line for line in text.splitlines() if line != "<tbody>"]
-    words = WORDS_ROW.fullmatch(lines[-1]) if lines else None
-    matches = [CHART_ROW.fullmatch(line) for line in lines[: len(lines) - bool(words)]]
-    if None in matches:
-        raise ValueError(f"no row of a chart: {lines[matches.index(None)]!r}")
-    rows = [ChartRow(match[1], match[2] or match[3], tuple(line for line in match.group(4, 5) if line), match[6]) for match in matches]
+    lines, words, rows, is_other = text.splitlines(), None, [], None
+    if lines and (words := WORDS_ROW.fullmatch(lines[-1])):
+        if lines[-2:-1] != ["<tbody>"]:
+            raise ValueError("the words at the end of a chart have no group of their own")
+        lines = lines[:-2]
+    for line in lines:
+        if line in BODIES:
+            is_other = BODIES[line]
+        elif is_other is None or not (match := CHART_ROW.fullmatch(line)):
+            raise ValueError(f"no row of a chart: {line!r}")
+        else:
+            bytes_told = [lines_of(block) for block in LINES.findall(match[7])]
+            numbers = tuple(line for line in match.group(4, 5) if line)
+            rows.append(ChartRow(match[1], match[2] or match[3], numbers, match[6], is_other, bytes_told))
     return Chart(rows, int(words[1] or 0) if words else 0, bool(words and not words[1]))
 
 

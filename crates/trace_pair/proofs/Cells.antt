@@ -8,8 +8,7 @@ use Rattle.byte_columns.specs.Columns.{count_in, differs, left_bytes, right_byte
 use Rattle.byte_columns.specs.Laws.{listed}
 use Rattle.trace_pair.specs.declared.log.Log.{Log}
 use Rattle.trace_pair.specs.declared.log.Log.TheVariants.{A, B}
-use Rattle.trace_pair.specs.ColumnLines.{byte_or_gap, bytes_in, cells, cells_behind, mark_end, mark_start}
-use Rattle.trace_report.specs.Letters.{letters}
+use Rattle.trace_pair.specs.ColumnLines.{byte_or_gap, bytes_in, cells, cells_behind, column_letters, letter_or_gap, mark_end, mark_start}
 use Rattle.trace_pair.specs.Logs.{byte_of}
 use Rattle.trace_pair.proofs.Pieces.{cut-first, cut-none}
 
@@ -34,11 +33,6 @@ right-listed (here ∷ later) =
     let both = length-append (listed here.right) (bytes_in B later) in
     omega arith
 
--- the letter of a column in front of those behind it
-letters-more : (byte : Option ℕ) (later : List ℕ) → letters (listed byte ++ later) ≡ letters (listed byte) ++ letters later
-letters-more None later = refl
-letters-more (Some byte) later = refl
-
 module _ {S : Type 0} (says : S → List ℕ → S → Type 0) (onward : (s m t : S) (a b : List ℕ) → says s a m → says m b t → says s (a ++ b) t)
     (log : Log) (columns : List Column) (to : ℕ) (old : S) (whole : List ℕ) where
   abbrev pub Behind : Bool → ℕ → S → Type 0
@@ -62,20 +56,20 @@ module _ {S : Type 0} (says : S → List ℕ → S → Type 0) (onward : (s m t 
       say-last says onward old now new _ whole (same-rest says old now _ _ whole (ap (cells_behind log marked) (cut-none columns at to (omega arith))) left) said
 
   abbrev pub Letters : ℕ → S → Type 0
-  Letters at now = IsLeft says old (letters (bytes_in log (take (to - at) (drop at columns)))) whole now
+  Letters at now = IsLeft says old (column_letters log (take (to - at) (drop at columns))) whole now
 
-  -- one more letter is said, or none, where a log has no byte in a column
+  -- one more letter is said, or a blank, where a log has no byte in a column
   pub turn-letter : (at : ℕ) (here : Column) (now new : S) → at < to → slice_get columns at ≡ Some here → Letters at now
-      → says now (letters (listed (byte_of log here))) new → Letters (at + 1) new
+      → says now (letter_or_gap (byte_of log here)) new → Letters (at + 1) new
   turn-letter at here now new below there left said =
-      let rest = bytes_in log (take (to - (at + 1)) (drop (at + 1) columns)) in
-      say-more says onward old now new (letters (listed (byte_of log here))) (letters rest) whole
-      (same-rest says old now _ _ whole (ap (λ (l : List Column). letters (bytes_in log l)) (cut-first columns at to here below there) ∙ letters-more (byte_of log here) rest) left) said
+      let rest = take (to - (at + 1)) (drop (at + 1) columns) in
+      say-more says onward old now new (letter_or_gap (byte_of log here)) (column_letters log rest) whole
+      (same-rest says old now _ _ whole (ap (column_letters log) (cut-first columns at to here below there)) left) said
 
   -- and that are all
   pub letters-end : (at : ℕ) (now : S) → to ≤ at → Letters at now → says old whole now
   letters-end at now over left =
-      said-whole says old now whole (same-rest says old now _ _ whole (ap (λ (l : List Column). letters (bytes_in log l)) (cut-none columns at to over)) left)
+      said-whole says old now whole (same-rest says old now _ _ whole (ap (column_letters log) (cut-none columns at to over)) left)
 
 -- the first column of a line, and those behind it
 module _ {S : Type 0} (says : S → List ℕ → S → Type 0) (onward : (s m t : S) (a b : List ℕ) → says s a m → says m b t → says s (a ++ b) t)

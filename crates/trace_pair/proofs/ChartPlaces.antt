@@ -2,7 +2,7 @@
 use Rattle.std.proofs.Common.{◌≡◌, ℕ, zero, suc, ◌+◌, ◌-◌, ◌≤◌, ◌<◌, ◌^◌, Bool, true, false, List, [], ◌∷◌, length, take, drop, None, ap, sym, ◌∙◌, arith, refl, inl, inr}
 use Rattle.std.specs.Prelude.{◌==◌, max, min, slice_get, if◌then◌else◌}
 use Rattle.std.proofs.lemmas.Bool.{cases_Bool, cases_lt, eq-eqb, eqb-true, eqb-false, ne_eqb}
-use Rattle.std.proofs.lemmas.List.{drop_all, length-drop, length-take}
+use Rattle.std.proofs.lemmas.List.{drop_all, length-drop}
 use Rattle.trace_report.specs.Blocks.{begins_exchange}
 use Rattle.trace_report.specs.Items.{rows_before}
 use Rattle.trace_report.specs.Rows.{RowValue}
@@ -191,11 +191,3 @@ module _ (item : ℕ) (rows : List RowValue) (few : length rows < 2 ^ 63) where
 
     pub more-are : to - end ≡ rows_more item rows
     more-are = omega (arith, end_is, up, within, few, from_is, to_is)
-
-    pub none-are : (from == end) ≡ (length (chart_rows item rows) == 0)
-    none-are =
-        let many : length (take (end - from) (drop from rows)) ≡ min (end - from) (length rows - from) =
-        length-take (end - from) (drop from rows) ∙ ap (min (end - from)) (length-drop from rows) in
-        let count = ap (λ (l : List RowValue). length l) rows-are in
-        same-test from end (length (chart_rows item rows)) 0
-        (λ same. omega (arith, many, count, same)) (λ none. omega (arith, many, count, none, end_is, up, within, few))

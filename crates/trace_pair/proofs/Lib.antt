@@ -2,6 +2,7 @@ pub mod Pieces
 pub mod Cells
 pub mod LineCells
 mod SeenMarks
+pub mod CountedColumns
 pub mod LastDigits
 pub mod Stretches
 pub mod Tables
@@ -11,6 +12,7 @@ pub mod SeenTables
 pub mod WalkedRows
 pub mod ItemPlaces
 mod RowsOnce
+mod RowsWith
 pub mod ChartRows
 pub mod ChangeSteps
 pub mod ListedChanges

@@ -1,15 +1,13 @@
 -- A line of columns, as one log has it.
 use Rattle.std.proofs.Common.{◌≡◌, ℕ, zero, suc, ◌+◌, ◌-◌, ◌*◌, ◌≤◌, ◌<◌, Bool, List, [], ◌∷◌, ◌++◌, codes, length, take, drop, arith, ap, sym, ◌∙◌, append_assoc, refl}
-use Rattle.std.specs.Prelude.{if◌then◌else◌}
-use Rattle.std.specs.Fmt.{decimal}
 use Rattle.std.proofs.lemmas.Grind.{flat_map-append}
 use Rattle.std.proofs.lemmas.List.{drop-take, length-append, length-take, take-append-drop, take-take}
 use Rattle.byte_columns.specs.declared.column.Column.{Column}
 use Rattle.byte_columns.specs.Laws.{listed}
 use Rattle.byte_columns.specs.Lines.{line, line_count}
+use Rattle.trace_pair.specs.declared.column_words.Whose.{Whose}
 use Rattle.trace_pair.specs.declared.log.Log.{Log}
-use Rattle.trace_report.specs.Letters.{grey_letters}
-use Rattle.trace_pair.specs.ColumnLines.{bytes_in, cells, cells_text, letters_if, number_text}
+use Rattle.trace_pair.specs.ColumnLines.{bytes_in, cells, cells_text, grey_columns, letters_if, number_if, whose_text}
 use Rattle.trace_pair.specs.Logs.{byte_of}
 
 -- a front is as long as it is
@@ -49,17 +47,18 @@ module _ (columns : List Column) (number from to : ℕ) (below : number < line_c
       ∙ length-append (bytes_in log (take from columns)) (bytes_in log (line columns number))
 
 -- What a log has in a line, by the bytes that it has there.
-module _ (lettered : Bool) (who : List ℕ) (log : Log) (before : ℕ) (columns : List Column) where
+module _ (lettered : Bool) (whose : Whose) (log : Log) (number : List ℕ) (columns : List Column) where
   abbrev pub side_by : List ℕ → List ℕ
   side_by bytes =
-      codes "<p>" ++ number_text before bytes ++ who ++ codes "<code>" ++ cells_text bytes log columns ++ codes "</code>" ++ letters_if lettered bytes ++ codes "</p>"
+      codes "<p><i>" ++ number_if number bytes ++ codes "</i> " ++ whose_text whose ++ codes "<code>"
+      ++ cells_text bytes log columns ++ codes "</code>" ++ letters_if lettered bytes log columns ++ codes "</p>"
 
-  pub no-byte : (bytes : List ℕ) → length bytes ≡ 0 → codes "<p><i></i>" ++ who ++ codes "<code><mark>no byte</mark></code></p>" ≡ side_by bytes
+  pub no-byte : (bytes : List ℕ) → length bytes ≡ 0 → codes "<p><i></i> " ++ whose_text whose ++ codes "<code><mark>no byte</mark></code></p>" ≡ side_by bytes
   no-byte [] none = simp append_assoc
   no-byte (byte ∷ bytes) none = absurd (omega (arith, none))
 
   pub some-bytes : (bytes : List ℕ) → 0 < length bytes
-      → (codes "<p><i>" ++ decimal (before + 1) ++ codes "</i>" ++ who ++ codes "<code>") ++ cells log columns ++ codes "</code>" ++ (if lettered then grey_letters bytes else []) ++ codes "</p>"
+      → (codes "<p><i>" ++ number ++ codes "</i> " ++ whose_text whose ++ codes "<code>") ++ cells log columns ++ codes "</code>" ++ grey_columns lettered log columns ++ codes "</p>"
       ≡ side_by bytes
   some-bytes [] some = absurd (omega (arith, some))
   some-bytes (byte ∷ bytes) some = simp append_assoc

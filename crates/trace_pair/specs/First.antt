@@ -1,24 +1,22 @@
 -- The first difference as recorded: of each log the rows around it, with a mark at each byte that differs.
 use Prim.Native.Nat.{zero, suc}
-use Rattle.std.specs.Prelude.{ℕ, ◌+◌, ◌-◌, ◌==◌, Bool, true, false, ◌||◌, List, [], ◌∷◌, ◌++◌, codes, drop, length, max, min, nat_le, take, Option, Some, None, slice_get, if◌then◌else◌}
+use Rattle.std.specs.Prelude.{ℕ, ◌+◌, ◌-◌, ◌==◌, Bool, true, false, not, ◌||◌, List, [], ◌∷◌, ◌++◌, codes, drop, length, max, min, nat_le, take, Option, Some, None, slice_get, if◌then◌else◌}
 use Rattle.std.specs.Fmt.{decimal}
 use Rattle.byte_columns.specs.declared.column.Column.{Column}
 use Rattle.byte_columns.specs.Columns.{beside}
 use Rattle.direction.specs.declared.Dir.{Dir}
+use Rattle.direction.specs.declared.Dir.TheVariants as dir
 use Rattle.shown_rows.specs.declared.changes.Change.{Change}
-use Rattle.uds_difference.specs.Likeness.{same_bytes}
+use Rattle.shown_rows.specs.Changes.{changes}
 use Rattle.uds_difference.specs.declared.row.Row.{Row}
-use Rattle.uds_difference.specs.declared.row.Row.TheVariants.{Same, Changed, OnlyLeft, OnlyRight}
-use Rattle.trace_report.specs.Blocks.{begins_exchange, chart_head}
-use Rattle.trace_report.specs.Items.{PlacedItemValue, RowMessageValue, items_in, rows_before}
-use Rattle.trace_report.specs.Roles.{is_answer_role, begins_item}
-use Rattle.trace_report.specs.Rows.{RowValue, message, no_answer, dropped, ended, unfinished, cell_end, cell_front}
+use Rattle.trace_report.specs.Blocks.{begins_exchange}
+use Rattle.trace_report.specs.Items.{begins, rows_before}
+use Rattle.trace_report.specs.Rows.{RowValue, message, no_answer, dropped, ended, unfinished, cell_front}
 use Rattle.trace_report.specs.LostRows.{dropped_row, ended_row, no_answer_row, unfinished_row}
 use Rattle.trace_report.specs.MessageRows.{message_front, note_text, role_words}
 use Rattle.trace_report.specs.Session.{SessionValue}
 use Rattle.trace_report.specs.Data.{data_text}
 use Rattle.trace_report.specs.Letters.{has_word}
-use Rattle.trace_report.specs.declared.row.Arrow.TheVariants.{Headed}
 use Rattle.trace_report.specs.declared.row.MessagePlace.{MessagePlace}
 use Rattle.trace_report.specs.declared.roles.MessageRole.{MessageRole}
 use Rattle.trace_pair.specs.declared.column_lines.Sides.TheVariants.{Only}
@@ -26,11 +24,11 @@ use Rattle.trace_pair.specs.declared.log.Log.{Log}
 use Rattle.trace_pair.specs.declared.log.Log.TheVariants.{A, B}
 use Rattle.trace_pair.specs.ChangeWords.{change_line}
 use Rattle.trace_pair.specs.ColumnLines.{lines_text}
-use Rattle.trace_pair.specs.ItemRows.{outcome_by}
-use Rattle.trace_pair.specs.ItemWords.{same_outcome}
+use Rattle.trace_pair.specs.Counterparts.{Charted, counterpart, is_other, marks_at}
 use Rattle.trace_pair.specs.Logs.{lettered_name}
 use Rattle.trace_pair.specs.Sessions.{values_in}
 use Rattle.trace_pair.specs.Verdict.{is_lossy}
+use Rattle.trace_pair.specs.Widths.{session_classes}
 
 -- The rows that a chart has.
 
@@ -77,19 +75,6 @@ rows_more item rows = chart_to item rows - chart_from item rows - most_rows
 
 -- Their text.
 
--- what of two items that changed a chart marks: the messages that begin them, or the answers, or both, with those of the
--- other log
-pub record Marked : Type 0 where
-  pub item : ℕ
-  pub begin : Option (List ℕ)
-  pub answer : Option (List ℕ)
-
--- the message of the other log beside which a message is written, if it is
-abbrev pub counterpart : Option Marked → MessageRole → ℕ → Option (List ℕ)
-counterpart None is number = None
-counterpart (Some marked) is number =
-    if number == marked.item then (if begins_item is then marked.begin else if is_answer_role is then marked.answer else None) else None
-
 -- two messages as their columns, by which log the first one is of
 abbrev pub beside_of : Log → List ℕ → List ℕ → List Column
 beside_of A own other = beside own other
@@ -100,104 +85,106 @@ abbrev pub chart_data : Log → List ℕ → Option (List ℕ) → List ℕ
 chart_data log bytes None = data_text bytes
 chart_data log bytes (Some other) = lines_text (Only log) (has_word bytes || has_word other) (beside_of log bytes other)
 
+-- a cell behind the words of a message: its arrow, which is no smaller than this, and the end of the row
+abbrev pub message_end : Dir → List ℕ
+message_end dir.Tester = codes "</div><svg aria-hidden=\"true\" width=\"32\" height=\"12\"><use href=\"#t\"/></svg></div>\n"
+message_end dir.Unit = codes "</div><svg aria-hidden=\"true\" width=\"32\" height=\"12\"><use href=\"#u\"/></svg></div>\n"
+
 -- the row of a message in a chart: when it was, what it is, its bytes, and its arrow
-abbrev pub chart_message : Log → Option Marked → ℕ → MessageRole → Dir → MessagePlace → List ℕ → List ℕ
-chart_message log marked origin is d place bytes =
-    message_front false origin is place ++ cell_front d ++ role_words is d bytes ++ chart_data log bytes (counterpart marked is place.item)
-    ++ note_text is place (length bytes) ++ cell_end d Headed
+abbrev pub chart_message : Charted → ℕ → MessageRole → Dir → MessagePlace → List ℕ → List ℕ
+chart_message chart origin is d place bytes =
+    message_front false origin is place ++ cell_front d ++ role_words is d bytes ++ chart_data chart.log bytes (counterpart (marks_at chart place.item) is)
+    ++ note_text is place (length bytes) ++ message_end d
 
 -- a row, to which no link leads
-abbrev pub chart_row : Log → Option Marked → ℕ → RowValue → List ℕ
-chart_row log marked origin (message is d place bytes) = chart_message log marked origin is d place bytes
-chart_row log marked origin (no_answer number silent) = no_answer_row number silent
-chart_row log marked origin (dropped place d linked why) = dropped_row false origin place d why
-chart_row log marked origin (ended place end) = ended_row false origin place end
-chart_row log marked origin (unfinished d line len) = unfinished_row false d line len
+abbrev pub chart_row : Charted → ℕ → RowValue → List ℕ
+chart_row chart origin (message is d place bytes) = chart_message chart origin is d place bytes
+chart_row chart origin (no_answer number silent) = no_answer_row number silent
+chart_row chart origin (dropped place d linked why) = dropped_row false origin place d why
+chart_row chart origin (ended place end) = ended_row false origin place end
+chart_row chart origin (unfinished d line len) = unfinished_row false d line len
 
--- a body of the table begins with the first row, and with each exchange
-abbrev pub body_start : Bool → List ℕ
-body_start is = if is then codes "<tbody>\n" else []
+-- the number of the item that a row is of: what is lost is of the one that began last before it
+abbrev pub number_of : ℕ → RowValue → ℕ
+number_of last (message is d place bytes) = place.item
+number_of last (no_answer number silent) = number
+number_of last (dropped place d linked why) = last
+number_of last (ended place end) = last
+number_of last (unfinished d line len) = last
 
--- rows of a chart, in bodies of the table; the first row of all begins one
-abbrev pub rows_text : Log → Option Marked → ℕ → Bool → List RowValue → List ℕ
-rows_text log marked origin first [] = []
-rows_text log marked origin first (row ∷ rows) =
-    body_start (first || begins_exchange row) ++ chart_row log marked origin row ++ rows_text log marked origin false rows
+-- the number of the item that began last, behind a row
+abbrev pub last_begun : ℕ → RowValue → ℕ
+last_begun last row = if begins row then number_of last row else last
 
--- a row of words alone
-abbrev pub words_row : List ℕ → List ℕ
-words_row words = codes "<tr class=\"p\"><td><td><td><td><div class=\"t\"><div>" ++ words ++ codes "</div></div>\n"
+-- one of both is so, and the other one isn't
+abbrev pub is_another : Bool → Bool → Bool
+is_another before other = if before then not other else other
+
+-- A body of the table begins with the first row, with each exchange, and where items that are the same in both logs and
+-- others stand one behind the other: whether those of the body in front of a row are others.
+abbrev pub begins_body : Option Bool → Bool → Bool → Bool
+begins_body None asks other = true
+begins_body (Some before) asks other = asks || is_another before other
+
+-- the start of a body, where one begins: of items that are the same in both logs, or of others
+abbrev pub body_start : Bool → Bool → List ℕ
+body_start begins other = if begins then (if other then codes "<tbody class=\"df\">\n" else codes "<tbody>\n") else []
+
+-- rows of a chart, in bodies of the table, behind the body that stands, if one does, and the item that began last
+abbrev pub rows_text : Charted → ℕ → Option Bool → ℕ → List RowValue → List ℕ
+rows_text chart origin front last [] = []
+rows_text chart origin front last (row ∷ rows) =
+    body_start (begins_body front (begins_exchange row) (is_other chart (number_of last row))) (is_other chart (number_of last row)) ++ chart_row chart origin row
+    ++ rows_text chart origin (Some (is_other chart (number_of last row))) (last_begun last row) rows
+
+-- a row of words alone, in a body of its own
+abbrev pub words_row : List ℕ → List ℕ → List ℕ
+words_row look words = codes "<tbody>\n<tr class=\"" ++ look ++ codes "\"><td><td><td><td><div class=\"t\"><div>" ++ words ++ codes "</div></div>\n"
 
 -- how many rows more there are, or that the log ends
-abbrev pub chart_end : ℕ → Bool → Bool → List ℕ
-chart_end more empty ends =
-    if nat_le 1 more then words_row (codes "<i>" ++ decimal more ++ (if more == 1 then codes " row more, not shown here</i>" else codes " rows more, not shown here</i>"))
-    else if ends then body_start empty ++ words_row (codes "<b>end</b> <i>of the log</i>")
+abbrev pub chart_end : ℕ → Bool → List ℕ
+chart_end more ends =
+    if nat_le 1 more
+    then words_row (codes "p") (codes "<i>" ++ decimal more ++ (if more == 1 then codes " row more, not shown here</i>" else codes " rows more, not shown here</i>"))
+    else if ends then words_row (codes "p end") (codes "<b>end</b> <i>of the log</i>")
     else []
 
--- the chart of a log around the item of a place
-abbrev pub chart : Log → Option Marked → ℕ → SessionValue → List ℕ
-chart log marked item session =
-    chart_head ++ rows_text log marked session.first true (chart_rows item session.rows)
-    ++ chart_end (rows_more item session.rows) (length (chart_rows item session.rows) == 0) (chart_to item session.rows == length session.rows) ++ codes "</table>\n"
+-- the head of a chart, by its classes: the names of its columns
+abbrev pub chart_head : List ℕ → List ℕ
+chart_head classes =
+    codes "<table class=\"" ++ classes
+    ++ codes "\">\n<thead><tr><th scope=\"col\">Item<th scope=\"col\">Lines<th scope=\"col\">Time<th scope=\"col\"><span class=\"T\">Tester</span> <span class=\"U\">Unit</span></thead>\n"
+
+-- The chart of a log around the item of a place. What is lost before its first item is of the item in front of that place,
+-- or of the first one.
+abbrev pub chart_text : Charted → ℕ → SessionValue → List ℕ
+chart_text chart item session =
+    chart_head (session_classes session) ++ rows_text chart session.first None (max item 1) (chart_rows item session.rows)
+    ++ chart_end (rows_more item session.rows) (chart_to item session.rows == length session.rows) ++ codes "</table>\n"
 
 -- Both charts.
 
--- bytes beside which others are marked: where they differ
-abbrev pub if_other : List ℕ → List ℕ → Option (List ℕ)
-if_other own other = if same_bytes own other then None else Some other
-
--- the bytes of an answer beside which another is marked, where both have the same outcome
-abbrev pub answer_if : Option RowMessageValue → Option RowMessageValue → Bool → Option (List ℕ)
-answer_if (Some own) (Some other) same = if same then if_other own.bytes other.bytes else None
-answer_if _ _ same = None
-
--- the answer of an item beside which that of another is marked: both have the same outcome
-abbrev pub answer_beside : PlacedItemValue → PlacedItemValue → Option (List ℕ)
-answer_beside own other =
-    answer_if own.answer other.answer (same_outcome (outcome_by own.begin.bytes own.answer) (outcome_by other.begin.bytes other.answer))
-
--- what a chart marks of the item of this number, beside the one that it changed to
-abbrev pub marks : ℕ → Option PlacedItemValue → Option PlacedItemValue → Option Marked
-marks number (Some own) (Some other) = Some (record {
-  item = number;
-  begin = if_other own.begin.bytes other.begin.bytes;
-  answer = answer_beside own other;
-})
-marks number own other = None
-
--- a change is of two items that changed; only these have marks
-abbrev pub is_changed : Row → Bool
-is_changed Same = false
-is_changed Changed = true
-is_changed OnlyLeft = false
-is_changed OnlyRight = false
-
--- the item of a session at a place, if the change is of two items
-abbrev pub changed_item : Change → SessionValue → ℕ → Option PlacedItemValue
-changed_item here session place = if is_changed here.kind then slice_get (items_in session.rows) place else None
-
--- what the chart of the left log marks at a change
-abbrev pub left_marks : SessionValue → SessionValue → Change → Option Marked
-left_marks left right here = marks (here.left + 1) (changed_item here left here.left) (changed_item here right here.right)
-
--- what the chart of the right log marks at a change
-abbrev pub right_marks : SessionValue → SessionValue → Change → Option Marked
-right_marks left right here = marks (here.right + 1) (changed_item here right here.right) (changed_item here left here.left)
-
 -- the side of a log in the section of the first difference: its letter, its name, and its chart
-abbrev pub side : Log → List ℕ → Option Marked → ℕ → SessionValue → List ℕ
-side log name marked item session = codes "<section>\n<h3>" ++ lettered_name log name ++ codes "</h3>\n" ++ chart log marked item session ++ codes "</section>\n"
+abbrev pub side : Charted → List ℕ → ℕ → SessionValue → List ℕ
+side chart name item session = codes "<section>\n<h3>" ++ lettered_name chart.log name ++ codes "</h3>\n" ++ chart_text chart item session ++ codes "</section>\n"
+
+-- what the chart of a log is of
+abbrev pub charted : Log → SessionValue → SessionValue → List Row → Charted
+charted log left right rows = record { log = log; left = left; right = right; rows = rows }
 
 -- the section of a change that is the first of so many: its line, and both logs around it
-abbrev pub first_of : ℕ → List ℕ → List ℕ → SessionValue → SessionValue → Change → List ℕ
-first_of count left_name right_name left right here =
+abbrev pub first_of : ℕ → List ℕ → List ℕ → SessionValue → SessionValue → List Row → Change → List ℕ
+first_of count left_name right_name left right rows here =
     codes "<section id=\"difference\">\n<h2>" ++ (if count == 1 then codes "The difference, as recorded" else codes "The first difference, as recorded") ++ codes "</h2>\n<p>"
     ++ change_line (count == 1) 1 (is_lossy A left here) (is_lossy B right here) (values_in left) (values_in right) here ++ codes "</p>\n<div class=\"two\">\n"
-    ++ side A left_name (left_marks left right here) here.left left ++ side B right_name (right_marks left right here) here.right right
+    ++ side (charted A left right rows) left_name here.left left ++ side (charted B left right rows) right_name here.right right
     ++ codes "</div>\n</section>\n"
 
 -- the section of the first of these changes, if there is one
-abbrev pub first_text : List ℕ → List ℕ → SessionValue → SessionValue → List Change → List ℕ
-first_text left_name right_name left right [] = []
-first_text left_name right_name left right (here ∷ later) = first_of (suc (length later)) left_name right_name left right here
+abbrev pub first_if : List ℕ → List ℕ → SessionValue → SessionValue → List Row → List Change → List ℕ
+first_if left_name right_name left right rows [] = []
+first_if left_name right_name left right rows (here ∷ later) = first_of (suc (length later)) left_name right_name left right rows here
+
+-- the section of the first change of two sessions with these rows, if there is one
+abbrev pub first_text : List ℕ → List ℕ → SessionValue → SessionValue → List Row → List ℕ
+first_text left_name right_name left right rows = first_if left_name right_name left right rows (changes rows)

@@ -18,10 +18,9 @@ use Rattle.trace_pair.specs.declared.log.Log.{Log}
 use Rattle.trace_pair.specs.declared.log.Log.TheVariants.{A, B}
 use Rattle.trace_pair.specs.declared.outcome.Outcome.{Outcome}
 use Rattle.trace_pair.specs.ChangeWords.{tag}
-use Rattle.trace_pair.specs.ColumnLines.{lines_text, whose_text}
-use Rattle.trace_pair.specs.declared.column_words.Whose.TheVariants.{Of}
-use Rattle.trace_pair.specs.ItemWords.{came_of, differ, same_outcome}
-use Rattle.trace_pair.specs.Logs.{has_item}
+use Rattle.trace_pair.specs.ColumnLines.{lines_text}
+use Rattle.trace_pair.specs.ItemWords.{came_of, differ, outcome_mark, same_outcome}
+use Rattle.trace_pair.specs.Logs.{has_item, letter_mark}
 use Rattle.trace_pair.specs.Losses.{losses_of, losses_text}
 use Rattle.trace_pair.specs.ToldItems.{note_of, told_answer, told_item}
 
@@ -39,19 +38,25 @@ abbrev pub same_outcomes : List ℕ → Option RowMessageValue → Option RowMes
 same_outcomes request (Some one) (Some other) = message_of_both one other
 same_outcomes request answer reply = told_answer request answer
 
--- the outcome of an exchange in one log, with a mark
-abbrev pub outcome_line : List ℕ → List ℕ → Option RowMessageValue → List ℕ
-outcome_line who request answer = codes "<p>" ++ who ++ codes " <mark>" ++ told_answer request answer ++ codes "</mark></p>"
-
--- the outcomes of two exchanges, each in its line
-abbrev pub other_outcomes : List ℕ → Option RowMessageValue → List ℕ → Option RowMessageValue → List ℕ
-other_outcomes request answer asked reply =
-    codes "<div class=\"hx out\">" ++ outcome_line (whose_text (Of A)) request answer ++ outcome_line (whose_text (Of B)) asked reply ++ codes "</div>"
-
 -- what came of a request, by its answer
 abbrev pub outcome_by : List ℕ → Option RowMessageValue → Outcome
 outcome_by request None = came_of request None
 outcome_by request (Some reply) = came_of request (Some reply.bytes)
+
+-- the bytes of an answer, behind what it is; those of answers with other outcomes are not compared, and have no mark
+abbrev pub answer_data : Option RowMessageValue → List ℕ
+answer_data None = []
+answer_data (Some reply) = codes " " ++ data_text reply.bytes
+
+-- the outcome of an exchange in one log, with a mark, and the bytes of its answer
+abbrev pub outcome_line : Log → List ℕ → Option RowMessageValue → List ℕ
+outcome_line log request answer =
+    codes "<div>" ++ letter_mark log ++ codes "&#8594; <mark>" ++ outcome_mark (outcome_by request answer) ++ codes "</mark>" ++ answer_data answer ++ codes "</div>"
+
+-- the outcomes of two exchanges, each in its line
+abbrev pub other_outcomes : List ℕ → Option RowMessageValue → List ℕ → Option RowMessageValue → List ℕ
+other_outcomes request answer asked reply =
+    codes "<div class=\"hx out\">" ++ outcome_line A request answer ++ outcome_line B asked reply ++ codes "</div>"
 
 -- two items that changed: what is the same once, what differs byte under byte, and other outcomes in lines of their own
 abbrev pub told_pair : PlacedItemValue → PlacedItemValue → List ℕ
@@ -102,7 +107,7 @@ change_words kind count one other =
 abbrev pub navigation : ℕ → ℕ → List ℕ
 navigation number all =
     if all == 1 then []
-    else codes "<span class=\"nav\">" ++ decimal number ++ codes " of " ++ decimal all ++ codes " "
+    else codes " <span class=\"nav\">" ++ decimal number ++ codes " of " ++ decimal all ++ codes " "
     ++ (if nat_lt number all then codes "<a href=\"#d" ++ decimal (number + 1) ++ codes "\">next</a>" else codes "<a href=\"#differences\">list</a>") ++ codes "</span>"
 
 -- the line above the first row of a change: what it is, its number of all, and the way to the next one
@@ -162,5 +167,5 @@ row_text left right place begun =
     row_start place.kind (begun_number begun) ++ numbers place.kind place.left place.right
     ++ top_of begun place.kind (row_item A left place) (row_item B right place)
     ++ codes "<div class=\"it\">" ++ told place.kind (row_item A left place) (row_item B right place)
-    ++ codes "</div><div class=\"ab\">" ++ note_if A left.first (row_item A left place) ++ note_if B right.first (row_item B right place)
+    ++ codes "</div><div class=\"ab\">" ++ note_if A left.first (row_item A left place) ++ codes " " ++ note_if B right.first (row_item B right place)
     ++ codes "</div>" ++ row_losses A left place ++ row_losses B right place ++ codes "\n"

@@ -16,6 +16,7 @@ use Rattle.trace_pair.specs.Logs.{letter}
 use Rattle.trace_pair.specs.Losses.{losses_from, losses_of, losses_text}
 use Rattle.trace_pair.specs.RowStretches.{PlacedRow, Stretch, shown, folded, fold_rows, full_table, parts, placed, stretches, tables}
 use Rattle.trace_pair.specs.Verdict.{items_word}
+use Rattle.trace_pair.specs.Widths.{items_class}
 
 -- a row in its place
 abbrev pub placed_text : SessionValue → SessionValue → PlacedRow → List ℕ
@@ -118,5 +119,6 @@ losses_of_no_item log session = if length (items_in session.rows) == 0 then loss
 -- all items of two sessions with these rows
 abbrev pub items_text : SessionValue → SessionValue → List Row → List ℕ
 items_text one other rows =
-    codes "<section id=\"items\">\n<h2>Items</h2>\n" ++ filter_text rows ++ losses_of_no_item A one ++ losses_of_no_item B other
+    codes "<section id=\"items\" class=\"" ++ items_class one other ++ codes "\">\n<h2>Items</h2>\n" ++ filter_text rows
+    ++ losses_of_no_item A one ++ losses_of_no_item B other
     ++ (if length rows == 0 then codes "<p>None.</p>\n" else stretches_text one other 0 (stretches (placed rows))) ++ codes "</section>\n"

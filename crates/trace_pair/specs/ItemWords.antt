@@ -10,7 +10,10 @@ use Rattle.trace_text.specs.Words.{code_text, direction_text, service_text}
 use Rattle.trace_report.specs.Data.{bytes_apart, more_words}
 use Rattle.trace_pair.specs.declared.outcome.Outcome.{Outcome}
 use Rattle.trace_pair.specs.declared.outcome.Outcome.TheVariants.{Positive, Refused, Silent, Unanswered}
+use Rattle.trace_pair.specs.declared.log.Log.{Log}
+use Rattle.trace_pair.specs.declared.log.Log.TheVariants.{A, B}
 use Rattle.trace_pair.specs.ByteWords.{byte_words}
+use Rattle.trace_pair.specs.Logs.{letter}
 
 -- what came of a request: its answer, or why there is none
 abbrev pub came_of : List ℕ → Option (List ℕ) → Outcome
@@ -23,6 +26,38 @@ outcome_words Positive = codes "positive"
 outcome_words (Refused code) = codes "refused with <b>" ++ code_text code ++ codes "</b>"
 outcome_words Silent = codes "silent, as the request asks"
 outcome_words Unanswered = codes "without an answer"
+
+-- what came of a request, as the mark of its line says it
+abbrev pub outcome_mark : Outcome → List ℕ
+outcome_mark Positive = codes "positive"
+outcome_mark (Refused code) = codes "negative " ++ code_text code
+outcome_mark Silent = codes "silent"
+outcome_mark Unanswered = codes "no answer"
+
+-- a request was refused
+abbrev pub is_refusal : Outcome → Bool
+is_refusal Positive = false
+is_refusal (Refused code) = true
+is_refusal Silent = false
+is_refusal Unanswered = false
+
+-- what came of a request in a log; that it was refused may have been said before
+abbrev pub outcome_in : Log → Bool → Outcome → List ℕ
+outcome_in log said Positive = codes "positive in " ++ letter log
+outcome_in log said (Refused code) = (if said then codes "with <b>" else codes "refused with <b>") ++ code_text code ++ codes "</b> in " ++ letter log
+outcome_in log said Silent = codes "silent in " ++ letter log ++ codes ", as the request asks"
+outcome_in log said Unanswered = codes "without an answer in " ++ letter log
+
+-- what stands between an outcome and another one
+abbrev pub between : Outcome → List ℕ
+between Positive = codes ", "
+between (Refused code) = codes ", "
+between Silent = codes "; "
+between Unanswered = codes ", "
+
+-- two outcomes that are not the same; of two refusals it is said once that they are
+abbrev pub outcomes_differ : Outcome → Outcome → List ℕ
+outcomes_differ one other = outcome_in A false one ++ between one ++ outcome_in B (is_refusal one) other
 
 -- two outcomes are the same: of one kind, and refusals with one code
 abbrev pub same_outcome : Outcome → Outcome → Bool
@@ -68,7 +103,7 @@ answer_bytes before _ _ = []
 abbrev pub answers_differ : List ℕ → Outcome → Outcome → Option (List ℕ) → Option (List ℕ) → List ℕ
 answers_differ before one other answer reply =
     if same_outcome one other then answer_bytes before answer reply
-    else before ++ outcome_words one ++ codes " in A, " ++ outcome_words other ++ codes " in B"
+    else before ++ outcomes_differ one other
 
 -- how two items of one service differ: in the request, in the answer, or in both
 abbrev pub differ : ItemValue → ItemValue → List ℕ

@@ -29,7 +29,7 @@ use Rattle.trace_pair.specs.ColumnLines.{byte_or_gap, cells}
 use Rattle.trace_pair.specs.Compared.{comparison_by, comparison_in}
 use Rattle.trace_pair.specs.First.{asks, chart_rows, most_before, most_rows, rows_more}
 use Rattle.trace_pair.specs.ItemRows.{begun_number, place_in}
-use Rattle.trace_pair.specs.ItemWords.{came_of, differ, outcome_words}
+use Rattle.trace_pair.specs.ItemWords.{came_of, differ, outcome_in}
 use Rattle.trace_pair.specs.Logs.{byte_of, has_item}
 use Rattle.trace_pair.specs.Losses.{is_loss, losses_of}
 use Rattle.trace_pair.specs.RowStretches.{PlacedRow, Stretch, shown, folded, fold_rows, parts, placed, stretches, tables}
@@ -82,8 +82,8 @@ abbrev pub UnansweredHasNone : Type 0
 UnansweredHasNone = (request : List ℕ)
     → ((answer : Option (List ℕ)) → (came_of request answer ≡ Unanswered → answer ≡ None) × (came_of request answer ≡ Silent → answer ≡ None))
     × ((reply : List ℕ) → is_suppressing request ≡ false
-    → (differ (exchange request (Some reply)) (exchange request None) ≡ outcome_words (came_of request (Some reply)) ++ codes " in A, without an answer in B")
-    × (differ (exchange request None) (exchange request (Some reply)) ≡ codes "without an answer in A, " ++ outcome_words (came_of request (Some reply)) ++ codes " in B"))
+    → (differ (exchange request (Some reply)) (exchange request None) ≡ outcome_in A false (came_of request (Some reply)) ++ codes ", without an answer in B")
+    × (differ (exchange request None) (exchange request (Some reply)) ≡ codes "without an answer in A, " ++ outcome_in B false (came_of request (Some reply))))
 
 -- the first change stands behind so many items of both sessions
 abbrev pub BeginBehind : ℕ → List Change → Type 0

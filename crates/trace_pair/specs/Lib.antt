@@ -10,7 +10,9 @@ pub mod Losses
 pub mod ChangeWords
 pub mod Verdict
 pub mod Recordings
+pub mod Widths
 pub mod Differences
+pub mod Counterparts
 pub mod First
 pub mod ItemRows
 pub mod RowStretches

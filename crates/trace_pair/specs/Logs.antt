@@ -13,6 +13,11 @@ abbrev pub letter : Log → List ℕ
 letter A = codes "A"
 letter B = codes "B"
 
+-- the other one of the two logs
+abbrev pub other_log : Log → Log
+other_log A = B
+other_log B = A
+
 -- the letter of a log, before words or its name
 abbrev pub letter_mark : Log → List ℕ
 letter_mark log = codes "<span class=\"who\">" ++ letter log ++ codes "</span> "

@@ -6,7 +6,7 @@ use Rattle.trace_log.specs.declared.fault.Fault.{Fault}
 use Rattle.trace_log.specs.declared.fault.Fault.TheVariants.{BadLine, LogLimit, Oversize, OutputLimit, Read, Write, Memory}
 use Rattle.trace_report.specs.Causes.{cause_line, cause_of}
 use Rattle.trace_report.specs.Counts.{counts_text}
-use Rattle.trace_report.specs.Front.{cut_notice, identifiers_text, name_text, page_start, shapes_text}
+use Rattle.trace_report.specs.Front.{identifiers_text, name_text, page_start, shapes_text}
 use Rattle.trace_report.specs.Kept.{TwoValue}
 use Rattle.trace_report.specs.Session.{SessionValue}
 use Rattle.trace_report.specs.Sorts.{counts_in}
@@ -39,12 +39,18 @@ links count =
     ++ (if count == 0 then [] else if count == 1 then codes "<a href=\"#difference\">The difference</a> " else codes "<a href=\"#difference\">The first</a> ")
     ++ codes "<a href=\"#items\">Items</a> <a href=\"#help\">How to read this page</a></p>\n"
 
+-- the notice of a page that breaks off, which is hidden unless the style shows it, where the end of the page is missing;
+-- and the end of the header
+abbrev pub cut_notice : List ℕ
+cut_notice =
+    codes "<p id=\"cut\" role=\"status\" hidden>This page has no end. What wrote it was stopped, or the file was cut, or the page is still loading: it tells nothing of the rest of the sessions.</p>\n</header>\n"
+
 -- the front of a page, up to its verdict: the title, the style, both logs by their names, the identifiers, and the links
 abbrev pub front : TitleValue → ℕ → List ℕ
 front title count =
     page_start ++ codes "<title>" ++ name_text title.left ++ codes " and " ++ name_text title.right ++ codes " - udsnorm report</title>\n<style>\n" ++ title.style
-    ++ codes "</style>\n</head>\n<body>\n" ++ shapes_text
-    ++ codes "<div class=\"page wide\">\n<header>\n<p class=\"brand\">udsnorm report</p>\n<h1>" ++ lettered_name A title.left ++ codes "<br>"
+    ++ codes "</style>\n</head>\n<body>\n<svg class=\"defs\" aria-hidden=\"true\" width=\"0\" height=\"0\">\n" ++ shapes_text
+    ++ codes "</svg>\n<div class=\"page wide\">\n<header>\n<p class=\"brand\">udsnorm report</p>\n<h1>" ++ lettered_name A title.left ++ codes "<br>"
     ++ lettered_name B title.right ++ codes "</h1>\n" ++ identifiers_text title.tester title.unit ++ links count ++ cut_notice
 
 -- All counts.
@@ -67,7 +73,7 @@ counts_section title left right =
 abbrev pub body : TitleValue → Bool → ℕ → List Row → SessionValue → SessionValue → List ℕ
 body title shortest bound rows left right =
     front title (length (changes rows)) ++ verdict shortest bound rows left right ++ recordings title.left title.right left right ++ codes "</section>\n<main>\n"
-    ++ list_text left right (changes rows) ++ first_text title.left title.right left right (changes rows) ++ items_text left right rows
+    ++ list_text left right (changes rows) ++ first_text title.left title.right left right rows ++ items_text left right rows
     ++ counts_section title left right ++ codes "</main>\n" ++ help_text
 
 -- the page of two sessions: its rows are those of their difference

@@ -1,10 +1,17 @@
 //! How two messages differ, in words.
-ghost use Rattle.std.specs.Prelude.{◌≡◌, slice_get};
+ghost use Rattle.std.specs.Prelude.{◌≡◌, drop, slice_get, take};
+ghost use Rattle.byte_columns.specs.Columns.{differing};
+ghost use Rattle.trace_pair.specs.ByteWords as Spec;
 
+use crate::log::Log;
 use byte_columns::{Beside, Column};
 use text_parts::{Either, Part, say};
 use trace_io::TextSink;
+use trace_report::BytesApart;
 use trace_text::{Byte, Number, Place};
+
+/// So many bytes that one message has alone are told.
+const TOLD: usize = 8;
 
 /// How two messages differ.
 #[derive(Clone, Copy)]
@@ -18,16 +25,112 @@ impl<'a> Part for ByteWords<'a> {
     fn say<S: TextSink>(self, out: &mut S) {
         let ByteWords(left, right) = self;
         let columns = Beside::of(left, right);
-        let place = columns.first_differing();
-        let here = column_at(&columns, place);
+        say_where(left, right, &columns, out);
+        say(out, LengthsWords(left.len(), right.len()));
+    }
+}
+
+/// Says where two messages differ: one has bytes more than the other, or they are others.
+fn say_where<S: TextSink>(left: &[u8], right: &[u8], columns: &Beside<'_>, out: &mut S)
+    ensures { S.says out.old (Spec.where_words left.now right.now columns.now) out.new }
+{
+    let count = count_differing(columns);
+    let place = columns.first_differing();
+    if has_alone(left, right, count) {
+        say(out, AloneWords(Log::A, count, place, left));
+    } else if has_alone(right, left, count) {
+        say(out, AloneWords(Log::B, count, place, right));
+    } else {
+        let here = column_at(columns, place);
+        say(out, (FirstWords(place, here), OthersWords(count)));
+    }
+}
+
+/// How many columns differ.
+fn count_differing(columns: &Beside<'_>) -> usize
+    ensures { result ≡ differing columns.now }
+{
+    columns.differing(0, columns.len())
+}
+
+/// Whether a message has bytes that the other one, which is shorter, has not, and they are else the same, where so many
+/// columns differ.
+fn has_alone(own: &[u8], other: &[u8], count: usize) -> bool
+    ensures { result ≡ Spec.has_alone own.now other.now count }
+{
+    other.len() < own.len() && count == own.len() - other.len()
+}
+
+/// So many bytes that one log has alone, from a place of its message on.
+#[derive(Clone, Copy)]
+struct AloneWords<'a>(Log, usize, usize, &'a [u8]);
+
+impl<'a> Part for AloneWords<'a> {
+    ghost use Rattle.trace_pair.specs.ByteWords.{alone_words};
+
+    ghost text = { λ t. alone_words t.0 t.1 t.2 t.3.now };
+
+    fn say<S: TextSink>(self, out: &mut S) {
+        let AloneWords(log, count, place, bytes) = self;
         say(
             out,
             (
-                FirstWords(place, here),
-                OthersWords(columns.differing(0, columns.len())),
-                LengthsWords(left.len(), right.len()),
+                AloneWhere(log, count, place),
+                "<b>",
+                BytesApart(piece(bytes, place, count.min(TOLD))),
+                "</b>",
+                UntoldWords(count),
             ),
         );
+    }
+}
+
+/// So many bytes of a message from a place on, if it has so many.
+fn piece(bytes: &[u8], place: usize, count: usize) -> &[u8]
+    ensures { result.now ≡ take count (drop place bytes.now) }
+{
+    let behind = &bytes[place.min(bytes.len())..];
+    &behind[..count.min(behind.len())]
+}
+
+/// Where so many bytes stand that one log has alone, from a place of its message on.
+#[derive(Clone, Copy)]
+struct AloneWhere(Log, usize, usize);
+
+impl Part for AloneWhere {
+    ghost use Rattle.trace_pair.specs.ByteWords.{alone_where};
+
+    ghost text = { λ t. alone_where t.0 t.1 t.2 };
+
+    fn say<S: TextSink>(self, out: &mut S) {
+        let AloneWhere(log, count, place) = self;
+        let one = (": byte ", Place(place), " only in ", log, ": ");
+        let several = (
+            ": ",
+            Number(count as u64),
+            " bytes only in ",
+            log,
+            ", from byte ",
+            Place(place),
+            " on: ",
+        );
+        say(out, Either(count == 1, one, several));
+    }
+}
+
+/// How many of so many bytes are not told, if some are not.
+#[derive(Clone, Copy)]
+struct UntoldWords(usize);
+
+impl Part for UntoldWords {
+    ghost use Rattle.trace_pair.specs.ByteWords.{untold_words};
+
+    ghost text = { λ t. untold_words t.0 };
+
+    fn say<S: TextSink>(self, out: &mut S) {
+        if self.0 > TOLD {
+            say(out, (" and ", Number((self.0 - TOLD) as u64), " more"));
+        }
     }
 }
 

@@ -110,7 +110,7 @@ impl Part for Navigation {
             return;
         }
         let front = (
-            "<span class=\"nav\">",
+            " <span class=\"nav\">",
             Number(number),
             " of ",
             Number(all),

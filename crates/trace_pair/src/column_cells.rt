@@ -1,20 +1,18 @@
 //! A line of columns, as one log has it.
-ghost use Rattle.std.specs.Prelude.{[], ◌≡◌, ◌-◌, ◌≤◌, ◌<◌, length, take, drop, if◌then◌else◌};
-ghost use Rattle.byte_columns.specs.Laws.{listed};
+ghost use Rattle.std.specs.Prelude.{◌≡◌, ◌-◌, ◌≤◌, ◌<◌, length, take, drop};
 ghost use Rattle.byte_columns.specs.Lines.{line, line_count};
-ghost use Rattle.trace_report.specs.Letters.{grey_letters, letters};
-ghost use Rattle.trace_pair.specs.ColumnLines.{bytes_in, cells, cells_behind, line_of, whose_text};
+ghost use Rattle.trace_pair.specs.ColumnLines.{bytes_in, cells, cells_behind, column_letters, grey_columns, letter_or_gap, line_of};
 ghost use Rattle.trace_pair.specs.Logs as Spec;
 
-use crate::column_words::{ByteOrGap, MarkEnd, MarkStart, Whose};
-use crate::log::Log;
+use crate::column_words::{ByteOrGap, FirstNumber, LineNumber, MarkEnd, MarkStart, Whose};
+use crate::log::{Log, other_log};
 use byte_columns::{Beside, Column};
 use text_parts::say;
 use trace_io::TextSink;
 use trace_report::shown_byte;
-use trace_text::Place;
 
-/// Says the line of a number, as one log has it, behind whose it is; with its letters, where the messages may be text.
+/// Says the line of a number, as one log has it, behind the number of its first byte and whose it is; with its letters,
+/// where the messages may be text.
 pub(crate) fn say_line_of<S: TextSink>(
     lettered: bool,
     whose: Whose,
@@ -24,17 +22,23 @@ pub(crate) fn say_line_of<S: TextSink>(
     out: &mut S,
 )
     requires { number < line_count columns.now }
-    ensures { S.says out.old (line_of lettered (whose_text whose) log columns.now number) out.new }
+    ensures { S.says out.old (line_of lettered whose log columns.now number) out.new }
 {
     let (from, to) = columns.line(number);
     let before = bytes_before(log, columns, from);
     if bytes_before(log, columns, to) == before {
         say(
             out,
-            ("<p><i></i>", whose, "<code><mark>no byte</mark></code></p>"),
+            (
+                "<p><i></i> ",
+                whose,
+                "<code><mark>no byte</mark></code></p>",
+            ),
         );
     } else {
-        say(out, ("<p><i>", Place(before), "</i>", whose, "<code>"));
+        let there = bytes_before(other_log(log), columns, from);
+        let first = LineNumber(columns.lines(), FirstNumber(whose, before, there));
+        say(out, ("<p><i>", first, "</i> ", whose, "<code>"));
         say_cells(log, columns, from, to, out);
         say(out, "</code>");
         say_letters_if(lettered, log, columns, from, to, out);
@@ -101,7 +105,7 @@ fn say_cells_behind<S: TextSink>(
     say(out, MarkEnd(marked, false));
 }
 
-/// Says its bytes there as letters, in grey, where the messages may be text.
+/// Says its letters there in grey, where the messages may be text.
 fn say_letters_if<S: TextSink>(
     lettered: bool,
     log: Log,
@@ -112,7 +116,7 @@ fn say_letters_if<S: TextSink>(
 )
     requires forward { from ≤ to }
     requires inside { to ≤ length columns.now }
-    ensures { S.says out.old (if lettered then grey_letters (bytes_in log (take (to - from) (drop from columns.now))) else []) out.new }
+    ensures { S.says out.old (grey_columns lettered log (take (to - from) (drop from columns.now))) out.new }
 {
     if lettered {
         say(out, " <samp>");
@@ -121,28 +125,29 @@ fn say_letters_if<S: TextSink>(
     }
 }
 
-/// Says its bytes there as letters.
+/// Says its letters there: one for each column.
 fn say_letters<S: TextSink>(log: Log, columns: &Beside<'_>, from: usize, to: usize, out: &mut S)
     requires forward { from ≤ to }
     requires inside { to ≤ length columns.now }
-    ensures { S.says out.old (letters (bytes_in log (take (to - from) (drop from columns.now)))) out.new }
+    ensures { S.says out.old (column_letters log (take (to - from) (drop from columns.now))) out.new }
 {
     'columns: for at in from..to {
         say_letter(byte_of(log, columns.column(at)), out);
     }
 }
 
-/// Says a byte as a letter, if there is one.
+/// Says the letter for a byte, or a blank in a gap.
 fn say_letter<S: TextSink>(byte: Option<u8>, out: &mut S)
-    ensures { S.says out.old (letters (listed byte)) out.new }
+    ensures { S.says out.old (letter_or_gap byte) out.new }
 {
-    if let Some(byte) = byte {
-        out.put(&[shown_byte(byte)]);
+    match byte {
+        Some(byte) => out.put(&[shown_byte(byte)]),
+        None => say(out, " "),
     }
 }
 
 /// What a log has in a column, if it has a byte there.
-fn byte_of(log: Log, column: Column) -> Option<u8>
+pub(crate) fn byte_of(log: Log, column: Column) -> Option<u8>
     ensures { result ≡ Spec.byte_of log column }
 {
     match log {

@@ -2,12 +2,13 @@
 ghost use Rattle.std.specs.Prelude.{◌≡◌, ◌+◌, ◌-◌, ◌||◌, ◌≤◌, ◌<◌};
 ghost use Rattle.std.specs.List.{flat_map, range_with_len};
 ghost use Rattle.trace_pair.specs.declared.column_lines.Sides.TheVariants.{Both};
-ghost use Rattle.byte_columns.specs.Lines.{folded, hidden, line_count, stretches};
+ghost use Rattle.byte_columns.specs.Lines.{folded, line_count, stretches};
 ghost use Rattle.trace_report.specs.Letters.{has_word};
-ghost use Rattle.trace_pair.specs.ColumnLines.{hidden_text, line_text, lines_text, stretch_text};
+ghost use Rattle.trace_pair.specs.ColumnLines.{line_text, lines_text, stretch_text};
 
 use crate::column_cells::say_line_of;
-use crate::column_words::{BytesMore, Differ, Whose};
+use crate::column_counts::{counts_from, hidden_counts};
+use crate::column_words::{FoldWords, Hidden, Whose};
 use crate::log::Log;
 use byte_columns::Beside;
 use text_parts::say;
@@ -34,7 +35,7 @@ pub(crate) fn say_columns<S: TextSink>(
 {
     say(out, "<div class=\"hx\">");
     say_stretches(sides, lettered, columns, out);
-    say_hidden(columns, out);
+    say(out, Hidden(hidden_counts(sides, columns)));
     say(out, "</div>");
 }
 
@@ -78,16 +79,8 @@ fn say_fold<S: TextSink>(
     requires { first + count ≤ line_count columns.now }
     ensures { S.says out.old (stretch_text sides lettered columns.now (folded first count)) out.new }
 {
-    say(
-        out,
-        (
-            "<details><summary>",
-            BytesMore(columns.columns_from(first, count)),
-            ", ",
-            Differ(columns.differing_from(first, count)),
-            "</summary>",
-        ),
-    );
+    let counts = counts_from(sides, columns, first, count);
+    say(out, ("<details><summary>", FoldWords(counts), "</summary>"));
     say_lines(sides, lettered, columns, first, count, out);
     say(out, "</details>");
 }
@@ -136,24 +129,5 @@ fn say_line_of_both<S: TextSink>(lettered: bool, columns: &Beside<'_>, number: u
         say_line_of(lettered, Whose::Of(Log::B), Log::B, columns, number, out);
     } else {
         say_line_of(lettered, Whose::OfBoth, Log::A, columns, number, out);
-    }
-}
-
-/// Says how many columns are not shown, if some are, and how many of them differ.
-fn say_hidden<S: TextSink>(columns: &Beside<'_>, out: &mut S)
-    ensures { S.says out.old (hidden_text (hidden columns.now)) out.new }
-{
-    let more = columns.len() - columns.in_lines();
-    if more > 0 {
-        say(
-            out,
-            (
-                "<p class=\"rest\"><i>",
-                BytesMore(more),
-                ", not shown; ",
-                Differ(columns.hidden_differing()),
-                "</i></p>",
-            ),
-        );
     }
 }

@@ -3,7 +3,7 @@ ghost use Rattle.std.specs.Prelude.{Some};
 ghost use Rattle.trace_pair.specs.ItemWords.{answer_bytes};
 
 use crate::byte_words::ByteWords;
-use crate::outcome::{Outcome, came_of, same_outcome};
+use crate::outcome::{Outcome, OutcomesDiffer, came_of, same_outcome};
 use text_parts::{Part, say};
 use trace_io::TextSink;
 use uds_exchange::Item;
@@ -75,7 +75,7 @@ impl<'a> Part for AnswersDiffer<'a> {
                 say_answer_bytes(before, answer, reply, out);
             }
         } else {
-            say(out, (before, one, " in A, ", other, " in B"));
+            say(out, (before, OutcomesDiffer(one, other)));
         }
     }
 }

@@ -3,7 +3,7 @@ use crate::log::{LetteredName, Log};
 use crate::title::Title;
 use text_parts::{Either, Part, say};
 use trace_io::TextSink;
-use trace_report::{CutNotice, Identifiers, Name, PageStart, Shapes};
+use trace_report::{Identifiers, Name, PageStart, Shapes};
 
 /// What stands before the verdict, where there are so many differences.
 #[derive(Clone, Copy)]
@@ -28,10 +28,10 @@ impl<'a> Part for Front<'a> {
                     Name(title.right),
                     " - udsnorm report</title>\n<style>\n",
                     title.style,
-                    "</style>\n</head>\n<body>\n",
+                    "</style>\n</head>\n<body>\n<svg class=\"defs\" aria-hidden=\"true\" width=\"0\" height=\"0\">\n",
                     Shapes,
                 ),
-                "<div class=\"page wide\">\n<header>\n<p class=\"brand\">udsnorm report</p>\n<h1>",
+                "</svg>\n<div class=\"page wide\">\n<header>\n<p class=\"brand\">udsnorm report</p>\n<h1>",
                 LetteredName(Log::A, title.left),
                 "<br>",
                 LetteredName(Log::B, title.right),
@@ -40,6 +40,24 @@ impl<'a> Part for Front<'a> {
                 Links(count),
                 CutNotice,
             ),
+        );
+    }
+}
+
+/// The notice of a page that breaks off, which the style shows where the end of the page is missing; and the end of the
+/// header.
+#[derive(Clone, Copy)]
+struct CutNotice;
+
+impl Part for CutNotice {
+    ghost use Rattle.trace_pair.specs.Page.{cut_notice};
+
+    ghost text = { λ notice. cut_notice };
+
+    fn say<S: TextSink>(self, out: &mut S) {
+        say(
+            out,
+            "<p id=\"cut\" role=\"status\" hidden>This page has no end. What wrote it was stopped, or the file was cut, or the page is still loading: it tells nothing of the rest of the sessions.</p>\n</header>\n",
         );
     }
 }

@@ -52,6 +52,7 @@ pub(crate) fn say_item_row<S: TextSink>(
             Told(place.kind, one, other),
             "</div><div class=\"ab\">",
             NoteIf(Log::A, sessions.left.first(), one),
+            " ",
             NoteIf(Log::B, sessions.right.first(), other),
             "</div>",
         ),
@@ -82,7 +83,7 @@ fn row_item(log: Log, session: &Session, place: RowPlace) -> Option<PlacedItem<'
 }
 
 /// How many items of a log stand before a row.
-fn place_in(log: Log, place: RowPlace) -> usize
+pub(crate) fn place_in(log: Log, place: RowPlace) -> usize
     ensures { result ≡ Spec.place_in log place }
 {
     match log {

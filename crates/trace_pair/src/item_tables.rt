@@ -13,6 +13,7 @@ use crate::log::Log;
 use crate::losses::say_losses;
 use crate::sessions::Sessions;
 use crate::standing::{Standing, Table};
+use crate::widths::ItemsClass;
 use shown_rows::{change_at, count_changes, count_of, differs, folded, is_shown};
 use text_parts::{Either, Part, When, say};
 use trace_io::TextSink;
@@ -30,7 +31,9 @@ pub(crate) fn say_items<S: TextSink>(sessions: Sessions<'_>, rows: &[Row], out: 
     say(
         out,
         (
-            "<section id=\"items\">\n<h2>Items</h2>\n",
+            "<section id=\"items\" class=\"",
+            ItemsClass(sessions),
+            "\">\n<h2>Items</h2>\n",
             When(
                 is_filtered(rows),
                 "<p class=\"filter\"><input type=\"checkbox\" id=\"apart\"> <label for=\"apart\">Show only differences</label></p>\n",

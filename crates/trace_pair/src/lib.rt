@@ -10,9 +10,10 @@
 //!
 //! The `verdict` says in how many places the sessions differ, and how far that can be known: a log that is not clean, a
 //! bound that was passed. The `recordings` are those of both logs, by `dates`. Of several `differences` there is a list;
-//! each is a line of `change_words`. The `first` one stands as recorded, in a `chart` of each log. The `item_tables` have
-//! each item of both sessions once, in an `item_row`: what is the same is in `folds`, but for three rows before and behind a
-//! change. What is missing of a log (`losses`) stands in the row of its item.
+//! each is a line of `change_words`. The `first` one stands as recorded, in a `chart` of each log, which marks each
+//! byte that an item has other than its counterpart (`counterparts`). The `item_tables` have each item of both sessions
+//! once, in an `item_row`: what is the same is in `folds`, but for three rows before and behind a change. What is missing of
+//! a log (`losses`) stands in the row of its item.
 //!
 //! Items are told by `item_words` and `told_items`, two that changed by `differ_words` in a sentence, and by `pair_bytes` in
 //! a row: byte under byte, in the `column_lines` of `byte_columns`.
@@ -25,9 +26,11 @@ mod change_top;
 mod change_words;
 mod chart;
 mod column_cells;
+mod column_counts;
 mod column_lines;
 mod column_words;
 mod comparing;
+mod counterparts;
 mod dates;
 mod differ_words;
 mod differences;
@@ -55,6 +58,7 @@ mod title;
 mod told_items;
 mod verdict;
 mod verdict_words;
+mod widths;
 
 pub use aligned::Aligned;
 pub use aligner::align_two;

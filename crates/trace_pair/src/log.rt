@@ -28,6 +28,16 @@ impl Part for Log {
     }
 }
 
+/// The other one of the two logs.
+pub(crate) fn other_log(log: Log) -> Log
+    ensures { result ≡ Spec.other_log log }
+{
+    match log {
+        Log::A => Log::B,
+        Log::B => Log::A,
+    }
+}
+
 /// Its letter, where words go on.
 #[derive(Clone, Copy)]
 pub(crate) struct LetterMark(pub Log);

@@ -4,9 +4,8 @@ ghost use Rattle.trace_report.specs.Items.{item_of};
 ghost use Rattle.trace_pair.specs.ItemRows.{both_bytes, outcome_by};
 
 use crate::column_lines::{Sides, have_word, say_columns};
-use crate::column_words::Whose;
-use crate::log::Log;
-use crate::outcome::{Outcome, came_of, same_outcome};
+use crate::log::{LetterMark, Log};
+use crate::outcome::{Outcome, OutcomeMark, came_of, same_outcome};
 use crate::told_items::ToldAnswer;
 use byte_columns::Beside;
 use text_parts::{Either, Part, When, say};
@@ -130,29 +129,47 @@ impl<'a> Part for OtherOutcomes<'a> {
     }
 }
 
-/// The outcome of an exchange in one log, with a mark.
+/// The outcome of an exchange in one log, with a mark, and the bytes of its answer.
 #[derive(Clone, Copy)]
 struct OutcomeLine<'a>(Log, PlacedItem<'a>);
 
 impl<'a> Part for OutcomeLine<'a> {
     ghost use Rattle.trace_report.specs.Items.{item_of};
-    ghost use Rattle.trace_pair.specs.ColumnLines.{whose_text};
-    ghost use Rattle.trace_pair.specs.declared.column_words.Whose.TheVariants.{Of};
     ghost use Rattle.trace_pair.specs.ItemRows.{outcome_line};
 
-    ghost text = { λ t. outcome_line (whose_text (Of t.0)) (item_of t.1).begin.bytes (item_of t.1).answer };
+    ghost text = { λ t. outcome_line t.0 (item_of t.1).begin.bytes (item_of t.1).answer };
 
     fn say<S: TextSink>(self, out: &mut S) {
         let OutcomeLine(log, item) = self;
         say(
             out,
             (
-                "<p>",
-                Whose::Of(log),
-                " <mark>",
-                ToldAnswer(item.begin.bytes, item.answer),
-                "</mark></p>",
+                "<div>",
+                LetterMark(log),
+                "&#8594; <mark>",
+                OutcomeMark(outcome_by(item)),
+                "</mark>",
+                AnswerData(item.answer),
+                "</div>",
             ),
         );
+    }
+}
+
+/// The bytes of an answer, if there is one, behind what it is.
+#[derive(Clone, Copy)]
+struct AnswerData<'a>(Option<RowMessage<'a>>);
+
+impl<'a> Part for AnswerData<'a> {
+    ghost use Rattle.std.specs.Prelude.{option_map};
+    ghost use Rattle.trace_report.specs.Items.{message_of};
+    ghost use Rattle.trace_pair.specs.ItemRows.{answer_data};
+
+    ghost text = { λ t. answer_data (option_map message_of t.0) };
+
+    fn say<S: TextSink>(self, out: &mut S) {
+        if let Some(reply) = self.0 {
+            say(out, (" ", Data(reply.bytes)));
+        }
     }
 }

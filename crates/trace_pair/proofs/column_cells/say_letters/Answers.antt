@@ -1,8 +1,7 @@
--- Each column adds its letter, if the log has a byte in it.
+-- Each column adds its letter, or a blank, where the log has no byte in it.
 use Rattle.std.proofs.Common.{ℕ, Option, refl, subst}
-use Rattle.byte_columns.specs.Laws.{listed}
 use Rattle.text_parts.proofs.Promises.{none-said}
-use Rattle.trace_report.specs.Letters.{letters}
+use Rattle.trace_pair.specs.ColumnLines.{letter_or_gap}
 use Rattle.trace_pair.proofs.Cells.{letters-end, turn-letter}
 use Rattle.trace_pair.proofs.column_cells.say_letters.Goals as goal
 
@@ -13,7 +12,7 @@ pub columns-preserved : goal.columns-preserved
 columns-preserved g c =
     turn-letter g.S.TextSink.says g.met.S.TextSink.onward c.args.log c.args.columns.now c.args.to c.args.out.now _
     c.columns.at c.column.result c.columns.out c.say_letter.new.out c.columns-test.true c.column.ensures c.columns.invariant
-    (subst (λ (byte : Option ℕ). g.S.TextSink.says c.columns.out (letters (listed byte)) c.say_letter.new.out) c.byte_of.ensures c.say_letter.ensures)
+    (subst (λ (byte : Option ℕ). g.S.TextSink.says c.columns.out (letter_or_gap byte) c.say_letter.new.out) c.byte_of.ensures c.say_letter.ensures)
 
 pub returns : goal.returns
 returns g c =

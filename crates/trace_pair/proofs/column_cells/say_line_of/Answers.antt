@@ -1,11 +1,9 @@
 -- A log has bytes in a line where it has more behind it than before.
-use Rattle.std.proofs.Common.{◌≡◌, ◌+◌, ◌-◌, ◌*◌, ◌<◌, ℕ, List, [], ◌++◌, codes, length, take, drop, arith, ap, subst, ◌∙◌}
-use Rattle.std.specs.Prelude.{if◌then◌else◌}
-use Rattle.std.specs.Fmt.{decimal}
+use Rattle.std.proofs.Common.{◌≡◌, ◌-◌, ◌<◌, ℕ, List, ◌++◌, codes, length, take, drop, arith, ap, subst, ◌∙◌}
 use Rattle.byte_columns.specs.declared.column.Column.{Column}
-use Rattle.byte_columns.specs.Lines.{line}
-use Rattle.trace_report.specs.Letters.{grey_letters}
-use Rattle.trace_pair.specs.ColumnLines.{bytes_in, cells, whose_text}
+use Rattle.byte_columns.specs.Lines.{line, line_count}
+use Rattle.trace_pair.specs.ColumnLines.{bytes_before, bytes_in, cells, grey_columns, number_text, whose_text}
+use Rattle.trace_pair.specs.Logs.{other_log}
 use Rattle.trace_pair.proofs.LineCells.{bytes-behind, line-piece, no-byte, some-bytes}
 use Rattle.trace_pair.proofs.column_cells.say_line_of.Goals as goal
 
@@ -18,7 +16,8 @@ returns-then-bytes_before-before g c =
     let none : length (bytes_in log (line columns number)) ≡ 0 =
     omega (arith, behind, c.bytes_before.ensures, c.bytes_before-before.ensures, c.if-bytes_before-before.true) in
     subst (λ (text : List ℕ). g.S.TextSink.says c.args.out.now text c.say.new.out)
-    (no-byte c.args.lettered (whose_text c.args.whose) log (length (bytes_in log (take (16 * number) columns))) (line columns number) (bytes_in log (line columns number)) none)
+    (no-byte c.args.lettered c.args.whose log
+    (number_text (line_count columns) c.args.whose (bytes_before log columns number) (bytes_before (other_log log) columns number)) (line columns number) (bytes_in log (line columns number)) none)
     c.say.ensures
 
 pub returns-else-bytes_before-before : goal.returns-else-bytes_before-before
@@ -27,7 +26,7 @@ returns-else-bytes_before-before g c =
     let onward = g.met.S.TextSink.onward in
     let log = c.args.log in
     let lettered = c.args.lettered in
-    let who = whose_text c.args.whose in
+    let whose = c.args.whose in
     let columns = c.args.columns.now in
     let number = c.args.number in
     let from = c.line-from.result.0 in
@@ -37,13 +36,16 @@ returns-else-bytes_before-before g c =
     let some : 0 < length (bytes_in log (line columns number)) =
     omega (arith, behind, c.bytes_before.ensures, c.bytes_before-before.ensures, c.if-bytes_before-before.false) in
     let piece = line-piece columns number from to c.requires c.line-from.ensures.first c.line-from.ensures.length in
-    let before = c.bytes_before-before.ensures ∙ ap (λ (n : ℕ). length (bytes_in log (take n columns))) c.line-from.ensures.first in
-    let text = λ (own : List Column) (n : ℕ).
-    codes "<p><i>" ++ decimal (n + 1) ++ codes "</i>" ++ who ++ codes "<code>" ++ cells log own ++ codes "</code>"
-    ++ (if lettered then grey_letters (bytes_in log own) else []) ++ codes "</p>" in
-    let said : says c.args.out.now (text (take (to - from) (drop from columns)) c.bytes_before-before.result) c.say-else-bytes_before-before-3.new.out =
+    let before : c.bytes_before-before.result ≡ bytes_before log columns number =
+    c.bytes_before-before.ensures ∙ ap (λ (n : ℕ). length (bytes_in log (take n columns))) c.line-from.ensures.first in
+    let there : c.bytes_before-there.result ≡ bytes_before (other_log log) columns number =
+    c.bytes_before-there.ensures ∙ (λ i. length (bytes_in (c.other_log.ensures i) (take (c.line-from.ensures.first i) columns))) in
+    let text = λ (own : List Column) (lines n m : ℕ).
+    (codes "<p><i>" ++ number_text lines whose n m ++ codes "</i> " ++ whose_text whose ++ codes "<code>") ++ cells log own ++ codes "</code>"
+    ++ grey_columns lettered log own ++ codes "</p>" in
+    let said : says c.args.out.now (text (take (to - from) (drop from columns)) c.lines.result c.bytes_before-before.result c.bytes_before-there.result) c.say-else-bytes_before-before-3.new.out =
     onward _ _ _ _ _ (onward _ _ _ _ _ (onward _ _ _ _ _ (onward _ _ _ _ _ c.say-else-bytes_before-before.ensures c.say_cells.ensures) c.say-else-bytes_before-before-2.ensures) c.say_letters_if.ensures) c.say-else-bytes_before-before-3.ensures in
     subst (λ (t : List ℕ). says c.args.out.now t c.say-else-bytes_before-before-3.new.out)
-    ((λ i. text (piece i) (before i))
-    ∙ some-bytes lettered who log (length (bytes_in log (take (16 * number) columns))) (line columns number) here some)
+    ((λ i. text (piece i) (c.lines.ensures.value i) (before i) (there i))
+    ∙ some-bytes lettered whose log (number_text (line_count columns) whose (bytes_before log columns number) (bytes_before (other_log log) columns number)) (line columns number) here some)
     said

@@ -12,7 +12,7 @@ returns-else-number-all g c =
     let several : (all == 1) ≡ false = ne_eqb c.args.self.1 1 c.if-all-eq1.false in
     let last : nat_lt number all ≡ false = le-ltb c.args.self.0 c.args.self.1 c.if-number-all.false in
     let by = λ (one more : Bool). if one then []
-    else codes "<span class=\"nav\">" ++ decimal number ++ codes " of " ++ decimal all ++ codes " "
+    else codes " <span class=\"nav\">" ++ decimal number ++ codes " of " ++ decimal all ++ codes " "
     ++ (if more then codes "<a href=\"#d" ++ decimal (number + 1) ++ codes "\">next</a>" else codes "<a href=\"#differences\">list</a>") ++ codes "</span>" in
     subst (λ (text : List ℕ). g.S.TextSink.says c.args.out.now text c.say-else-number-all.new.out)
     (λ i. by (sym several i) (sym last i))
