@@ -25,6 +25,7 @@ mod byte_words;
 mod change_top;
 mod change_words;
 mod chart;
+mod chart_words;
 mod column_cells;
 mod column_counts;
 mod column_lines;
