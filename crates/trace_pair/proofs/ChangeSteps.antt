@@ -1,13 +1,13 @@
 -- The changes of rows, one row after another.
-use Rattle.std.proofs.Common.{◌≡◌, ℕ, suc, ◌+◌, ◌≤◌, ◌<◌, ◌^◌, Bool, true, false, List, [], ◌∷◌, length, drop, get_or, Option, Some, None, IfSome, ap, sym, ◌∙◌, arith, refl}
-use Rattle.std.specs.Prelude.{if◌then◌else◌}
+use Rattle.std.proofs.Common.{◌≡◌, ℕ, zero, suc, ◌+◌, ◌≤◌, ◌<◌, ◌^◌, Bool, true, false, List, [], ◌∷◌, length, drop, get_or, Option, Some, None, IfSome, ap, sym, ◌∙◌, arith, refl}
+use Rattle.std.specs.Prelude.{slice_get, if◌then◌else◌}
 use Rattle.std.proofs.lemmas.List.{drop_more}
 use Rattle.std.proofs.lemmas.Option.{none-some, same_Some}
 use Rattle.uds_difference.specs.declared.row.Row.{Row}
 use Rattle.uds_difference.specs.declared.row.Row.TheVariants.{Same, Changed, OnlyLeft, OnlyRight}
 use Rattle.shown_rows.specs.declared.changes.Change.{Change}
 use Rattle.shown_rows.specs.Changes.{begins_change, change, change_length, changes, changes_from, run_length}
-use Rattle.shown_rows.specs.Rows.{left_in, right_in, same_row}
+use Rattle.shown_rows.specs.Rows.{changes_within, left_in, right_in, same_row}
 use Rattle.trace_pair.specs.ChangeWords.{IsSmall}
 
 -- the change that begins with a row, if one does
@@ -95,3 +95,17 @@ is-small front i j row later (Some here) is left right = by (begins_change front
         let many : here.count ≡ change_length row later = ap (λ (h : Change). h.count) it in
         record { left = omega (arith, first, many, fits, left); right = omega (arith, second, many, fits, right) }
     by false e = absurd (none-some here (sym e))
+
+-- Before the first change all rows are the same.
+
+not-behind : (here first : Change) (at count : ℕ) → here ≡ first → first.left ≡ at → here.left ≡ at + suc count → ⊥
+not-behind here first at count is left_is before = let there : here.left ≡ first.left = ap (λ (it : Change). it.left) is in omega (arith, there, left_is, before)
+
+pub none-before : (rows : List Row) (at : ℕ) (here : Change) → Some here ≡ slice_get (changes_from Same at at rows) 0 → (count : ℕ) → here.left ≡ at + count
+    → changes_within count rows ≡ false
+none-before [] at here is count before = absurd (none-some here (sym is))
+none-before (row ∷ rows) at here is zero before = refl
+none-before (Same ∷ rows) at here is (suc count) before = none-before rows (at + 1) here is count (omega (arith, before))
+none-before (Changed ∷ rows) at here is (suc count) before = absurd (not-behind here (change Changed at at (change_length Changed rows)) at count (same_Some here _ is) refl before)
+none-before (OnlyLeft ∷ rows) at here is (suc count) before = absurd (not-behind here (change OnlyLeft at at (change_length OnlyLeft rows)) at count (same_Some here _ is) refl before)
+none-before (OnlyRight ∷ rows) at here is (suc count) before = absurd (not-behind here (change OnlyRight at at (change_length OnlyRight rows)) at count (same_Some here _ is) refl before)

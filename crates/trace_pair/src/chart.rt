@@ -1,5 +1,6 @@
 //! A chart of one log: the rows around an item, with a mark at each byte that differs.
-ghost use Rattle.std.specs.Prelude.{◌≡◌, ◌-◌, None, drop, max, option_map, slice_get, take};
+ghost use Rattle.std.specs.Prelude.{◌≡◌, ◌-◌, None, drop, false, max, option_map, slice_get, take};
+ghost use Rattle.shown_rows.specs.Rows.{changes_within};
 ghost use Rattle.trace_report.specs.Blocks.{begins_exchange as asks};
 ghost use Rattle.trace_report.specs.Rows.{missing_of, row_of};
 ghost use Rattle.trace_pair.specs.First as Spec;
@@ -31,6 +32,7 @@ pub(crate) fn say_chart<S: TextSink>(
     session: &Session,
     out: &mut S,
 )
+    requires { changes_within chart.same chart.rows.now ≡ false }
     ensures { S.says out.old (Spec.chart_text (charted_of chart.entry) item session.now) out.new }
 {
     let rows = session.rows();
@@ -96,6 +98,7 @@ fn say_rows<S: TextSink>(
     to: usize,
     out: &mut S,
 )
+    requires { changes_within chart.same chart.rows.now ≡ false }
     ensures { S.says out.old (Spec.rows_text (charted_of chart.entry) origin None (max item 1) (take (to - from) (drop from rows.now))) out.new }
 {
     let mut front: Option<bool> = None;
@@ -179,6 +182,7 @@ fn begins_exchange(row: Row<'_>) -> bool
 
 /// Says a row, to which no link leads.
 fn say_row<S: TextSink>(chart: Charted<'_>, origin: u64, row: Row<'_>, out: &mut S)
+    requires { changes_within chart.same chart.rows.now ≡ false }
     ensures { S.says out.old (Spec.chart_row (charted_of chart.entry) origin (row_of row.entry)) out.new }
 {
     match row {

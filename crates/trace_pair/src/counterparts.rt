@@ -1,5 +1,6 @@
 //! Which items of two logs stand beside each other, and which bytes of their messages a chart marks.
-ghost use Rattle.std.specs.Prelude.{◌≡◌, ◌<◌, ◌^◌, option_map};
+ghost use Rattle.std.specs.Prelude.{◌≡◌, ◌<◌, ◌^◌, false, option_map};
+ghost use Rattle.shown_rows.specs.Rows.{changes_within};
 ghost use Rattle.trace_report.specs.Items.{item_of};
 ghost use Rattle.trace_pair.specs.Counterparts as Spec;
 ghost use Rattle.trace_pair.specs.ItemRows.{place_in as place_of};
@@ -14,12 +15,14 @@ use shown_rows::{is_change, left_in, right_in};
 use trace_report::{MessageRole, PlacedItem, Session, begins_item, is_answer_role};
 use uds_difference::Row;
 
-/// What a chart is of: a log, and both sessions with the rows that set them side by side.
+/// What a chart is of: a log, and both sessions with the rows that set them side by side, of which so many stand before the
+/// first change.
 #[derive(Clone, Copy)]
 pub(crate) struct Charted<'a> {
     pub log: Log,
     pub sessions: Sessions<'a>,
     pub rows: &'a [Row],
+    pub same: usize,
 }
 
 /// What a chart marks of an item: each byte that another message has not, in the message that begins it, in the answer, or
@@ -32,9 +35,10 @@ pub(crate) struct Marked<'a> {
 
 /// Whether the item of a number is not the same in both logs.
 pub(crate) fn is_other(chart: Charted<'_>, number: u64) -> bool
+    requires { changes_within chart.same chart.rows.now ≡ false }
     ensures { result ≡ Spec.is_other (charted_of chart.entry) number }
 {
-    is_other_in(row_with(chart.log, number, chart.rows))
+    is_other_in(row_in_chart(chart, number))
 }
 
 /// Whether an item that stands in a row is not the same in both logs.
@@ -47,13 +51,28 @@ fn is_other_in(row: Option<RowPlace>) -> bool
     }
 }
 
-/// The row that has the item of a number of a log, counted from 1, if one has it.
-fn row_with(log: Log, number: u64, rows: &[Row]) -> Option<RowPlace>
+/// The row that has the item of a number, if one has it that stands no more before the first change.
+fn row_in_chart(chart: Charted<'_>, number: u64) -> Option<RowPlace>
+    requires { changes_within chart.same chart.rows.now ≡ false }
+    ensures other { Spec.is_other_in result ≡ Spec.is_other (charted_of chart.entry) number }
+    ensures marks { Spec.marks_in (charted_of chart.entry) result ≡ Spec.marks_at (charted_of chart.entry) number }
+{
+    if number <= chart.same as u64 {
+        None
+    } else {
+        row_with(chart.log, number, chart.rows, chart.same)
+    }
+}
+
+/// The row that has the item of a number of a log, counted from 1, if one has it: it stands behind so many that are the same.
+fn row_with(log: Log, number: u64, rows: &[Row], same: usize) -> Option<RowPlace>
+    requires same { changes_within same rows.now ≡ false }
+    requires behind { same < number }
     ensures { result ≡ Spec.row_with log number rows.now }
 {
-    let mut left: usize = 0;
-    let mut right: usize = 0;
-    'rows: for k in 0..rows.len() {
+    let mut left = same;
+    let mut right = same;
+    'rows: for k in same..rows.len() {
         let here = RowPlace {
             kind: rows[k],
             left,
@@ -78,9 +97,10 @@ fn has_number(log: Log, number: u64, here: RowPlace) -> bool
 
 /// What a chart marks of the item of a number.
 pub(crate) fn marks_at<'a>(chart: Charted<'a>, number: u64) -> Option<Marked<'a>>
+    requires { changes_within chart.same chart.rows.now ≡ false }
     ensures { option_map marked_of result ≡ Spec.marks_at (charted_of chart.entry) number }
 {
-    marks_in(chart, row_with(chart.log, number, chart.rows))
+    marks_in(chart, row_in_chart(chart, number))
 }
 
 /// What a chart marks of an item that stands in a row.

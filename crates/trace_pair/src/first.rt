@@ -1,6 +1,7 @@
 //! The first difference as recorded: both logs around it.
-ghost use Rattle.std.specs.Prelude.{◌≡◌, IfSome, slice_get};
+ghost use Rattle.std.specs.Prelude.{◌≡◌, IfSome, false, slice_get};
 ghost use Rattle.shown_rows.specs.Changes.{changes};
+ghost use Rattle.shown_rows.specs.Rows.{changes_within};
 ghost use Rattle.trace_pair.specs.ChangeWords.{IsSmall};
 ghost use Rattle.trace_pair.specs.First as Spec;
 ghost use Rattle.trace_pair.specs.proving.Marks.{charted_of};
@@ -67,7 +68,8 @@ fn say_change<S: TextSink>(
     change: Change,
     out: &mut S,
 )
-    requires { IsSmall change }
+    requires small { IsSmall change }
+    requires first { changes_within change.left rows.now ≡ false }
     ensures { S.says out.old (Spec.first_of count left_name.now right_name.now sessions.entry.left.now sessions.entry.right.now rows.now change) out.new }
 {
     let unclean = Unclean {
@@ -92,11 +94,13 @@ fn say_change<S: TextSink>(
         log: Log::A,
         sessions,
         rows,
+        same: change.left,
     };
     let right = Charted {
         log: Log::B,
         sessions,
         rows,
+        same: change.left,
     };
     say_side(left, left_name, change.left, sessions.left, out);
     say_side(right, right_name, change.right, sessions.right, out);
@@ -111,6 +115,7 @@ fn say_side<S: TextSink>(
     session: &Session,
     out: &mut S,
 )
+    requires { changes_within chart.same chart.rows.now ≡ false }
     ensures { S.says out.old (Spec.side (charted_of chart.entry) name.now item session.now) out.new }
 {
     say(

@@ -1,11 +1,15 @@
 -- The row is the first one that has the item.
-use Rattle.std.proofs.Common.{ℕ, ◌+◌, ◌<◌, ◌^◌, length, get_or, ap, sym, ◌∙◌, arith, refl, rules}
+use Rattle.std.proofs.Common.{ℕ, ◌+◌, ◌<◌, ◌^◌, length, get_or, ap, sym, ◌∙◌, arith, rules}
 use Rattle.uds_difference.specs.declared.row.Row.TheVariants.{Same}
-use Rattle.trace_pair.proofs.RowsWith.{found-here, found-later, found-none, place-below}
+use Rattle.trace_pair.proofs.RowsWith.{found-here, found-later, found-none, from-same, place-below}
 use Rattle.trace_pair.proofs.counterparts.row_with.Goals as goal
 
 pub rows-init : goal.rows-init
-rows-init c = record { left_small = omega arith; right_small = omega arith; so_far = refl }
+rows-init c = record {
+  left_small = omega arith;
+  right_small = omega arith;
+  so_far = from-same c.args.log c.args.number 0 c.args.same c.args.rows.now c.args.same (omega arith) c.requires.same (omega (arith, c.requires.behind));
+}
 
 pub has_number-requires : goal.has_number-requires
 has_number-requires c =

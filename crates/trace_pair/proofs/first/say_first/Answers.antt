@@ -1,5 +1,5 @@
 -- The first change of a list is said, where it has one.
-use Rattle.std.proofs.Common.{◌≡◌, ℕ, List, [], ◌∷◌, length, Option, Some, None, refl, subst, sym, ◌∙◌}
+use Rattle.std.proofs.Common.{◌≡◌, ℕ, List, [], ◌∷◌, length, Option, Some, None, arith, refl, subst, sym, ◌∙◌}
 use Rattle.std.specs.Prelude.{slice_get}
 use Rattle.std.proofs.lemmas.Option.{none-some, same_Some}
 use Rattle.shown_rows.specs.declared.changes.Change.{Change}
@@ -7,6 +7,7 @@ use Rattle.shown_rows.specs.Changes.{changes}
 use Rattle.trace_report.specs.Session.{SessionValue}
 use Rattle.uds_difference.specs.declared.row.Row.{Row}
 use Rattle.trace_pair.specs.First.{first_if, first_of}
+use Rattle.trace_pair.proofs.ChangeSteps.{none-before}
 use Rattle.trace_pair.proofs.first.say_first.Goals as goal
 
 module _ (left_name right_name : List ℕ) (left right : SessionValue) (rows : List Row) where
@@ -18,6 +19,9 @@ module _ (left_name right_name : List ℕ) (left right : SessionValue) (rows : L
   none-first : (all : List Change) → ◌≡◌ {A = Option Change} None (slice_get all 0) → [] ≡ first_if left_name right_name left right rows all
   none-first [] is = refl
   none-first (first ∷ later) is = absurd (none-some first is)
+
+pub say_change-requires-clause-first : goal.say_change-requires-clause-first
+say_change-requires-clause-first g c = none-before c.args.rows.now 0 c.in-Some.change c.in-Some.ensures.value c.in-Some.change.left (omega arith)
 
 pub returns-in-Some : goal.returns-in-Some
 returns-in-Some g c =
