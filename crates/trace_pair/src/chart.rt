@@ -25,6 +25,14 @@ const MOST_ROWS: usize = 40;
 /// And of these so many at most before the row with which the item begins.
 const MOST_BEFORE: usize = 8;
 
+/// Which rows of a log its chart has: around the item of a place, counted from 0, from one place up to another.
+#[derive(Clone, Copy)]
+struct Around {
+    item: usize,
+    from: usize,
+    to: usize,
+}
+
 /// Says the chart of a log around the item of a place, counted from 0.
 pub(crate) fn say_chart<S: TextSink>(
     chart: Charted<'_>,
@@ -40,7 +48,12 @@ pub(crate) fn say_chart<S: TextSink>(
     let to = chart_to(rows, item);
     let end = to.min(from.saturating_add(MOST_ROWS));
     say(out, ChartHead(SessionClasses(session)));
-    say_rows(chart, session.first(), item, rows, from, end, out);
+    let around = Around {
+        item,
+        from,
+        to: end,
+    };
+    say_rows(chart, session.first(), rows, around, out);
     let rest = ChartEnd {
         more: to.saturating_sub(end),
         ends: to == rows.len(),
@@ -88,22 +101,20 @@ fn asks_at(rows: &KeptRows, at: usize) -> bool
     }
 }
 
-/// Says the rows from one place up to another, around the item of a place, in bodies of the table.
+/// Says the rows around an item, in bodies of the table.
 fn say_rows<S: TextSink>(
     chart: Charted<'_>,
     origin: u64,
-    item: usize,
     rows: &KeptRows,
-    from: usize,
-    to: usize,
+    around: Around,
     out: &mut S,
 )
     requires { changes_within chart.same chart.rows.now ≡ false }
-    ensures { S.says out.old (Spec.rows_text (charted_of chart.entry) origin None (max item 1) (take (to - from) (drop from rows.now))) out.new }
+    ensures { S.says out.old (Spec.rows_text (charted_of chart.entry) origin None (max around.item 1) (take (around.to - around.from) (drop around.from rows.now))) out.new }
 {
     let mut front: Option<bool> = None;
-    let mut last = item.max(1) as u64;
-    'rows: for at in from..to {
+    let mut last = around.item.max(1) as u64;
+    'rows: for at in around.from..around.to {
         let Some(row) = rows.row(at) else {
             return;
         };

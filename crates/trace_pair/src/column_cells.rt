@@ -11,19 +11,26 @@ use text_parts::say;
 use trace_io::TextSink;
 use trace_report::shown_byte;
 
-/// Says the line of a number, as one log has it, behind the number of its first byte and whose it is; with its letters,
+/// A line of columns, by its number.
+#[derive(Clone, Copy)]
+pub(crate) struct Line<'a> {
+    pub columns: &'a Beside<'a>,
+    pub number: usize,
+}
+
+/// Says a line, as one log has it, behind the number of its first byte and whose it is; with its letters,
 /// where the messages may be text.
 pub(crate) fn say_line_of<S: TextSink>(
     lettered: bool,
     whose: Whose,
     log: Log,
-    columns: &Beside<'_>,
-    number: usize,
+    line: Line<'_>,
     out: &mut S,
 )
-    requires { number < line_count columns.now }
-    ensures { S.says out.old (line_of lettered whose log columns.now number) out.new }
+    requires { line.number < line_count line.columns.now }
+    ensures { S.says out.old (line_of lettered whose log line.entry.columns.now line.entry.number) out.new }
 {
+    let Line { columns, number } = line;
     let (from, to) = columns.line(number);
     let before = bytes_before(log, columns, from);
     if bytes_before(log, columns, to) == before {
@@ -39,9 +46,15 @@ pub(crate) fn say_line_of<S: TextSink>(
         let there = bytes_before(other_log(log), columns, from);
         let first = LineNumber(columns.lines(), FirstNumber(whose, before, there));
         say(out, ("<p><i>", first, "</i> ", whose, "<code>"));
-        say_cells(log, columns, from, to, out);
+        let own = OwnColumns {
+            log,
+            columns,
+            from,
+            to,
+        };
+        say_cells(own, out);
         say(out, "</code>");
-        say_letters_if(lettered, log, columns, from, to, out);
+        say_letters_if(lettered, own, out);
         say(out, "</p>");
     }
 }
@@ -57,12 +70,27 @@ fn bytes_before(log: Log, columns: &Beside<'_>, at: usize) -> usize
     }
 }
 
-/// Says what a log has in the columns from one place up to another: each that differs has a mark, and a run of those one.
-fn say_cells<S: TextSink>(log: Log, columns: &Beside<'_>, from: usize, to: usize, out: &mut S)
-    requires forward { from ≤ to }
-    requires inside { to ≤ length columns.now }
-    ensures { S.says out.old (cells log (take (to - from) (drop from columns.now))) out.new }
+/// The columns of a log from one place up to another.
+#[derive(Clone, Copy)]
+struct OwnColumns<'a> {
+    log: Log,
+    columns: &'a Beside<'a>,
+    from: usize,
+    to: usize,
+}
+
+/// Says what a log has in columns: each that differs has a mark, and a run of those one.
+fn say_cells<S: TextSink>(own: OwnColumns<'_>, out: &mut S)
+    requires forward { own.from ≤ own.to }
+    requires inside { own.to ≤ length own.columns.now }
+    ensures { S.says out.old (cells own.entry.log (take (own.entry.to - own.entry.from) (drop own.entry.from own.entry.columns.now))) out.new }
 {
+    let OwnColumns {
+        log,
+        columns,
+        from,
+        to,
+    } = own;
     if from < to {
         let column = columns.column(from);
         let differs = column.differs();
@@ -70,23 +98,28 @@ fn say_cells<S: TextSink>(log: Log, columns: &Beside<'_>, from: usize, to: usize
             out,
             (MarkStart(false, differs), ByteOrGap(byte_of(log, column))),
         );
-        say_cells_behind(log, columns, from + 1, to, differs, out);
+        let behind = OwnColumns {
+            log,
+            columns,
+            from: from + 1,
+            to,
+        };
+        say_cells_behind(behind, differs, out);
     }
 }
 
 /// Says them behind a column that has a mark or has none.
-fn say_cells_behind<S: TextSink>(
-    log: Log,
-    columns: &Beside<'_>,
-    from: usize,
-    to: usize,
-    marked: bool,
-    out: &mut S,
-)
-    requires forward { from ≤ to }
-    requires inside { to ≤ length columns.now }
-    ensures { S.says out.old (cells_behind log marked (take (to - from) (drop from columns.now))) out.new }
+fn say_cells_behind<S: TextSink>(own: OwnColumns<'_>, marked: bool, out: &mut S)
+    requires forward { own.from ≤ own.to }
+    requires inside { own.to ≤ length own.columns.now }
+    ensures { S.says out.old (cells_behind own.entry.log marked (take (own.entry.to - own.entry.from) (drop own.entry.from own.entry.columns.now))) out.new }
 {
+    let OwnColumns {
+        log,
+        columns,
+        from,
+        to,
+    } = own;
     let mut marked = marked;
     'columns: for at in from..to {
         let column = columns.column(at);
@@ -106,31 +139,30 @@ fn say_cells_behind<S: TextSink>(
 }
 
 /// Says its letters there in grey, where the messages may be text.
-fn say_letters_if<S: TextSink>(
-    lettered: bool,
-    log: Log,
-    columns: &Beside<'_>,
-    from: usize,
-    to: usize,
-    out: &mut S,
-)
-    requires forward { from ≤ to }
-    requires inside { to ≤ length columns.now }
-    ensures { S.says out.old (grey_columns lettered log (take (to - from) (drop from columns.now))) out.new }
+fn say_letters_if<S: TextSink>(lettered: bool, own: OwnColumns<'_>, out: &mut S)
+    requires forward { own.from ≤ own.to }
+    requires inside { own.to ≤ length own.columns.now }
+    ensures { S.says out.old (grey_columns lettered own.entry.log (take (own.entry.to - own.entry.from) (drop own.entry.from own.entry.columns.now))) out.new }
 {
     if lettered {
         say(out, " <samp>");
-        say_letters(log, columns, from, to, out);
+        say_letters(own, out);
         say(out, "</samp>");
     }
 }
 
 /// Says its letters there: one for each column.
-fn say_letters<S: TextSink>(log: Log, columns: &Beside<'_>, from: usize, to: usize, out: &mut S)
-    requires forward { from ≤ to }
-    requires inside { to ≤ length columns.now }
-    ensures { S.says out.old (column_letters log (take (to - from) (drop from columns.now))) out.new }
+fn say_letters<S: TextSink>(own: OwnColumns<'_>, out: &mut S)
+    requires forward { own.from ≤ own.to }
+    requires inside { own.to ≤ length own.columns.now }
+    ensures { S.says out.old (column_letters own.entry.log (take (own.entry.to - own.entry.from) (drop own.entry.from own.entry.columns.now))) out.new }
 {
+    let OwnColumns {
+        log,
+        columns,
+        from,
+        to,
+    } = own;
     'columns: for at in from..to {
         say_letter(byte_of(log, columns.column(at)), out);
     }

@@ -6,7 +6,7 @@ ghost use Rattle.byte_columns.specs.Lines.{folded, line_count, stretches};
 ghost use Rattle.trace_report.specs.Letters.{has_word};
 ghost use Rattle.trace_pair.specs.ColumnLines.{line_text, lines_text, stretch_text};
 
-use crate::column_cells::say_line_of;
+use crate::column_cells::{Line, say_line_of};
 use crate::column_counts::{counts_from, hidden_counts};
 use crate::column_words::{FoldWords, Hidden, Whose};
 use crate::log::Log;
@@ -60,43 +60,52 @@ fn say_stretches<S: TextSink>(sides: Sides, lettered: bool, columns: &Beside<'_>
             before = columns.differing_behind(at, before, 1);
             at += 1;
         } else {
-            say_fold(sides, lettered, columns, at, folded, out);
+            let fold = Lines {
+                columns: &*columns,
+                first: at,
+                count: folded,
+            };
+            say_fold(sides, lettered, fold, out);
             before = columns.differing_behind(at, before, folded);
             at += folded;
         }
     }
 }
 
-/// Says lines that are folded together: so many, from this one on.
-fn say_fold<S: TextSink>(
-    sides: Sides,
-    lettered: bool,
-    columns: &Beside<'_>,
+/// So many lines, from one on.
+#[derive(Clone, Copy)]
+struct Lines<'a> {
+    columns: &'a Beside<'a>,
     first: usize,
     count: usize,
-    out: &mut S,
-)
-    requires { first + count ≤ line_count columns.now }
-    ensures { S.says out.old (stretch_text sides lettered columns.now (folded first count)) out.new }
+}
+
+/// Says lines that are folded together.
+fn say_fold<S: TextSink>(sides: Sides, lettered: bool, fold: Lines<'_>, out: &mut S)
+    requires { fold.first + fold.count ≤ line_count fold.columns.now }
+    ensures { S.says out.old (stretch_text sides lettered fold.entry.columns.now (folded fold.entry.first fold.entry.count)) out.new }
 {
+    let Lines {
+        columns,
+        first,
+        count,
+    } = fold;
     let counts = counts_from(sides, columns, first, count);
     say(out, ("<details><summary>", FoldWords(counts), "</summary>"));
-    say_lines(sides, lettered, columns, first, count, out);
+    say_lines(sides, lettered, fold, out);
     say(out, "</details>");
 }
 
-/// Says so many lines, from this one on.
-fn say_lines<S: TextSink>(
-    sides: Sides,
-    lettered: bool,
-    columns: &Beside<'_>,
-    first: usize,
-    count: usize,
-    out: &mut S,
-)
-    requires { first + count ≤ line_count columns.now }
-    ensures { S.says out.old (flat_map (line_text sides lettered columns.now) (range_with_len first count)) out.new }
+/// Says lines, one after another.
+fn say_lines<S: TextSink>(sides: Sides, lettered: bool, fold: Lines<'_>, out: &mut S)
+    requires { fold.first + fold.count ≤ line_count fold.columns.now }
+    ensures { S.says out.old (flat_map (line_text sides lettered fold.entry.columns.now) (range_with_len fold.entry.first fold.entry.count)) out.new }
 {
+    let Lines {
+        columns,
+        first,
+        count,
+    } = fold;
     'lines: for at in first..first + count {
         say_line(sides, lettered, columns, at, out);
     }
@@ -114,7 +123,10 @@ fn say_line<S: TextSink>(
     ensures { S.says out.old (line_text sides lettered columns.now number) out.new }
 {
     match sides {
-        Sides::Only(log) => say_line_of(lettered, Whose::Untold, log, columns, number, out),
+        Sides::Only(log) => {
+            let line = Line { columns, number };
+            say_line_of(lettered, Whose::Untold, log, line, out);
+        }
         Sides::Both => say_line_of_both(lettered, columns, number, out),
     }
 }
@@ -124,10 +136,11 @@ fn say_line_of_both<S: TextSink>(lettered: bool, columns: &Beside<'_>, number: u
     requires { number < line_count columns.now }
     ensures { S.says out.old (line_text Both lettered columns.now number) out.new }
 {
+    let line = Line { columns, number };
     if columns.differing_in(number) > 0 {
-        say_line_of(lettered, Whose::Of(Log::A), Log::A, columns, number, out);
-        say_line_of(lettered, Whose::Of(Log::B), Log::B, columns, number, out);
+        say_line_of(lettered, Whose::Of(Log::A), Log::A, line, out);
+        say_line_of(lettered, Whose::Of(Log::B), Log::B, line, out);
     } else {
-        say_line_of(lettered, Whose::OfBoth, Log::A, columns, number, out);
+        say_line_of(lettered, Whose::OfBoth, Log::A, line, out);
     }
 }

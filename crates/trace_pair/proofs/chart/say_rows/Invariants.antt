@@ -7,5 +7,5 @@ use Rattle.trace_pair.proofs.chart.say_rows.Given as goal
 
 abbrev pub invariant-rows : goal.invariant-rows
 invariant-rows g l =
-    IsLeft g.S.TextSink.says l.initial.out (rows_text (charted_of l.chart) l.origin l.front l.last (take (l.to - l.at) (drop l.at l.rows)))
-    (rows_text (charted_of l.chart) l.origin None (max l.item 1) (take (l.to - l.from) (drop l.from l.rows))) l.out
+    IsLeft g.S.TextSink.says l.initial.out (rows_text (charted_of l.chart) l.origin l.front l.last (take (l.fn.around.to - l.at) (drop l.at l.rows)))
+    (rows_text (charted_of l.chart) l.origin None (max l.fn.around.item 1) (take (l.fn.around.to - l.fn.around.from) (drop l.fn.around.from l.rows))) l.out

@@ -6,5 +6,5 @@ use Rattle.trace_pair.proofs.column_cells.say_cells_behind.Given as goal
 
 abbrev pub invariant-columns : goal.invariant-columns
 invariant-columns g l =
-    IsLeft g.S.TextSink.says l.initial.out (cells_behind l.log l.marked (take (l.to - l.at) (drop l.at l.columns)))
-    (cells_behind l.log l.initial.marked (take (l.to - l.from) (drop l.from l.columns))) l.out
+    IsLeft g.S.TextSink.says l.initial.out (cells_behind l.own.log l.marked (take (l.own.to - l.at) (drop l.at l.own.columns.now)))
+    (cells_behind l.own.log l.initial.marked (take (l.own.to - l.own.from) (drop l.own.from l.own.columns.now))) l.out

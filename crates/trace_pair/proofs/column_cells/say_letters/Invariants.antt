@@ -6,5 +6,5 @@ use Rattle.trace_pair.proofs.column_cells.say_letters.Given as goal
 
 abbrev pub invariant-columns : goal.invariant-columns
 invariant-columns g l =
-    IsLeft g.S.TextSink.says l.initial.out (column_letters l.log (take (l.to - l.at) (drop l.at l.columns)))
-    (column_letters l.log (take (l.to - l.from) (drop l.from l.columns))) l.out
+    IsLeft g.S.TextSink.says l.initial.out (column_letters l.own.log (take (l.own.to - l.at) (drop l.at l.own.columns.now)))
+    (column_letters l.own.log (take (l.own.to - l.own.from) (drop l.own.from l.own.columns.now))) l.out

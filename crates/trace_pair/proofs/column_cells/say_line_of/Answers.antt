@@ -10,8 +10,8 @@ use Rattle.trace_pair.proofs.column_cells.say_line_of.Goals as goal
 pub returns-then-bytes_before-before : goal.returns-then-bytes_before-before
 returns-then-bytes_before-before g c =
     let log = c.args.log in
-    let columns = c.args.columns.now in
-    let number = c.args.number in
+    let columns = c.args.line.columns.now in
+    let number = c.args.line.number in
     let behind = bytes-behind columns number c.line-from.result.0 c.line-from.result.1 c.requires c.line-from.ensures.first c.line-from.ensures.length log in
     let none : length (bytes_in log (line columns number)) ≡ 0 =
     omega (arith, behind, c.bytes_before.ensures, c.bytes_before-before.ensures, c.if-bytes_before-before.true) in
@@ -27,8 +27,8 @@ returns-else-bytes_before-before g c =
     let log = c.args.log in
     let lettered = c.args.lettered in
     let whose = c.args.whose in
-    let columns = c.args.columns.now in
-    let number = c.args.number in
+    let columns = c.args.line.columns.now in
+    let number = c.args.line.number in
     let from = c.line-from.result.0 in
     let to = c.line-from.result.1 in
     let here = bytes_in log (line columns number) in

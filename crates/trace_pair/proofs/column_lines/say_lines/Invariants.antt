@@ -7,7 +7,7 @@ use Rattle.trace_pair.proofs.column_lines.say_lines.Given as goal
 
 abbrev pub invariant-lines : goal.invariant-lines
 invariant-lines g l = record {
-  up : l.first ≤ l.at;
-  left : IsLeft g.S.TextSink.says l.initial.out (flat_map (line_text l.sides l.lettered l.columns) (range_with_len l.at (l.first + l.count - l.at)))
-      (flat_map (line_text l.sides l.lettered l.columns) (range_with_len l.first l.count)) l.out;
+  up : l.fold.first ≤ l.at;
+  left : IsLeft g.S.TextSink.says l.initial.out (flat_map (line_text l.sides l.lettered l.fold.columns.now) (range_with_len l.at (l.fold.first + l.fold.count - l.at)))
+      (flat_map (line_text l.sides l.lettered l.fold.columns.now) (range_with_len l.fold.first l.fold.count)) l.out;
 }
