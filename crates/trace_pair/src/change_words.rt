@@ -1,11 +1,14 @@
 //! The changes of two sessions, in a list.
 ghost use Rattle.std.specs.Prelude.{◌+◌, ◌<◌, ◌≤◌, ◌^◌};
 ghost use Rattle.trace_pair.specs.ChangeWords.{IsSmall, change_line, items_range, run_words, what_text, where_link, where_text};
+ghost use Rattle.trace_pair.specs.Verdict.{is_lossy as is_lossy_by};
+ghost use Rattle.trace_pair.specs.declared.log.Log.TheVariants.{A, B};
 ghost use Rattle.trace_pair.specs.Sessions.{left_items, right_items, values_in};
 
 use crate::differ_words::DifferWords;
 use crate::item_words::{ItemTitle, OutcomeNote};
 use crate::log::Log;
+use crate::losses::is_lossy;
 use crate::sessions::{Sessions, item_at};
 use shown_rows::Change;
 use text_parts::{Either, Part, say};
@@ -20,14 +23,17 @@ use uds_exchange::Item;
 pub(crate) fn say_change_line<S: TextSink>(
     linked: bool,
     number: usize,
-    unclean: Unclean,
     sessions: Sessions<'_>,
     change: Change,
     out: &mut S,
 )
     requires { IsSmall change }
-    ensures { S.says out.old (change_line linked number unclean.left unclean.right (left_items sessions.entry) (right_items sessions.entry) change) out.new }
+    ensures { S.says out.old (change_line linked number (is_lossy_by A sessions.entry.left.now change) (is_lossy_by B sessions.entry.right.now change) (left_items sessions.entry) (right_items sessions.entry) change) out.new }
 {
+    let unclean = Unclean {
+        left: is_lossy(Log::A, sessions.left, change),
+        right: is_lossy(Log::B, sessions.right, change),
+    };
     say(out, "<span class=\"where\">");
     say_where(linked, number, change, out);
     say(out, "</span> <b class=\"tag\">");
@@ -40,9 +46,9 @@ pub(crate) fn say_change_line<S: TextSink>(
 
 /// Whether both logs are not clean at a change.
 #[derive(Clone, Copy, Debug)]
-pub(crate) struct Unclean {
-    pub left: bool,
-    pub right: bool,
+struct Unclean {
+    left: bool,
+    right: bool,
 }
 
 impl Part for Unclean {

@@ -5,9 +5,7 @@ ghost use Rattle.trace_pair.specs.ChangeWords.{IsSmall};
 ghost use Rattle.trace_pair.specs.Differences as Spec;
 ghost use Rattle.trace_pair.specs.proving.Changing.{count_if, line_if};
 
-use crate::change_words::{Unclean, say_change_line};
-use crate::log::Log;
-use crate::losses::is_lossy;
+use crate::change_words::say_change_line;
 use crate::sessions::Sessions;
 use shown_rows::{Change, change_at, count_changes, left_in, right_in};
 use text_parts::{Either, Part, When, say};
@@ -91,12 +89,8 @@ fn say_line<S: TextSink>(sessions: Sessions<'_>, number: usize, change: Change, 
     requires { IsSmall change }
     ensures { S.says out.old (Spec.difference_line sessions.entry.left.now sessions.entry.right.now number change) out.new }
 {
-    let unclean = Unclean {
-        left: is_lossy(Log::A, sessions.left, change),
-        right: is_lossy(Log::B, sessions.right, change),
-    };
     say(out, "<li>");
-    say_change_line(true, number, unclean, sessions, change, out);
+    say_change_line(true, number, sessions, change, out);
     say(out, "\n");
 }
 

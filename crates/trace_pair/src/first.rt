@@ -6,11 +6,10 @@ ghost use Rattle.trace_pair.specs.ChangeWords.{IsSmall};
 ghost use Rattle.trace_pair.specs.First as Spec;
 ghost use Rattle.trace_pair.specs.proving.Marks.{charted_of};
 
-use crate::change_words::{Unclean, say_change_line};
+use crate::change_words::say_change_line;
 use crate::chart::say_chart;
 use crate::counterparts::Charted;
 use crate::log::{LetteredName, Log};
-use crate::losses::is_lossy;
 use crate::sessions::Sessions;
 use shown_rows::{Change, change_at, count_changes, left_in, right_in};
 use text_parts::{Either, say};
@@ -72,10 +71,6 @@ fn say_change<S: TextSink>(
     requires first { changes_within change.left rows.now ≡ false }
     ensures { S.says out.old (Spec.first_of count left_name.now right_name.now sessions.entry.left.now sessions.entry.right.now rows.now change) out.new }
 {
-    let unclean = Unclean {
-        left: is_lossy(Log::A, sessions.left, change),
-        right: is_lossy(Log::B, sessions.right, change),
-    };
     say(
         out,
         (
@@ -88,7 +83,7 @@ fn say_change<S: TextSink>(
             "</h2>\n<p>",
         ),
     );
-    say_change_line(count == 1, 1, unclean, sessions, change, out);
+    say_change_line(count == 1, 1, sessions, change, out);
     say(out, "</p>\n<div class=\"two\">\n");
     let left = Charted {
         log: Log::A,

@@ -4,5 +4,4 @@ use Rattle.trace_pair.proofs.first.say_change.Goals as goal
 pub returns : goal.returns
 returns g c =
     let onward = g.met.S.TextSink.onward in
-    let line = rw (c.is_lossy.ensures, c.is_lossy-2.ensures) at c.say_change_line.ensures in
-    onward _ _ _ _ _ (onward _ _ _ _ _ (onward _ _ _ _ _ (onward _ _ _ _ _ (onward _ _ _ _ _ c.say.ensures line) c.say-2.ensures) c.say_side.ensures) c.say_side-2.ensures) c.say-3.ensures
+    onward _ _ _ _ _ (onward _ _ _ _ _ (onward _ _ _ _ _ (onward _ _ _ _ _ (onward _ _ _ _ _ c.say.ensures c.say_change_line.ensures) c.say-2.ensures) c.say_side.ensures) c.say_side-2.ensures) c.say-3.ensures
