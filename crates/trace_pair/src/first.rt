@@ -28,15 +28,15 @@ pub(crate) fn say_first<S: TextSink>(
     ensures { S.says out.old (Spec.first_text left_name.now right_name.now sessions.entry.left.now sessions.entry.right.now rows.now) out.new }
 {
     if let Some(change) = first_change(rows) {
-        say_change(
-            left_name,
-            right_name,
-            sessions,
-            rows,
-            count_changes(rows),
+        let names = Names {
+            left: &*left_name,
+            right: &*right_name,
+        };
+        let first = First {
             change,
-            out,
-        );
+            count: count_changes(rows),
+        };
+        say_change(names, sessions, rows, first, out);
     }
 }
 
@@ -57,20 +57,33 @@ fn first_change(rows: &[Row]) -> Option<Change>
     None
 }
 
-/// Says a change, which is the first of so many in these rows.
+/// The names of both logs.
+#[derive(Clone, Copy)]
+struct Names<'a> {
+    left: &'a [u8],
+    right: &'a [u8],
+}
+
+/// The first change of rows, and how many they have.
+#[derive(Clone, Copy)]
+struct First {
+    change: Change,
+    count: usize,
+}
+
+/// Says the first change of these rows.
 fn say_change<S: TextSink>(
-    left_name: &[u8],
-    right_name: &[u8],
+    names: Names<'_>,
     sessions: Sessions<'_>,
     rows: &[Row],
-    count: usize,
-    change: Change,
+    first: First,
     out: &mut S,
 )
-    requires small { IsSmall change }
-    requires first { changes_within change.left rows.now ≡ false }
-    ensures { S.says out.old (Spec.first_of count left_name.now right_name.now sessions.entry.left.now sessions.entry.right.now rows.now change) out.new }
+    requires small { IsSmall first.change }
+    requires first { changes_within first.change.left rows.now ≡ false }
+    ensures { S.says out.old (Spec.first_of first.count names.entry.left.now names.entry.right.now sessions.entry.left.now sessions.entry.right.now rows.now first.change) out.new }
 {
+    let First { change, count } = first;
     say(
         out,
         (
@@ -97,8 +110,8 @@ fn say_change<S: TextSink>(
         rows,
         same: change.left,
     };
-    say_side(left, left_name, change.left, sessions.left, out);
-    say_side(right, right_name, change.right, sessions.right, out);
+    say_side(left, names.left, change.left, sessions.left, out);
+    say_side(right, names.right, change.right, sessions.right, out);
     say(out, "</div>\n</section>\n");
 }
 
