@@ -17,6 +17,7 @@ pub mod SaidMessages
 pub mod Collecting
 pub mod SessionScripts
 pub mod WatchScripts
+pub mod CompletedMessages
 pub mod InMemories
 pub mod Hearings
 pub mod CreditLines

@@ -17,7 +17,6 @@
 #![tactic(auto)]
 
 mod hunk_lines;
-mod hunk_rows;
 pub mod in_memory;
 mod labels;
 pub mod laws;

@@ -2,16 +2,16 @@
 ghost use Rattle.std.specs.Prelude.{◌≡◌, ◌+◌, ◌<◌, ◌^◌, length};
 ghost use Rattle.std.specs.List.{flat_map};
 ghost use Rattle.uds_difference.specs.Bound.{bound_for};
-ghost use Rattle.trace_difference.specs.Hunks.{Hunk, hunks};
+ghost use Rattle.shown_rows.specs.Hunks.{Hunk, hunks};
 ghost use Rattle.trace_difference.specs.Unified.{header_text, hunk_text, unified_text};
 ghost use Rattle.trace_difference.specs.proving.HunkOf.{hunk_of};
 
 use crate::hunk_lines::say_lines;
-use crate::hunk_rows::{
-    CONTEXT, changes_within, differs, hunk_length, left_count, left_in, right_count, right_in,
-};
 use crate::labels::Label;
 use crate::written::Side;
+use shown_rows::{
+    CONTEXT, changes_within, differs, hunk_length, left_count, left_in, right_count, right_in,
+};
 use text_parts::{Part, say};
 use trace_io::TextSink;
 use trace_text::{Number, Place};

@@ -1,4 +1,4 @@
--- The style of pages (CSS), which stands in `style/report.css`: one for all logs.
+-- The style of pages (CSS), which stands in `style/report.css` and `style/common.css`: one for all logs.
 use Rattle.std.specs.Prelude.{ℕ, List}
 use Rattle.trace_report.specs.declared.style.TheConstants.{STYLE}
 

@@ -2,19 +2,17 @@
 ghost use Rattle.std.specs.Prelude.{◌≡◌, ◌^◌, ◌<◌, ◌-◌, List, [], ◌∷◌, ◌++◌, length};
 ghost use Rattle.trace_report.specs.Blocks.{blocks_behind, blocks_of};
 ghost use Rattle.trace_report.specs.Chart.{message_text, row_text, rows_text};
-ghost use Rattle.trace_report.specs.Rows.{RowValue};
+ghost use Rattle.trace_report.specs.Rows.{RowValue, row_of};
 ghost use Rattle.trace_report.specs.proving.Following.{IsChartOf, row_if, rows_in};
-ghost use Rattle.trace_report.specs.proving.Pages.{row_of};
 
-use crate::blocks::{Blocks, Opening, begins_exchange, is_brief, no_blocks, one_more_row};
+use crate::block_fronts::Opening;
+use crate::blocks::{Blocks, begins_exchange, is_brief, no_blocks, one_more_row};
 use crate::brief_rows::say_brief_message;
 use crate::follower::NewRows;
-use crate::lost_rows::{say_dropped_row, say_ended_row, say_no_answer_row, say_unfinished_row};
+use crate::lost_rows::say_missing_row;
 use crate::message_rows::say_message_row;
-use crate::roles::MessageRole;
-use crate::row::{MessagePlace, Row};
+use crate::row::{Row, SentMessage};
 use crate::tally::Tally;
-use direction::Dir;
 use text_parts::say;
 use trace_io::TextSink;
 
@@ -82,21 +80,8 @@ fn say_row<S: TextSink>(brief: bool, origin: u64, row: Row<'_>, out: &mut S)
     ensures { S.says out.old (row_text brief origin (row_of row.entry)) out.new }
 {
     match row {
-        Row::Message {
-            role,
-            dir,
-            place,
-            message,
-        } => { say_message(brief, origin, role, dir, place, message, out) }
-        Row::NoAnswer { number, silent } => say_no_answer_row(number, silent, out),
-        Row::Dropped {
-            place,
-            dir,
-            linked,
-            reason,
-        } => { say_dropped_row(linked, origin, place, dir, reason, out) }
-        Row::Ended { place, ended } => say_ended_row(true, origin, place, ended, out),
-        Row::Unfinished { dir, line, len } => say_unfinished_row(true, dir, line, len, out),
+        Row::Message { sent, message } => say_message(brief, origin, sent, message, out),
+        Row::Missing(missing) => say_missing_row(true, origin, missing, out),
     }
 }
 
@@ -104,17 +89,15 @@ fn say_row<S: TextSink>(brief: bool, origin: u64, row: Row<'_>, out: &mut S)
 fn say_message<S: TextSink>(
     brief: bool,
     origin: u64,
-    role: MessageRole,
-    dir: Dir,
-    place: MessagePlace,
+    sent: SentMessage,
     message: &[u8],
     out: &mut S,
 )
-    ensures { S.says out.old (message_text brief origin role dir place message.now) out.new }
+    ensures { S.says out.old (message_text brief origin sent.role sent.dir sent.place message.now) out.new }
 {
     if brief {
-        say_brief_message(origin, role, dir, place, message, out);
+        say_brief_message(origin, sent, message, out);
     } else {
-        say_message_row(origin, role, dir, place, message, out);
+        say_message_row(origin, sent, message, out);
     }
 }

@@ -40,7 +40,7 @@ impl Session {
     }
 
     /// The rows of the session.
-    pub(crate) fn rows(&self) -> &KeptRows
+    pub fn rows(&self) -> &KeptRows
         ensures { result.now ≡ self.now.rows }
     {
         &self.rows
@@ -54,14 +54,14 @@ impl Session {
     }
 
     /// The time of its first frame; 0 where it has none.
-    pub(crate) fn first(&self) -> u64
+    pub fn first(&self) -> u64
         ensures { result ≡ self.now.first }
     {
         first_of(self.times)
     }
 
     /// The time of its last frame; 0 where it has none.
-    pub(crate) fn last(&self) -> u64
+    pub fn last(&self) -> u64
         ensures { result ≡ self.now.last }
     {
         last_of(self.times)

@@ -15,9 +15,10 @@ use Rattle.trace_log.specs.Summing.{is_clean, summary_of}
 use Rattle.trace_log.specs.Trace.{trace}
 use Rattle.trace_log.specs.declared.fault.CompareFault.{CompareFault}
 use Rattle.trace_log.specs.declared.summary.Summary.{Summary}
-use Rattle.trace_report.specs.Kept.{KeepsOne, KeepsTwo, TwoValue, comparison_in}
-use Rattle.trace_report.specs.Laws.{AgreesWithCompare}
+use Rattle.trace_report.specs.Kept.{KeepsOne, KeepsTwo, TwoValue}
 use Rattle.trace_report.specs.Session.{SessionValue, session_of}
+use Rattle.trace_pair.specs.Compared.{comparison_in}
+use Rattle.trace_pair.specs.Laws.{AgreesWithCompare}
 use Rattle.trace_text.specs.declared.notation.Notation.{Notation}
 use Rattle.uds_exchange.specs.Meaning.{ItemValue}
 use Rattle.udsnorm_c.specs.declared.answer.UdsnormAnswer.{UdsnormAnswer}

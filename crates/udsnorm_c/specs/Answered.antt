@@ -17,11 +17,12 @@ use Rattle.trace_difference.specs.declared.in_memory.CountedDifference.{CountedD
 use Rattle.trace_log.specs.Settings.{Settings, Configures}
 use Rattle.trace_log.specs.Summing.{is_clean}
 use Rattle.trace_report.specs.Front.{page_title}
-use Rattle.trace_report.specs.InMemory.{HasNoPairPage, IsPageWith, IsPairPageWith, NeedsMemoryForPage}
-use Rattle.trace_report.specs.PairPage.{pair_title}
-use Rattle.trace_report.specs.declared.in_memory.CountedPage.{CountedPage}
-use Rattle.trace_report.specs.declared.in_memory.NoPairPage.{NoPairPage}
-use Rattle.trace_report.specs.declared.in_memory.NoPairPage.TheVariants.{OfLog, OfMemory}
+use Rattle.trace_report.specs.InMemory.{IsPageWith, NeedsMemoryForPage}
+use Rattle.trace_pair.specs.InMemory.{HasNoPairPage, IsPairPageWith}
+use Rattle.trace_pair.specs.Titles.{title_for}
+use Rattle.trace_pair.specs.declared.in_memory.CountedPage.{CountedPage}
+use Rattle.trace_pair.specs.declared.in_memory.NoPairPage.{NoPairPage}
+use Rattle.trace_pair.specs.declared.in_memory.NoPairPage.TheVariants.{OfLog, OfMemory}
 use Rattle.trace_text.specs.declared.notation.Notation.{Notation}
 use Rattle.udsnorm_c.specs.declared.answer.UdsnormAnswer.{UdsnormAnswer}
 use Rattle.udsnorm_c.specs.Spelled.{identifier_of, list_style, notation_of, put_at_front}
@@ -234,7 +235,7 @@ ReportAnswers limit tester unit max_bytes name log old new answer =
 abbrev pub PairPagePuts : ℕ → List ℕ → List ℕ → List ℕ → List ℕ → List ℕ → List ℕ → UdsnormAnswer → Settings → Type 0
 PairPagePuts limit left_name right_name left right old new answer settings =
     (style : List ℕ) × (told : Result CountedPage NoPairPage)
-    × MatchResult told (λ page. IsPairPageWith (pair_title style left_name right_name settings) limit settings left right page.text.items page.counted) (HasNoPairPage limit settings left right)
+    × MatchResult told (λ page. IsPairPageWith (title_for style left_name right_name settings) limit settings left right page.text.items page.counted) (HasNoPairPage limit settings left right)
     × IsPagePut told old new answer
 
 -- such a page, or why there is none

@@ -4,8 +4,8 @@ use Rattle.trace_report.specs.declared.blocks.Blocks.{Blocks}
 use Rattle.trace_report.specs.declared.row.Row.{Row}
 use Rattle.trace_report.specs.Blocks.{blocks_behind, no_blocks}
 use Rattle.trace_report.specs.Chart.{rows_text}
+use Rattle.trace_report.specs.Rows.{row_of}
 use Rattle.trace_report.specs.proving.Following.{IsChartOf, row_if}
-use Rattle.trace_report.specs.proving.Pages.{row_of}
 use Rattle.trace_report.proofs.RowTexts.{blocks_onward, few_blocks}
 use Rattle.trace_report.proofs.chart.Chart.say_row_if.Goals as goal
 

@@ -1,0 +1,33 @@
+pub mod Pieces
+pub mod Cells
+pub mod LineCells
+mod SeenMarks
+pub mod CountedColumns
+pub mod LastDigits
+pub mod Stretches
+pub mod Tables
+pub mod Standings
+pub mod FoldParts
+pub mod SeenTables
+pub mod WalkedRows
+pub mod ItemPlaces
+mod RowsOnce
+mod RowsWith
+pub mod ChartRows
+pub mod ChangeSteps
+pub mod ListedChanges
+pub mod LossyChanges
+pub mod LossPlaces
+mod LossesOnce
+pub mod LostRows
+pub mod ChartPlaces
+pub mod Asking
+mod Beside
+mod OwnItems
+mod FirstChanges
+mod Agreeing
+mod ChartItems
+mod ToldOutcomes
+mod ComparedChanges
+mod PagesInMemory
+mod PageStyle
