@@ -4,7 +4,7 @@
     tests/documents/documents.py [TEST..]
 
 - the picture of the crates is the one that scripts/draw-crates draws of crates.txt, and names each crate and dependency;
-- the style that the program embeds in a report is that of crates/trace_report/style/report.css;
+- the styles that the program embeds in pages are those of crates/trace_report/style/ and crates/trace_pair/style/;
 - each link of each document to a file of the repository, and to a heading in it, leads somewhere;
 - no line of their prose has more than 120 characters, and each table has a head;
 - the source files that documents name are there;
@@ -53,7 +53,7 @@ from cases import Cases
 TOP = Path(__file__).resolve().parents[2]
 DOCS = TOP / "docs"
 PICTURE = DOCS / "crates.svg"
-STYLE = TOP / "crates/trace_report/src/style.rt"
+STYLES = {"report": TOP / "crates/trace_report/src/style.rt", "pair": TOP / "crates/trace_pair/src/style.rt"}
 ARCHITECTURE = DOCS / "architecture.md"
 DEFINITIONS = DOCS / "definitions.md"
 PROVED = DOCS / "proved.md"
@@ -122,9 +122,10 @@ def picture(cases):
 
 
 def style(cases):
-    written = subprocess.run([TOP / "scripts" / "report-style"], check=True, capture_output=True, timeout=60).stdout
-    wrong = [] if written == STYLE.read_bytes() else [f"run scripts/report-style > {name_of(STYLE)}"]
-    cases.report("the style of a report is that of its file", wrong)
+    for name, path in STYLES.items():
+        written = subprocess.run([TOP / "scripts" / "report-style", name], check=True, capture_output=True, timeout=60).stdout
+        wrong = [] if written == path.read_bytes() else [f"run scripts/report-style {name} > {name_of(path)}"]
+        cases.report(f"the style {name} of a page is that of its file", wrong)
 
 
 def prose(path):

@@ -525,9 +525,9 @@ def explanation(lines):
     return [*told_of(frames), *told, Told(words, {"event": "counts", **counts})]
 
 
-def counts_of(lines):
+def counts_of(lines, sides=SIDES):
     """How many there are of each thing."""
-    frames = trace(lines)
+    frames = trace(lines, sides)
     end = len(frames)
     wrong = [verdict(frames, p) for p in range(end)]
     found = messages(frames)
@@ -542,10 +542,10 @@ def counts_of(lines):
     }
 
 
-def unclean(log):
+def unclean(log, sides=SIDES):
     """What is told of a log that is not clean, and nothing of one that is."""
-    counts = counts_of(cut(log))
-    senders = [entry.direction for entry in trace(cut(log))]
+    counts = counts_of(cut(log), sides)
+    senders = [entry.direction for entry in trace(cut(log), sides)]
     lacking = [f"frame of the {side}" for side in (TESTER, UNIT) if side not in senders]
     lacking += ["line feed at the end"] if log and not log.endswith(b"\n") else []
     if lacking or counts["dropped"] + counts["ended"] + counts["unfinished"]:

@@ -7,6 +7,7 @@ page frame by frame and keeps a few numbers. report_reader.py reads the same fac
 
 import itertools
 import re
+import subprocess
 from collections import Counter, namedtuple
 from pathlib import Path
 
@@ -15,8 +16,8 @@ import oracle
 from oracle import GIBIBYTE, SIDES, TESTER, UNIT, Outcome
 from report_reader import Block, Count, Facts, Link, Look, Row, Verdict, golden_words, read, rows_in
 
-CRATES = Path(__file__).resolve().parents[2] / "crates"
-[STYLE] = [path.read_text() for path in CRATES.glob("*/style/report.css")]
+WRITER = Path(__file__).resolve().parents[2] / "scripts" / "report-style"
+STYLE = subprocess.run([WRITER, "report", "css"], check=True, capture_output=True, text=True, timeout=60).stdout
 
 STANDARD_INPUT = b"standard input"
 

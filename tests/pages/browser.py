@@ -48,10 +48,12 @@ ITEMS = 100_000
 HEADER_ON_PAPER = r"Item +Lines +Time +Tester +Unit"
 ROW_ON_PAPER = r"^ *\d+ +\d+(–\d+)? +\d+\.\d{6} "
 
-# The same of the items of two sessions, of which each row says whether they differ, and the headings above them.
-ITEMS_HEADER_ON_PAPER = r"Item +A +B"
-ITEM_ON_PAPER = r"^ *(same|differs)\b"
-ITEMS_ON_PAPER = r"^ *(Items|Before the difference)$"
+# The same of the items of two sessions, and the heading above them.
+ITEMS_HEADER_ON_PAPER = r"A +B +Item"
+ITEMS_ON_PAPER = r"^ *Items$"
+
+# How many tables of items are open at first, beside those of what is the same.
+OPEN_TABLES = 5
 
 Check = namedtuple("Check", "name pages function")
 
@@ -274,25 +276,57 @@ def has_both_sides_in_their_places(browser, page):
     return wrong
 
 
-def opens_the_items_behind_the_difference(browser, page):
-    """The first table behind it, and no other."""
+def folds_what_is_the_same(browser, page):
+    """And of the other tables those behind the first ones."""
     show(browser, page)
-    states = browser.ask("[...document.querySelectorAll('details.b')].map(block => [block.open, !!(block.compareDocumentPosition(document.getElementById('difference')) & 2)])")
-    wanted = next((at for at, (_, is_behind) in enumerate(states) if is_behind), None)
-    return [] if [at for at, (is_open, _) in enumerate(states) if is_open] == [wanted] else [f"open and behind it: {states}"]
+    folds = ask(browser, "folds()")
+    others = [fold["isOpen"] for fold in folds if not fold["isSame"]]
+    wrong = [f"{fold}" for fold in folds if fold["isSame"] and fold["isOpen"]]
+    return wrong + ([] if others == [at < OPEN_TABLES for at in range(len(others))] else [f"open are {others}"])
 
 
-def is_printed_with_the_verdict_and_each_item(browser, page):
-    """The verdict first, each item, also of a table that is folded, and a header row on each sheet with items."""
+def leaves_the_differences(browser, page):
+    """The box, and without it the same rows as before."""
+    show(browser, page)
+    wanted, before = ask(browser, "rowsThatDiffer()"), ask(browser, "rowsShown()")
+    browser.ask("document.getElementById('apart').focus()")
+    browser.press(["Space"])
+    wrong = [] if rows_in_a_while(browser, wanted) else ["it leaves other rows"]
+    browser.press(["Space"])
+    return wrong + ([] if rows_in_a_while(browser, before) else ["without it others are shown than before"])
+
+
+def rows_in_a_while(browser, wanted):
+    return becomes(browser, f"JSON.stringify(rowsShown()) === {json.dumps(json.dumps(wanted, separators=(',', ':'), ensure_ascii=False))}")
+
+
+def is_printed_with_the_verdict_and_its_rows(browser, page):
+    """The verdict first, each row that no fold of what is the same has, and a header row on each sheet with rows."""
     show(browser, page)
     heading = browser.ask("document.querySelector('#verdict h2').lastChild.textContent.trim()")
-    count = browser.ask("document.querySelectorAll('.pair tbody tr').length")
+    wanted = ask(browser, "rowsOnPaper()")
     printed = text_of_paper(browser.paper())
-    verdict, items = printed.find(heading), re.search(ITEMS_ON_PAPER, printed, re.M)
-    wrong = [] if items and 0 <= verdict < items.start() else ["the verdict is not above the items"]
-    wrong += [] if len(re.findall(ITEM_ON_PAPER, printed, re.M)) == count else [f"not each of the {count} items is there"]
-    with_items = [sheet for sheet in printed.split("\f") if re.search(ITEM_ON_PAPER, sheet, re.M)]
-    return wrong + ["a sheet has no header row" for sheet in with_items if not re.search(ITEMS_HEADER_ON_PAPER, sheet)]
+    verdict = re.search(r"\s+".join(map(re.escape, heading.split())), printed)
+    items = re.search(ITEMS_ON_PAPER, printed, re.M)
+    if not verdict or not items or items.start() < verdict.start():
+        return ["the verdict is not above the items"]
+    places = places_on_paper(printed, items.end(), wanted)
+    wrong = [] if len(places) == len(wanted) else [f"{len(places)} of {len(wanted)} rows are there"]
+    with_rows = {printed.count("\f", 0, place) for place in places}
+    sheets = [sheet for number, sheet in enumerate(printed.split("\f")) if number in with_rows]
+    return wrong + ["a sheet has no header row" for sheet in sheets if not re.search(ITEMS_HEADER_ON_PAPER, sheet)]
+
+
+def places_on_paper(printed, at, rows):
+    """Where rows stand, each behind the one before it, up to the first that doesn't."""
+    places = []
+    for one, other in rows:
+        found = re.compile(rf"^ *{one} +{other}(?= |$)", re.M).search(printed, at)
+        if not found:
+            return places
+        places.append(found.start())
+        at = found.end()
+    return places
 
 
 def text_of_paper(paper):
@@ -344,11 +378,12 @@ PAIR_CHECKS = [
     Check("leads to the difference", DIFFERENT_PAIRS, leads_to_the_difference),
     Check("marks what differs", [PAIR], marks_what_differs),
     Check("has both sides in their places", [*DIFFERENT_PAIRS, SAME, NO_ITEMS], has_both_sides_in_their_places),
-    Check("opens the items behind the difference", DIFFERENT_PAIRS, opens_the_items_behind_the_difference),
-    Check("is printed with the verdict and each item", [LOST, PAIR, SAME], is_printed_with_the_verdict_and_each_item),
+    Check("folds what is the same", [*DIFFERENT_PAIRS, SAME], folds_what_is_the_same),
+    Check("leaves exactly the differences", [PAIR, FOLDED_PAIR], leaves_the_differences),
+    Check("is printed with the verdict and its rows", [LOST, PAIR, SAME], is_printed_with_the_verdict_and_its_rows),
 ]
 
-ON_PAPER = (is_printed_with_the_verdict_first, is_printed_with_the_verdict_and_each_item)
+ON_PAPER = (is_printed_with_the_verdict_first, is_printed_with_the_verdict_and_its_rows)
 
 # What each check has to find where it is put into a page: into its style, or, where it is a tag, behind its style.
 FLAWS = [
@@ -388,9 +423,10 @@ PAIR_FLAWS = [
     (marks_what_differs, PAIR, "mark { display: none; }"),
     (has_both_sides_in_their_places, PAIR, ".two { display: block !important; }"),
     (has_both_sides_in_their_places, PAIR, ".two { grid-template-columns: 1fr 1fr !important; }"),
-    (opens_the_items_behind_the_difference, PAIR, "<details class='b' open></details>"),
-    (is_printed_with_the_verdict_and_each_item, PAIR, "@media print { #verdict { order: 9 !important; } }"),
-    (is_printed_with_the_verdict_and_each_item, PAIR, "@media print { details::details-content { content-visibility: hidden !important; } }"),
+    (leaves_the_differences, PAIR, "main:has(#apart:checked) tr.same { display: table-row !important; }"),
+    (leaves_the_differences, PAIR, "main:has(#apart:checked) tr.d { display: none; }"),
+    (is_printed_with_the_verdict_and_its_rows, PAIR, "@media print { #verdict { display: none; } }"),
+    (is_printed_with_the_verdict_and_its_rows, PAIR, "@media print { tr.d { display: none; } }"),
 ]
 
 
@@ -477,7 +513,7 @@ def opens_many_pairs(browser, page):
     show(browser, page)
     wrong = [f"it asks for {address}" for address in browser.requests()] + [f"it tells {message}" for message in browser.messages()]
     items = ask(browser, "all('.pair tbody tr').length")
-    wrong += [] if items == ITEMS - 1 else [f"it has {items} items beside the one that differs"]
+    wrong += [] if items == ITEMS else [f"it has {items} items"]
     wrong += [] if ask(browser, "verdictIsAbove()") else ["its verdict is not above the items"]
     wrong += [] if ask(browser, "document.documentElement.scrollWidth <= innerWidth") else ["it is too wide"]
     return wrong + ([] if goes_to_the_difference(browser) else ["it does not lead to the difference"])

@@ -6,15 +6,18 @@ const name = (element) => `${element.localName} "${element.textContent.trim().sl
 
 // Places are rounded, so they may be some part of a pixel off.
 function verdictIsAbove() {
-  return box(document.getElementById("verdict")).bottom < box(document.getElementById("session")).top + 1;
+  return box(document.getElementById("verdict")).bottom < box(document.querySelector("#session, #items, #help")).top + 1;
 }
+
+// What is laid in a line has no width of its own, by which it could be too wide.
+const isInLine = (part) => getComputedStyle(part).display === "inline";
 
 // A block that is not drawn yet cuts what is too wide, so that the page itself doesn't get wider.
 function tooWide() {
   const room = document.documentElement.clientWidth;
   const page = document.documentElement.scrollWidth > room ? [`the page has ${document.documentElement.scrollWidth}`] : [];
   const outside = all("body *:not(svg *)").filter((part) => part.checkVisibility() && box(part).right > room + 1);
-  const spilling = all("td, th").filter((cell) => cell.checkVisibility() && cell.scrollWidth > cell.clientWidth + 1);
+  const spilling = all("td, th").filter((cell) => cell.checkVisibility() && !isInLine(cell) && cell.scrollWidth > cell.clientWidth + 1);
   return [...page, ...outside.slice(0, 3).map((part) => `out of ${room}: ${name(part)}`), ...spilling.slice(0, 3).map((cell) => `out of its cell: ${name(cell)}`)];
 }
 
@@ -88,6 +91,17 @@ const exchanges = () => all("#session tbody");
 const firstCell = (exchange) => exchange.querySelector("th, td").textContent.trim();
 const exchangesShown = () => exchanges().filter(isSeen).map(firstCell);
 const exchangesToLookAt = () => exchanges().filter((exchange) => exchange.querySelector(".n, .x, .m, .s")).map(firstCell);
+
+// The rows of the items of two logs, each by its numbers in both: those that are shown, those that are not the same, and those that
+// stand on paper, where folds of what is the same stay folded.
+const rows = () => all("#items .pair tbody tr");
+const numbers = (row) => [...row.children].slice(0, 2).map((cell) => cell.textContent.trim());
+const rowsShown = () => rows().filter(isSeen).map(numbers);
+const rowsThatDiffer = () => rows().filter((row) => row.matches(".d")).map(numbers);
+const rowsOnPaper = () => rows().filter((row) => !row.closest("details.same:not([open])")).map(numbers);
+
+// Of each fold of these whether it is open, and whether it stands in one of what is the same in both logs, or is one.
+const folds = () => all("#items details.b").map((fold) => ({ isOpen: fold.open, isSame: Boolean(fold.closest("details.same")) }));
 
 const blockAround = (identifier) => document.getElementById(identifier).closest("details.b");
 

@@ -126,9 +126,7 @@ def many(count, different=None):
     return told.log()
 
 
-# In `pair_of_kinds`, the item at which the two first differ, the byte of its answer that does, and the lines of the one log that the
-# other has otherwise or lacks.
-DIFFERENT_ITEM, DIFFERENT_BYTE = 11, 63
+# In `pair_of_kinds`, the lines of the one log that the other has otherwise or lacks.
 CHANGED_LINE, LOST_LINE = 195, 207
 
 

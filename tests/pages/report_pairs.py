@@ -3,9 +3,10 @@
 
     tests/pages/report_pairs.py crates/udsnorm/out/udsnorm [TEST..]
 
-Of the sample logs, the logs that tests/rows compares, logs made for one difference each and 300 random ones, each beside a changed
-copy, the page is the oracle's, byte for byte, and says what `compare` says. Then come names of files, options, streams, devices
-and memory. Prints a line for each case and ends with `N passed, M failed`; its status is 1 where a case failed.
+Pages of each kind are those of golden/pairs, byte for byte. Of the sample logs, the logs that tests/rows compares, logs made for one
+difference each and 300 random ones, each beside a changed copy, the page tells what a second reading of both logs finds, and says
+what `compare` says. Then come names of files, options, streams, devices and memory. Prints a line for each case and ends with
+`N passed, M failed`; its status is 1 where a case failed.
 """
 
 import itertools
@@ -19,8 +20,11 @@ from pathlib import Path
 
 sys.path.insert(0, str(Path(__file__).resolve().parents[1] / "helpers"))
 
+import golden_pairs
 import oracle
-import report_oracle
+import pair_facts
+import pair_faults as second_reading
+import pair_reader
 import tables
 from cases import DEVICE, DIFFERENT, DONE, REFUSAL, UNCLEAN, WORDS, Cases
 from oracle import TESTER, UNIT
@@ -39,45 +43,65 @@ TABLES = ["comparisons", "refused_comparisons", "strict_comparisons", "shown_com
 OTHER_REQUEST, OTHER_ANSWER, OTHER_STRAY = "7E0#0322F191", "7E8#0462F19042", "7E8#0142"
 PENDING, KEEP_ALIVE, SILENT, SILENT_ANSWER = "7E8#037F2278", "7E0#023E80", "7E0#021083", "7E8#025003"
 
-# The frames of two sessions that differ in each way, and in words how they do; none where they are the same.
+# The frames of two sessions that differ in each way, in how many places they do, and what kind the first one is of, in words; none where
+# they are the same.
 DIFFERENCES = [
-    ("an item that A lacks", [REQUEST], [REQUEST, OTHER_REQUEST], "A has no item of this number: its session ends before it."),
-    ("an item that B lacks", [REQUEST, ANSWER, STRAY], [REQUEST, ANSWER], "B has no item of this number: its session ends before it."),
-    ("no item in A", [], [STRAY], "A has no item of this number: its session ends before it."),
-    ("no item in B", [REQUEST], ["123#00"], "B has no item of this number: its session ends before it."),
-    ("no item in A, whose frame is dropped", [UNKNOWN], [STRAY], "A has no item of this number: its session ends before it."),
-    ("frames that are dropped at the end of B", [REQUEST, ANSWER, STRAY], [REQUEST, ANSWER, UNKNOWN], "B has no item of this number: its session ends before it."),
-    ("an exchange in A, a stray of the unit in B", [REQUEST], [STRAY], "It is an exchange in A and a stray message in B."),
-    ("an exchange in B, a keep-alive in A", [KEEP_ALIVE], [REQUEST], "It is an exchange in B and a stray message in A."),
-    ("an exchange in B, a stray in A, of the same bytes", ["7E8#0322F190"], [REQUEST], "It is an exchange in B and a stray message in A."),
-    ("a stray of either side", ["7E0#026201"], ["7E8#026201"], "The stray message is from the tester in A and from the other side in B."),
-    ("a keep-alive of either side", ["7E8#023E80"], [KEEP_ALIVE], "The stray message is from the unit in A and from the other side in B."),
-    ("a keep-alive and a stray of the tester", [KEEP_ALIVE], ["7E0#026201"], "The stray messages differ first at byte 1: <b>3E</b> in A, <b>62</b> in B."),
-    ("other requests", [REQUEST, ANSWER], [OTHER_REQUEST, ANSWER], "The requests differ first at byte 3: <b>90</b> in A, <b>91</b> in B."),
-    ("requests of other services", [REQUEST], ["7E0#021003"], "The requests differ first at byte 1: <b>22</b> in A, <b>10</b> in B."),
-    ("a request that is the front of the other", ["7E0#0222F1"], [REQUEST], "The requests differ first at byte 3: <b>its end</b> in A, <b>90</b> in B."),
-    ("a request behind the front that the other is", [REQUEST], ["7E0#0122"], "The requests differ first at byte 2: <b>F1</b> in A, <b>its end</b> in B."),
-    ("other strays", [STRAY], [OTHER_STRAY], "The stray messages differ first at byte 1: <b>41</b> in A, <b>42</b> in B."),
-    ("a stray that is the front of the other", [STRAY], ["7E8#0241FF"], "The stray messages differ first at byte 2: <b>its end</b> in A, <b>FF</b> in B."),
-    ("strays behind an exchange", [REQUEST, ANSWER, STRAY], [REQUEST, ANSWER, OTHER_STRAY], "The stray messages differ first at byte 1: <b>41</b> in A, <b>42</b> in B."),
-    ("strays behind an exchange, and another behind that", [REQUEST, ANSWER, STRAY, REQUEST], [REQUEST, ANSWER, OTHER_STRAY, REQUEST], "The stray messages differ first at byte 1: <b>41</b> in A, <b>42</b> in B."),
-    ("the second of two strays", [STRAY, STRAY, REQUEST], [STRAY, OTHER_STRAY, REQUEST], "The stray messages differ first at byte 1: <b>41</b> in A, <b>42</b> in B."),
-    ("no answer in A", [REQUEST], [REQUEST, ANSWER], "It is answered in B and not in A."),
-    ("no answer in B", [REQUEST, REFUSED, STRAY], [REQUEST, REQUEST], "It is answered in A and not in B."),
-    ("a lost frame in B", [REQUEST, FIRST, "7E8#2133413543353045", "7E8#2246313233343536"], [REQUEST, FIRST, OUT_OF_ORDER[:4] + "2246313233343536"], "It is answered in A and not in B."),
-    ("an answer to what asked for none", [SILENT], [SILENT, SILENT_ANSWER], "It is answered in B and not in A."),
-    ("a pending reply alone", [REQUEST, PENDING], [REQUEST, PENDING, ANSWER], "It is answered in B and not in A."),
-    ("other answers", [REQUEST, ANSWER], [REQUEST, OTHER_ANSWER], "The answers differ first at byte 4: <b>41</b> in A, <b>42</b> in B."),
-    ("a positive answer and a negative one", [REQUEST, ANSWER], [REQUEST, REFUSED], "The answers differ first at byte 1: <b>62</b> in A, <b>7F</b> in B."),
-    ("other response codes", [REQUEST, "7E8#037F2299"], [REQUEST, REFUSED], "The answers differ first at byte 3: <b>99</b> in A, <b>31</b> in B."),
-    ("an answer that is the front of the other", [REQUEST, ANSWER], [REQUEST, "7E8#0362F190"], "The answers differ first at byte 4: <b>41</b> in A, <b>its end</b> in B."),
-    ("other answers behind pending replies", [REQUEST, PENDING, ANSWER], [REQUEST, PENDING, PENDING, OTHER_ANSWER], "The answers differ first at byte 4: <b>41</b> in A, <b>42</b> in B."),
+    ("an item that A lacks", [REQUEST], [REQUEST, OTHER_REQUEST], (1, "only in B", "ReadDataByIdentifier 22 F1 91: without an answer")),
+    ("an item that B lacks", [REQUEST, ANSWER, STRAY], [REQUEST, ANSWER], (1, "only in A", "stray from the unit 41")),
+    ("no item in A", [], [STRAY], (1, "only in B", "stray from the unit 41")),
+    ("no item in B", [REQUEST], ["123#00"], (1, "only in A", "ReadDataByIdentifier 22 F1 90: without an answer")),
+    ("no item in A, whose frame is dropped", [UNKNOWN], [STRAY], (1, "only in B", "stray from the unit 41")),
+    ("frames that are dropped at the end of B", [REQUEST, ANSWER, STRAY], [REQUEST, ANSWER, UNKNOWN], (1, "only in A", "stray from the unit 41")),
+    ("an exchange in A, a stray of the unit in B", [REQUEST], [STRAY], (2, "only in A", "ReadDataByIdentifier 22 F1 90: without an answer")),
+    ("an exchange in B, a keep-alive in A", [KEEP_ALIVE], [REQUEST], (2, "only in A", "keep-alive 3E 80")),
+    ("an exchange in B, a stray in A, of the same bytes", ["7E8#0322F190"], [REQUEST], (2, "only in A", "stray from the unit 22 F1 90")),
+    ("a stray of either side", ["7E0#026201"], ["7E8#026201"], (2, "only in A", "stray from the tester 62 01")),
+    ("a keep-alive of either side", ["7E8#023E80"], [KEEP_ALIVE], (2, "only in A", "stray from the unit 3E 80")),
+    ("a keep-alive and a stray of the tester", [KEEP_ALIVE], ["7E0#026201"], (2, "only in A", "keep-alive 3E 80")),
+    ("other requests", [REQUEST, ANSWER], [OTHER_REQUEST, ANSWER], (1, "changed", "ReadDataByIdentifier 22 F1 90: request byte 3: 90 in A, 91 in B")),
+    ("requests of other services", [REQUEST], ["7E0#021003"], (2, "only in A", "ReadDataByIdentifier 22 F1 90: without an answer")),
+    ("a request that is the front of the other", ["7E0#0222F1"], [REQUEST], (1, "changed", "ReadDataByIdentifier 22 F1: request: byte 3 only in B: 90; 2 bytes in A, 3 in B")),
+    ("a request behind the front that the other is", [REQUEST], ["7E0#0122"], (1, "changed", "ReadDataByIdentifier 22 F1 90: request: 2 bytes only in A, from byte 2 on: F1 90; 3 bytes in A, 1 in B")),
+    ("other strays", [STRAY], [OTHER_STRAY], (2, "only in A", "stray from the unit 41")),
+    ("a stray that is the front of the other", [STRAY], ["7E8#0241FF"], (1, "changed", "stray from the unit 41: message: byte 2 only in B: FF; 1 byte in A, 2 in B")),
+    ("strays behind an exchange", [REQUEST, ANSWER, STRAY], [REQUEST, ANSWER, OTHER_STRAY], (2, "only in A", "stray from the unit 41")),
+    ("strays behind an exchange, and another behind that", [REQUEST, ANSWER, STRAY, REQUEST], [REQUEST, ANSWER, OTHER_STRAY, REQUEST], (2, "only in A", "stray from the unit 41")),
+    ("the second of two strays", [STRAY, STRAY, REQUEST], [STRAY, OTHER_STRAY, REQUEST], (2, "only in A", "stray from the unit 41")),
+    ("no answer in A", [REQUEST], [REQUEST, ANSWER], (1, "changed", "ReadDataByIdentifier 22 F1 90: without an answer in A, positive in B")),
+    ("no answer in B", [REQUEST, REFUSED, STRAY], [REQUEST, REQUEST], (3, "changed", "ReadDataByIdentifier 22 F1 90: refused with requestOutOfRange in A, without an answer in B")),
+    ("a lost frame in B", [REQUEST, FIRST, "7E8#2133413543353045", "7E8#2246313233343536"], [REQUEST, FIRST, OUT_OF_ORDER[:4] + "2246313233343536"], (1, "changed", "ReadDataByIdentifier 22 F1 90: positive in A, without an answer in B")),
+    ("an answer to what asked for none", [SILENT], [SILENT, SILENT_ANSWER], (1, "changed", "DiagnosticSessionControl 10 83: silent in A, as the request asks; positive in B")),
+    ("a pending reply alone", [REQUEST, PENDING], [REQUEST, PENDING, ANSWER], (1, "changed", "ReadDataByIdentifier 22 F1 90: without an answer in A, positive in B")),
+    ("other answers", [REQUEST, ANSWER], [REQUEST, OTHER_ANSWER], (1, "changed", "ReadDataByIdentifier 22 F1 90: answer byte 4: 41 in A, 42 in B")),
+    ("a positive answer and a negative one", [REQUEST, ANSWER], [REQUEST, REFUSED], (1, "changed", "ReadDataByIdentifier 22 F1 90: positive in A, refused with requestOutOfRange in B")),
+    ("other response codes", [REQUEST, "7E8#037F2299"], [REQUEST, REFUSED], (1, "changed", "ReadDataByIdentifier 22 F1 90: refused with code_99 in A, with requestOutOfRange in B")),
+    ("an answer that is the front of the other", [REQUEST, ANSWER], [REQUEST, "7E8#0362F190"], (1, "changed", "ReadDataByIdentifier 22 F1 90: answer: byte 4 only in A: 41; 4 bytes in A, 3 in B")),
+    ("other answers behind pending replies", [REQUEST, PENDING, ANSWER], [REQUEST, PENDING, PENDING, OTHER_ANSWER], (1, "changed", "ReadDataByIdentifier 22 F1 90: answer byte 4: 41 in A, 42 in B")),
     ("an answer before and behind a keep-alive", [REQUEST, KEEP_ALIVE, ANSWER], [REQUEST, ANSWER, KEEP_ALIVE], None),
-    ("other answers behind a stray of their number before", [STRAY, REQUEST, ANSWER, REQUEST], [STRAY, REQUEST, OTHER_ANSWER, REQUEST], "The answers differ first at byte 4: <b>41</b> in A, <b>42</b> in B."),
+    ("other answers behind a stray of their number before", [STRAY, REQUEST, ANSWER, REQUEST], [STRAY, REQUEST, OTHER_ANSWER, REQUEST], (1, "changed", "ReadDataByIdentifier 22 F1 90: answer byte 4: 41 in A, 42 in B")),
     ("no item and no item", [], ["123#00"], None),
     ("frames that are dropped", [REQUEST, ANSWER], [REQUEST, UNKNOWN, ANSWER, FIRST], None),
     ("no answer in both", [REQUEST], [REQUEST], None),
     ("silence in both", [SILENT, KEEP_ALIVE], [SILENT, KEEP_ALIVE], None),
+    ("as many frames that are dropped as are told of an item", [REQUEST, *20 * [UNKNOWN]], [REQUEST], None),
+    ("more than that", [REQUEST], [REQUEST, *21 * [UNKNOWN], FIRST], None),
+    ("more than that before any item", [*22 * [UNKNOWN], REQUEST], [REQUEST], None),
+    ("more than that, and no item", [*22 * [UNKNOWN]], [STRAY], (1, "only in B", "stray from the unit 41")),
+    ("more than that, and no item in both", [FIRST, *23 * [UNKNOWN]], [*20 * [UNKNOWN]], None),
+]
+
+# Faults, each as a text of a page of golden/pairs and what stands in its place.
+PLANTED = [
+    ("a log that is not clean is called clean", "none_in_a", r'<b class="bd">not clean:</b> <em>[^<]*</em>', "clean"),
+    ("an item too many", "none_in_a", r"clean<td>30<td>", "clean<td>31<td>"),
+    ("another day", "request_changed", r"2023-11-14", "2023-11-15"),
+    ("another length", "request_changed", r"<td>0\.039000", "<td>0.038000"),
+    ("a bound that was not passed", "request_changed", r'<table class="recs">', '<p>Perhaps not the shortest: more than 2000 items would be removed or added.</p>\n\\g<0>'),
+    ("a loss of an item", "request_changed", r'(?<=<tr class="d ch)(.*)\n', '\\1<p class="lost"><span class="who">A</span> line 1: <b>dropped</b></p>\n'),
+    ("a loss above the items", "none_in_a", r"<h2>Items</h2>\n", '\\g<0><p class="lost"><span class="who">A</span> line 1: <b>dropped</b></p>'),
+    ("a loss of a fold", "request_changed", r"</i></summary>", '</i> <em class="loss">1 dropped, ended or unfinished in B</em></summary>'),
+    ("a mark of a byte that is the same", "request_changed", r'(?s)(<section id="items".*?<div class="hx">.*?<code>)22', "\\1<mark>22</mark>"),
+    ("a folded byte that differs", "bytes_put_in", r'(?s)(<section id="items".*?bytes more, )the same', "\\g<1>1 of them differs"),
 ]
 
 # The other frames of the message that FIRST begins.
@@ -133,8 +157,10 @@ REFUSED_BY_COMPARE = [
     ("a message that announces too much", LONG_ANNOUNCEMENT, None, 1, oversize(2, 0x100000)),
 ]
 
-# The most memory that a row of a log may take, with the bytes of its short message, and the number of items for which it is measured.
+# The most memory that a row of a log may take, with the bytes of its short message; what an item may take beside, while it is looked
+# for what stands beside what: its key of 40 bytes, its edit and its row; and the number of items for which it is measured.
 BYTES_OF_A_ROW = 170
+BYTES_BESIDE = 42
 MEASURED_ITEMS = 100_000
 
 # Elements whose end tags HTML lets out, and those that have none.
@@ -151,22 +177,41 @@ def pages(cases):
         cases.report(name, wrong + ([f"the logs {left!r} and {right!r}"] if wrong and len(left + right) < 2000 else []))
 
 
+def golden(cases):
+    """The pages of golden/pairs are written as they stand there, and tell what a second reading of their logs does."""
+    for name, told in golden_pairs.NAMES.items():
+        page, path = golden_pairs.page_of(cases.program, name), golden_pairs.PAIRS / f"{name}.html"
+        wrong = first_difference("line", page.split("\n"), path.read_text().split("\n"))
+        cases.report(f"golden/pairs/{path.name}: {told}", wrong + second_reading.told_otherwise(page, pair_facts.came_of(*golden_pairs.logs(name))))
+    names = {f"{name}.html" for name in golden_pairs.NAMES}
+    cases.report("golden/pairs has no other page", differences("its pages", {path.name for path in golden_pairs.PAIRS.glob("*.html")}, names))
+
+
+def planted(cases):
+    """A second reading finds each fault that is put into a page."""
+    for what, name, old, new in PLANTED:
+        page, came = (golden_pairs.PAIRS / f"{name}.html").read_text(), pair_facts.came_of(*golden_pairs.logs(name))
+        changed, count = re.subn(old, new, page, count=1)
+        found = set(second_reading.told_otherwise(changed, came)) - set(second_reading.told_otherwise(page, came))
+        cases.report(f"planted: {what}", ([] if count else [f"no {old!r} in golden/pairs/{name}.html"]) + ([] if found else ["it is not found"]))
+
+
 def pair_faults(cases, left, right, sides=oracle.SIDES, limit=None, is_strict=False):
     words = [word for side in (TESTER, UNIT) for word in (f"--{side}", sides[side])]
     words += (["--limit", str(limit)] if limit else []) + (["--strict"] if is_strict else [])
     with files(left, right) as names:
         found, compared = (cases.run([job, *words, *names]) for job in ("report", "compare"))
-    came = report_oracle.pair_reported(left, right, limit or oracle.GIBIBYTE, sides, is_strict=is_strict)
-    return page_differences(found, came) + page_faults(found.output) + compared_otherwise(found, compared)
+    came = pair_facts.came_of(left, right, limit or oracle.GIBIBYTE, sides, is_strict)
+    return told_otherwise(found, came) + page_faults(found.output) + compared_otherwise(found, compared)
 
 
-def page_differences(found, came):
-    """How a run of the program differs from what the oracle says; of a page the first line that does."""
+def told_otherwise(found, came):
+    """How a run of the program differs from what two logs come to, and its page from what it has to tell."""
     fault = f"{came.fault}\n".encode() if came.fault else b""
     return [
         *differences("status", found.status, came.status),
         *differences("error output", found.error, fault),
-        *first_difference("line of the page", *(page.decode().split("\n") for page in (found.output, came.written))),
+        *second_reading.told_otherwise(found.output.decode(), came),
     ]
 
 
@@ -181,20 +226,15 @@ def compared_otherwise(found, compared):
 
 
 def verdict_of(page):
-    """The verdict of a page, as `compare` says it."""
-    item = re.search(rb"</span> The two sessions differ, first at item (\d+)</h2>", page)
-    if item:
-        return b"different at item %s\n" % item[1]
-    same = (
-        b"</span> The two sessions are the same</h2>", b"</span> The two sessions are the same, but tester and unit look exchanged</h2>",
-        b"</span> Neither session has an item</h2>",
-    )
-    return b"same\n" if any(words in page for words in same) else b""
+    """The verdict of a page, as `compare` says it: the first row that is not the same stands at the first item that differs."""
+    rows = pair_reader.read(page.decode()).rows
+    first = next((place for place, row in enumerate(rows, 1) if row.kind != "same"), None)
+    return b"different at item %d\n" % first if first else b"same\n"
 
 
 def page_faults(page):
     """What is wrong with the text of any page of two logs whose names are harmless."""
-    return text_faults(page) + form_faults(page)
+    return text_faults(page) + second_reading.text_faults(page.decode()) + form_faults(page)
 
 
 def form_faults(page):
@@ -204,7 +244,7 @@ def form_faults(page):
     wrong = [*reader.wrong]
     wrong += [] if page.endswith(b'<p id="end">End of the report.</p>\n</body>\n</html>\n') else ["it has no end"]
     wrong += [f"{element} is open at the end" for element in reader.inside]
-    return wrong + [f"{identifier} is not there" for identifier in ("verdict", "session", "help", "cut") if identifier not in reader.identifiers]
+    return wrong + [f"{identifier} is not there" for identifier in ("verdict", "items", "help", "cut") if identifier not in reader.identifiers]
 
 
 class Reader(HTMLParser):
@@ -364,13 +404,14 @@ def with_other_digit(rng, line):
 
 
 def told_differences(cases):
-    """How items differ is told in the words that are known, above and where it is shown; and there is nothing where they don't."""
-    for name, left, right, words in DIFFERENCES:
+    """How items differ is told in the words that are known; and no difference is told where there is none."""
+    for name, left, right, told in DIFFERENCES:
         with files(log_of(*left), log_of(*right)) as names:
-            page = cases.run(["report", *names]).output.decode()
-        texts = [f"<p>{words} <a href=\"#difference\">See it.</a>", f", the first difference</h2>\n<p>{words}</p>\n"] if words else []
-        wrong = [f"{text!r} is not there" for text in texts if text not in page]
-        wrong += differences("that there is a difference", '<section id="difference">' in page, words is not None)
+            page = pair_reader.read(cases.run(["report", *names]).output.decode())
+        count, tag, words = told or (0, None, None)
+        counted = page.heading.split(":")[0]
+        wrong = differences("the heading", counted, f"{count} difference{'' if count == 1 else 's'}") if told else []
+        wrong += differences("the first difference", (page.first.tag, page.first.words) if page.first else (None, None), (tag, words))
         cases.report(f"{name}: {words}", wrong)
 
 
@@ -379,51 +420,65 @@ def known_texts(cases):
     long, other = bytes(range(100)), bytes(range(99)) + b"\xFF"
     for name, left, right, texts in [
         ("other answers", log_of(REQUEST, ANSWER), log_of(REQUEST, OTHER_ANSWER), [
-            "<code>62 F1 90 <mark>41</mark></code> <i>after 1.000&#160;ms</i>",
-            "<code>62 F1 90 <mark>42</mark></code> <i>after 1.000&#160;ms</i>",
-            "<h2>Before the difference</h2>\n<p>Nothing: the first item differs.</p>\n",
+            '<h2><span aria-hidden="true">&#8800;</span> 1 difference: 1 item changed</h2>\n<p>No item is the same. <a href="#difference">See it.</a></p>\n',
+            '<p><i></i> <span class="who">A</span> <code>62 F1 90 <mark>41</mark></code>',
+            '<p><i></i> <span class="who">B</span> <code>62 F1 90 <mark>42</mark></code>',
             "<title>left.log and right.log - udsnorm report</title>",
         ]),
         ("a byte behind the 64th", strays(long), strays(other), [
-            "<i>behind 83 bytes:</i> <code>53 54 55 56 57 58 59 5A 5B 5C 5D 5E 5F 60 61 62 <mark>63</mark></code>",
-            "<i>behind 83 bytes:</i> <code>53 54 55 56 57 58 59 5A 5B 5C 5D 5E 5F 60 61 62 <mark>FF</mark></code>",
-            "The stray messages differ first at byte 100: <b>63</b> in A, <b>FF</b> in B.",
+            "<code>60 61 62 <mark>63</mark></code>",
+            "<code>60 61 62 <mark>FF</mark></code>",
+            "<summary>80 bytes more, the same</summary>",
+            "message byte 100: <b>63</b> in A, <b>FF</b> in B",
         ]),
         ("an end", strays(long[:40]), strays(long), [
-            "24 25 26 27 <mark>end</mark></code>",
-            "<i>behind 24 bytes:</i> <code>18 19 1A",
-            " 36 37</code> <i>44 bytes more, not shown</i>",
-            "The stray messages differ first at byte 41: <b>its end</b> in A, <b>28</b> in B.",
+            "message: 60 bytes only in B, from byte 41 on: <b>28 29 2A 2B 2C 2D 2E 2F</b> and 52 more; 40 bytes in A, 100 in B",
+            "<code>20 21 22 23 24 25 26 27 <mark>-- -- -- -- -- -- -- --</mark></code>",
+            "<code><mark>no byte</mark></code>",
         ]),
         ("an item that is the same", log_of(REQUEST, ANSWER), log_of("123#00", REQUEST, PENDING, ANSWER), [
-            "<p>Items: 1. Each is equal in both, byte for byte",
-            "<i>A: lines 1&#8211;2, 0.000000&#160;s, after 1.000&#160;ms</i><i>B: lines 2&#8211;4, 0.000000&#160;s, after 2.000&#160;ms</i>",
-            '<details class="b">\n<summary>From item 1</summary>\n',
-        ]),
-        ("an answer that begins before its request", log_of(FIRST, REQUEST, NEXT, LAST), log_of(REQUEST, FIRST, NEXT, LAST), [
-            "<p>Items: 1. Each is equal in both, byte for byte",
-            "<i>A: lines 1&#8211;4, 0.001000&#160;s, ",
-            "<i>B: lines 1&#8211;4, 0.000000&#160;s, ",
-        ]),
-        ("an answer that begins before its request, among other lines", log_of(STRAY, "123#00", FIRST, "123#00", REQUEST, NEXT, "123#00", LAST), log_of(OTHER_STRAY, STRAY), [
-            "<br><i>A: lines 3&#8211;8, 0.004000&#160;s, ",
-            "<br><i>B: line 2, 0.001000&#160;s</i>",
+            "</span> The two sessions are the same</h2>\n<p>One item is equal in both, byte for byte.</p>\n",
+            "<b>1 item, the same</b> <i>A&#160;1, B&#160;1</i>",
         ]),
         ("no item and no item, whose frame is dropped", b"", log_of(UNKNOWN), [
             '<section id="verdict" class="warn">\n<h2><span aria-hidden="true">!</span> Neither session has an item</h2>\n<p>So they can\'t differ.',
-            "<b>The recording is not clean:</b> <em>frames 0 dropped 0 ended 0 unfinished 0, no frame of the tester, no frame of the unit.</em> The log is empty: it has no line.</p>",
-            "<b>The recording is not clean:</b> <em>frames 1 dropped 1 ended 0 unfinished 0, no frame of the tester.</em> Frames are missing,",
-            "<h2>Items</h2>\n</main>\n",
         ]),
         ("an item more", log_of(REQUEST), log_of(REQUEST, SILENT, STRAY), [
-            '<tr class="d"><th scope="row">3 <i>differs</i><td><i>no item</i><td><b>stray</b> <i>from the unit</i> <code>41</code>',
-            '<details class="b" open>\n<summary>From item 3</summary>\n',
-            "<b>silent</b> <i>item 2 asked for no positive answer</i>",
+            "1 difference: 2 items only in B</h2>\n<p><b>1</b> item is the same.",
+            '<b class="tag">only in B</b> <span class="what">2 items, from ',
+        ]),
+        ("a session that is not clean", log_of(REQUEST, ANSWER), log_of(REQUEST, ANSWER, UNKNOWN), [
+            "</span> The two sessions are the same as far as they are recorded: B is not clean</h2>",
+        ]),
+        ("no request", log_of(STRAY), log_of(STRAY), [
+            "</span> The two sessions are the same as far as they are recorded: neither is clean, and neither has a request</h2>",
         ]),
     ]:
         with files(left, right) as names:
             page = cases.run(["report", *names]).output.decode()
         cases.report(f"what is known of {name}", [f"{text!r} is not there" for text in texts if text not in page])
+
+
+def known_notes(cases):
+    """A page says that there may be a shorter difference exactly where the bound was passed up to which one is looked for, and how many rows
+    it has exactly where these are more than 100,000."""
+    for count, is_passed in ((1000, False), (1001, True)):
+        left, right = (log_of(*(frame for number in range(count) for frame in answered(number, byte))) for byte in ("01", "02"))
+        note = "<p>Perhaps not the shortest: more than 2000 items would be removed or added.</p>\n"
+        cases.report(f"{count} answers that differ", noted_otherwise(cases, left, right, note, is_passed))
+    for count, is_large in ((100_000, False), (100_001, True)):
+        log = count * log_of(STRAY)
+        cases.report(f"{count} rows", noted_otherwise(cases, log, log, f"<p>This page has {count} rows. ", is_large))
+
+
+def answered(number, byte):
+    return f"7E0#0322{number:04X}", f"7E8#0462{number:04X}{byte}"
+
+
+def noted_otherwise(cases, left, right, note, is_noted):
+    with files(left, right) as names:
+        page = cases.run(["report", *names]).output.decode()
+    return [] if (note in page) == is_noted else [f"{note!r} is {'not ' if is_noted else ''}there"]
 
 
 def strays(*messages):
@@ -449,7 +504,8 @@ def refused_by_compare(cases):
         words = ["--limit", str(limit)] if limit else []
         with files(log, log) as names:
             found, strict, compared = (cases.run([*job, *words, *names]) for job in (["report"], ["report", "--strict"], ["compare"]))
-        text = f"</span> The two sessions are the same</h2>\n<p>Items: {items}. Each is equal in both, byte for byte.</p>\n"
+        equal = "One item" if items == 1 else f"Each of the {items} items"
+        text = f"</span> The two sessions are the same as far as they are recorded: neither is clean</h2>\n<p>{equal} is equal in both, byte for byte.</p>\n"
         wrong = differences("how it ends", (found.status, found.error), (DONE, b""))
         wrong += differences("how it ends where it has to be clean", (strict.status, strict.output), (UNCLEAN, found.output))
         wrong += differences("how `compare` ends", (compared.status, compared.error), (REFUSAL, b"left: " + told))
@@ -479,12 +535,10 @@ def name_faults(cases, words, folder):
     paths = words[-2:]
     found = cases.run(["report", *words], cwd=folder)
     given = [last_part(os.fsencode(path)) for path in paths]
-    shown = [NAMES[path.removeprefix(f"{folder}/")] for path in paths]
-    if given[0] == given[1]:
-        given, shown = [path.encode() for path in paths], paths
+    shown = paths if given[0] == given[1] else [NAMES[path.removeprefix(f"{folder}/")] for path in paths]
     texts = [f"<title>{shown[0]} and {shown[1]} - udsnorm report</title>\n"]
     texts += [f'<span class="who">{letter}</span> {name}{end}' for letter, name in zip("AB", shown) for end in ("<", "</h3>\n")]
-    wrong = page_differences(found, report_oracle.pair_reported(VIN, VIN, names=given)) + form_faults(found.output)
+    wrong = told_otherwise(found, pair_facts.came_of(VIN, VIN)) + form_faults(found.output)
     wrong += [f"{text!r} is not there" for text in texts if text.encode() not in found.output]
     return wrong + (["it has a script"] if b"<script" in found.output else [])
 
@@ -502,7 +556,7 @@ def options(cases):
             (["--limit", f"{len(VIN) - 1}", left, right], oracle.SIDES, len(VIN) - 1),
         ]:
             found = cases.run(["report", *words])
-            wrong = page_differences(found, report_oracle.pair_reported(VIN, TWO, limit, sides))
+            wrong = told_otherwise(found, pair_facts.came_of(VIN, TWO, limit, sides))
             cases.report(f"report {' '.join(words)}", wrong + compared_otherwise(found, cases.run(["compare", *words])))
         for words in [*([*wrong, left, right] for wrong in WRONG_VALUES), [left, right, left], ["--show", left, right]]:
             found = cases.run(["report", *words])
@@ -534,7 +588,7 @@ def streams(cases):
     with open(EXAMPLES / "vin.log", "rb") as file, open("/dev/null", "rb") as nothing:
         for name, stream, log in [("one file", file, VIN), ("/dev/null", nothing, b"")]:
             found = cases.run(["report", "/dev/stdin", "/dev/fd/0"], stdin=stream)
-            cases.report(f"{name} for both logs", page_differences(found, report_oracle.pair_reported(log, log, names=(b"stdin", b"0"))))
+            cases.report(f"{name} for both logs", told_otherwise(found, pair_facts.came_of(log, log)) + unnamed(found, "stdin", "0"))
     for name, (ours, theirs) in [("pipe", os.pipe()[::-1]), ("terminal", os.openpty())]:
         os.write(ours, VIN)
         found = cases.run(["report", "/dev/stdin", "/dev/stdin"], stdin=theirs)
@@ -545,9 +599,15 @@ def streams(cases):
         os.close(theirs)
     with files(VIN, TWO) as (left, _):
         found = cases.run(["report", left, "/dev/stdin"], TWO)
-        cases.report("a file, and a pipe", page_differences(found, report_oracle.pair_reported(VIN, TWO, names=(b"left.log", b"stdin"))))
+        cases.report("a file, and a pipe", told_otherwise(found, pair_facts.came_of(VIN, TWO)) + unnamed(found, "left.log", "stdin"))
         found = cases.run(["report", "/dev/stdin", left], TWO)
-        cases.report("a pipe, and a file", page_differences(found, report_oracle.pair_reported(TWO, VIN, names=(b"stdin", b"left.log"))))
+        cases.report("a pipe, and a file", told_otherwise(found, pair_facts.came_of(TWO, VIN)) + unnamed(found, "stdin", "left.log"))
+
+
+def unnamed(found, left, right):
+    """Whether a page has no such title."""
+    text = f"<title>{left} and {right} - udsnorm report</title>\n"
+    return [] if text.encode() in found.output else [f"{text!r} is not there"]
 
 
 def devices(cases):
@@ -575,14 +635,19 @@ def devices(cases):
 
 
 def memory(cases):
-    """The rows of both sessions are held, and the page is not."""
+    """The rows of both sessions are held, and what stands beside what, and the page is not."""
     with files(b"", b"") as (left, right):
         least, _ = peak_of_page(cases.program, ["report", left, right])
-    for name, frames, rows in [("exchanges", [REQUEST, ANSWER], 2), ("requests", [REQUEST], 2), ("strays", [STRAY], 1), ("dropped frames", [UNKNOWN], 1)]:
+    for name, frames, rows, items in [
+        ("exchanges", [REQUEST, ANSWER], 2, 1),
+        ("requests", [REQUEST], 2, 1),
+        ("strays", [STRAY], 1, 1),
+        ("dropped frames", [UNKNOWN], 1, 0),
+    ]:
         log = MEASURED_ITEMS * log_of(*frames)
         with files(log, log) as (left, right):
             kilobytes, status = peak_of_page(cases.program, ["report", left, right])
-        most = least + 2 * MEASURED_ITEMS * rows * BYTES_OF_A_ROW // 1024
+        most = least + 2 * MEASURED_ITEMS * (rows * BYTES_OF_A_ROW + items * BYTES_BESIDE) // 1024
         wrong = differences("status", status, DONE)
         wrong += [] if kilobytes <= most else [f"more than {most} kB"]
         cases.report(f"a page of twice {MEASURED_ITEMS} {name}: {kilobytes} kB", wrong)
@@ -602,7 +667,7 @@ def main():
     if len(sys.argv) < 2:
         sys.exit(__doc__)
     cases = Cases(os.path.abspath(sys.argv[1]), sys.argv[2:])
-    cases.each([pages, told_differences, known_texts, refused_logs, refused_by_compare, names, options, strict_runs, streams, devices, memory])
+    cases.each([golden, planted, pages, told_differences, known_texts, known_notes, refused_logs, refused_by_compare, names, options, strict_runs, streams, devices, memory])
     cases.end()
 
 

@@ -4,8 +4,9 @@ import errno
 import itertools
 from functools import partial
 
+import pair_facts
+import pair_faults
 import report_facts
-import report_oracle
 from cases import DEVICE, DIFFERENT, DONE, REFUSAL
 from counts import counts_line
 from refuser import READ, TAKES_NOTHING, WRITE
@@ -147,22 +148,33 @@ def comparing_fails(program, job):
 
 
 def page_byte_by_byte(program):
-    """The page of two logs, also of a refused one, is the same where each read gives a byte, and each write takes one."""
+    """The page of two logs, also of a refused one, tells what a second reading of both finds, where each read gives a byte, and each
+    write takes one."""
     wrong = []
     for left, right in PAIRS:
-        came = report_oracle.pair_reported(left, right)
-        told = f"{came.fault}\n".encode() if came.fault else b""
         with files(left, right) as names:
-            wrong += differences("a byte a call", program.run_short(["report", *names]), Ended(came.status, came.written, told))
+            wrong += pair_told_otherwise("a byte a call", program.run_short(["report", *names]), left, right)
     return wrong
 
 
+def pair_told_otherwise(what, found, left, right):
+    """How the page of two logs ends otherwise, or tells something else, than a second reading of both finds."""
+    came = pair_facts.came_of(left, right)
+    fault = f"{came.fault}\n".encode() if came.fault else b""
+    wrong = differences(what, how(found), (came.status, fault))
+    wrong += [] if found.output.endswith(b"</body>\n</html>\n") else [f"{what}: the page has no end"]
+    return wrong + [f"{what}: {fault}" for fault in pair_faults.told_otherwise(found.output.decode(), came)]
+
+
 def page_writes_fail(program):
-    """So much of the page is written as the output takes, a byte a call, and of a refused log nothing else is told then."""
+    """The page tells what a second reading of both logs finds, and so much of it is written as the output takes, a byte a call; of a
+    refused log nothing else is told then."""
     wrong = []
     for left, right in PAIRS:
-        page = report_oracle.pair_reported(left, right).written
         with files(left, right) as names:
+            whole = program.run(["report", *names])
+            wrong += pair_told_otherwise("all bytes", whole, left, right)
+            page = whole.output
             for room in (0, 1, 4095, 4096, 4097, len(page) // 2, len(page) - 1):
                 found = program.run_failing(["report", *names], WRITE, room + 1, most=1)
                 wrong += differences(f"{room} bytes", found, (Ended(DEVICE, page[:room], WRITE_FAILED), True))

@@ -65,28 +65,31 @@ OF_LIBRARIES = {
     "uds_message: proofs": ["uds_message: rt fmt"],
     "uds_exchange: proofs": ["uds_message: proofs"],
     "uds_difference: proofs": ["uds_exchange: proofs"],
+    "shown_rows: proofs": ["uds_difference: proofs"],
     "uds_find: proofs": ["uds_message: proofs"],
     "trace_log: proofs": ["uds_exchange: proofs"],
     "trace_run: proofs": ["trace_log: proofs"],
     "trace_text: proofs": ["trace_log: proofs"],
     "trace_canon: proofs": ["trace_run: proofs", "trace_text: proofs", "uds_find: proofs"],
     "trace_report: proofs": ["trace_canon: proofs"],
-    "trace_difference: proofs": ["uds_difference: proofs", "trace_canon: proofs"],
+    "trace_difference: proofs": ["shown_rows: proofs", "trace_canon: proofs"],
+    "trace_pair: proofs": ["shown_rows: proofs", "trace_report: proofs"],
 }
 QUICK_TESTS = [*(f"program/{name}" for name in ["command_line", "program", "sessions"]), *(f"documents/{name}" for name in ["shipped", "recipes", "release"])]
 OTHER_TESTS = ["documents/documents", "scripts/make_check", "scripts/make_test"]
-OF_PROGRAM = {"udsnorm: make build": ["trace_report: proofs", "trace_difference: proofs"], **{f"tests/{test}.py": [] for test in OTHER_TESTS}}
+OF_PROGRAM = {"udsnorm: make build": ["trace_pair: proofs", "trace_difference: proofs"], **{f"tests/{test}.py": [] for test in OTHER_TESTS}}
 OF_PROGRAM |= {f"tests/{test}.py": ["udsnorm: make build"] for test in QUICK_TESTS}
 
 # The crates beside the program, each with those below it that are checked.
 UP_TO_CANON = ["uds_message", "uds_exchange", "uds_find", "trace_log", "trace_run", "trace_text", "trace_canon"]
-LIBRARIES = [*UP_TO_CANON, "uds_difference", "trace_report", "trace_difference"]
+PAGES = [*UP_TO_CANON, "uds_difference", "shown_rows", "trace_report", "trace_pair"]
+LIBRARIES = [*PAGES, "trace_difference"]
 APART = {
     "json_reading": UP_TO_CANON,
     "udsnorm_c": LIBRARIES,
     "layer_bench": ["uds_message", "uds_exchange"],
-    "session_bench": [*UP_TO_CANON, "trace_report"],
-    "acceptance": [*UP_TO_CANON, "uds_difference", "trace_report"],
+    "session_bench": PAGES,
+    "acceptance": PAGES,
     "refused_memory": LIBRARIES,
 }
 OF_APART = {f"{crate}: proofs": [f"{name}: proofs" for name in below] for crate, below in APART.items()}

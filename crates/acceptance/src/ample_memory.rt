@@ -1,7 +1,7 @@
 //! Calls that take memory, with ample supply and much to keep: none of them gives up.
 
 use crate::calls::meaning;
-use crate::pages::held;
+use crate::pages::aligned;
 use crate::rows::{frame_of, repeated};
 use direction::Dir::{self, Tester, Unit};
 use isotp_receive::{Pair, Verdict};
@@ -109,11 +109,9 @@ fn thousands_of_frames_have_a_meaning(rt: HostRuntime) -> Result<(), Fail> {
 fn thousands_of_items_are_held(rt: HostRuntime) -> Result<(), Fail> {
     let alloc = rt.alloc();
     let log = repeated(alloc, "(1.000000) can0 7E8#0759595959595959\n", 4 * MANY)?;
-    let (answer, _) = held(alloc, log.as_bytes(), log.as_bytes())?;
-    let held = answer.or(Err("not held"))?;
+    let held = aligned(alloc, log.as_bytes(), log.as_bytes())?.or(Err("not held"))?;
     assert!(rt; held.comparison() == Comparison::Same);
-    assert!(rt;
-        held.left().summary().messages == 2_000 && held.right().summary().messages == 2_000
-    );
+    let two = held.two();
+    assert!(rt; two.left().summary().messages == 2_000 && two.right().summary().messages == 2_000);
     Ok(())
 }

@@ -1,5 +1,5 @@
-//! A session through each call of `trace_canon`, over devices that only a test has. What whole logs become is tested over the
-//! built program, by `tests/program/sessions.py`.
+//! A session through each call of `trace_canon`, and that of `trace_difference` in memory, over devices that only a test has. What
+//! whole logs become is tested over the built program, by `tests/program/sessions.py`.
 
 use crate::pairings::items_text;
 use crate::rows::{assert_front, assert_text, repeated};
@@ -9,6 +9,7 @@ use std::io::{ErrorKind, Read, Write};
 use std::process::Abort;
 use std::test::Fail;
 use trace_canon::{Comparison, compare, explain, in_memory, list, meaning_of, normalise};
+use trace_difference::in_memory::pair_difference;
 use trace_io::{FailsAfter, FailsAt, Reading, Short, Source, Target, Writing};
 use trace_log::{CompareFault, Config, ConfigFault, Fault, Summary};
 use trace_text::{ItemStyle, Notation, Numbering};
@@ -257,6 +258,38 @@ fn a_session_in_memory_has_its_counts(rt: HostRuntime) -> Result<(), Fail> {
     let found = found.or(Err("not compared"))?;
     assert!(rt; found.comparison == Comparison::Same);
     assert!(rt; found.left.frames == 5 && found.right.messages == 2);
+    Ok(())
+}
+
+/// What `diff` has of the session, and of its request without an answer.
+const DIFFERING: &str = "\
+--- log
++++ \"a request\"
+@@ -1 +1 @@
+-exchange ReadDataByIdentifier 22F190 -> positive 62F1905742413341354335304546313233343536
++exchange ReadDataByIdentifier 22F190 -> unanswered
+";
+
+#[test]
+fn two_sessions_in_memory_have_their_difference(rt: HostRuntime) -> Result<(), Fail> {
+    let (alloc, config) = (rt.alloc(), sides()?);
+    let (log, request) = (LOG.as_bytes(), &CANONICAL.as_bytes()[..45]);
+    let (name, other) = (b"log".as_slice(), b"a request".as_slice());
+    let text = Notation::Text;
+    let found = pair_difference(alloc, &config, text, name, other, log, request);
+    let found = found.or(Err("not compared"))?;
+    assert!(rt; found.text.as_slice() == DIFFERING.as_bytes());
+    assert!(rt; found.counted.comparison == Comparison::Different { item: 0 });
+    assert!(rt; found.counted.left.messages == 2 && found.counted.right.messages == 1);
+    let found = pair_difference(alloc, &config, text, name, other, log, CANONICAL.as_bytes());
+    let found = found.or(Err("not compared"))?;
+    assert!(rt; found.text.is_empty() && found.counted.comparison == Comparison::Same);
+    let refused = pair_difference(alloc, &config, text, name, other, log, &log[..9]).err();
+    let of_the_right = CompareFault::Right(Fault::BadLine {
+        line: 1,
+        column: 10,
+    });
+    assert!(rt; refused == Some(of_the_right));
     Ok(())
 }
 

@@ -1,8 +1,8 @@
-//! A session through each call of `trace_report`, over devices that only a test has. What whole pages are is tested over the built
-//! program, by `tests/pages/report.py` and `tests/pages/report_pairs.py`.
+//! A session through each call of `trace_report` and of `trace_pair`, over devices that only a test has. What whole pages are
+//! is tested over the built program, by `tests/pages/report.py` and `tests/pages/report_pairs.py`.
 
 use crate::calls::{CANONICAL, LOG, assert_session, byte_by_byte, failing, full, sides};
-use crate::rows::{assert_front, assert_text, shown};
+use crate::rows::{assert_front, assert_text, repeated, shown};
 use can_log::Id;
 use std::alloc::Global;
 use std::io::{Read, Write};
@@ -11,13 +11,14 @@ use std::test::Fail;
 use trace_canon::Comparison;
 use trace_io::{Reading, Source, Target, Writing};
 use trace_log::{CompareFault, ConfigFault, Fault, Summary};
-use trace_report::in_memory::NoPairPage;
-use trace_report::{PairTitle, Two, in_memory, keep_two, report, write_pair_page};
+use trace_pair::in_memory::{NoPairPage, pair_page};
+use trace_pair::{Aligned, Title, align_two, write_pair_page};
+use trace_report::{Two, in_memory, keep_two, report};
 
 /// A log of the same request, and of nothing else.
 const REQUEST: &str = "(0.000000) can0 7E0#0322F190\n";
 
-const TITLE: PairTitle<'static> = PairTitle {
+const TITLE: Title<'static> = Title {
     style: "",
     left: b"log",
     right: b"canonical",
@@ -47,6 +48,16 @@ pub(crate) fn held<A: Read + Drop, B: Read + Drop>(
     Ok((answer, right.reads()))
 }
 
+/// The same, side by side.
+pub(crate) fn aligned<A: Read + Drop, B: Read + Drop>(
+    alloc: Global,
+    left: A,
+    right: B,
+) -> Result<Result<Aligned, CompareFault>, ConfigFault> {
+    let (mut left, mut right) = (Reading::new(left), Reading::new(right));
+    Ok(align_two(alloc, &sides()?, &mut left, &mut right))
+}
+
 /// What was written of a page.
 fn page_in(writer: Writing<Vec<u8>>) -> Result<String, Fail> {
     Ok(String::from_utf8(writer.into_inner())?)
@@ -54,7 +65,7 @@ fn page_in(writer: Writing<Vec<u8>>) -> Result<String, Fail> {
 
 /// The page of what is answered of these logs.
 fn page_of_two(alloc: Global, left: &str, right: &str) -> Result<String, Fail> {
-    let (answer, _) = held(alloc, left.as_bytes(), right.as_bytes())?;
+    let answer = aligned(alloc, left.as_bytes(), right.as_bytes())?;
     let mut writer = Writing::new(Vec::new(alloc));
     write_pair_page(&TITLE, &answer, None, &mut writer)?;
     page_in(writer)
@@ -106,11 +117,10 @@ fn two_sessions_are_held(rt: HostRuntime) -> Result<(), Fail> {
     let alloc = rt.alloc();
     let (answer, reads) = held(alloc, LOG.as_bytes(), byte_by_byte())?;
     let both = answer.or(Err("not held"))?;
-    assert!(rt; both.comparison() == Comparison::Same && reads == 213);
+    assert!(rt; reads == 213);
     assert!(rt; both.left().summary().frames == 5 && both.right().summary().messages == 2);
     let (answer, _) = held(alloc, LOG.as_bytes(), REQUEST.as_bytes())?;
     let both = answer.or(Err("not held"))?;
-    assert!(rt; both.comparison() == Comparison::Different { item: 0 });
     assert!(rt; both.left().summary().messages == 2 && both.right().summary().messages == 1);
     let (answer, reads) = held(alloc, failing(), byte_by_byte())?;
     assert!(rt; answer.err() == Some(CompareFault::Left(Fault::Read)) && reads == 0);
@@ -131,17 +141,17 @@ const EACH_ROW: &str = "\
 ";
 
 /// What is printed of it: each type with its name and its fields, the bytes of a message as numbers.
-const PRINTED: &str = "Session { rows: [\
-Message { role: Request, dir: Tester, place: MessagePlace { item: 1, \
-first: FramePlace { line: 1, micros: 0 }, last: FramePlace { line: 1, micros: 0 }, frames: 1 }, message: [34, 241, 144] }, \
-Ended { place: FramePlace { line: 3, micros: 2000 }, ended: Ended { begun_line: 2, len: 8, dir: Unit, cause: NewStart } }, \
-Message { role: Positive { asked: 0 }, dir: Unit, place: MessagePlace { item: 1, \
-first: FramePlace { line: 3, micros: 2000 }, last: FramePlace { line: 3, micros: 2000 }, frames: 1 }, message: [98, 241, 144, 65] }, \
-Dropped { place: FramePlace { line: 4, micros: 3000 }, dir: Unit, linked: true, reason: NextUnexpected }, \
-Message { role: Request, dir: Tester, place: MessagePlace { item: 2, \
-first: FramePlace { line: 5, micros: 4000 }, last: FramePlace { line: 5, micros: 4000 }, frames: 1 }, message: [34, 241, 145] }, \
-Unfinished { dir: Unit, line: 6, len: 10 }, \
-NoAnswer { number: 2, silent: false }], \
+const PRINTED: &str = "KeptSession { rows: [\
+Message { sent: SentMessage { role: Request, dir: Tester, place: MessagePlace { item: 1, \
+first: FramePlace { line: 1, micros: 0 }, last: FramePlace { line: 1, micros: 0 }, frames: 1 } }, message: [34, 241, 144] }, \
+Missing(Ended { place: FramePlace { line: 3, micros: 2000 }, ended: Ended { begun_line: 2, len: 8, dir: Unit, cause: NewStart } }), \
+Message { sent: SentMessage { role: Positive { asked: 0 }, dir: Unit, place: MessagePlace { item: 1, \
+first: FramePlace { line: 3, micros: 2000 }, last: FramePlace { line: 3, micros: 2000 }, frames: 1 } }, message: [98, 241, 144, 65] }, \
+Missing(Dropped { place: FramePlace { line: 4, micros: 3000 }, dir: Unit, linked: true, reason: NextUnexpected }), \
+Message { sent: SentMessage { role: Request, dir: Tester, place: MessagePlace { item: 2, \
+first: FramePlace { line: 5, micros: 4000 }, last: FramePlace { line: 5, micros: 4000 }, frames: 1 } }, message: [34, 241, 145] }, \
+Missing(Unfinished { dir: Unit, line: 6, len: 10 }), \
+Missing(NoAnswer { number: 2, silent: false })], \
 summary: Summary { lines: 6, frames: 6, tester_frames: 2, unit_frames: 4, messages: 3, dropped: 1, ended: 1, unfinished: 1, \
 pending: 0, ends_in_line_feed: true, looks_exchanged: false }, times: Some(Times { first: 0, last: 5000 }) }";
 
@@ -153,10 +163,22 @@ fn a_session_that_is_kept_is_printed(rt: HostRuntime) -> Result<(), Fail> {
     let left = shown(alloc, both.left())?;
     assert_text(&rt, "a session", left.as_str(), PRINTED);
     let right = shown(alloc, both.right())?;
-    let whole = format!(in alloc;
-        "Two {{ left: {left}, right: {right}, comparison: Different {{ item: 0 }} }}"
-    )?;
+    let whole = format!(in alloc; "Two {{ left: {left}, right: {right} }}")?;
     assert_text(&rt, "both", shown(alloc, &both)?.as_str(), whole.as_str());
+    Ok(())
+}
+
+#[test]
+fn two_sessions_are_compared(rt: HostRuntime) -> Result<(), Fail> {
+    let alloc = rt.alloc();
+    let both = aligned(alloc, LOG.as_bytes(), CANONICAL.as_bytes())?.or(Err("not aligned"))?;
+    assert!(rt; both.comparison() == Comparison::Same);
+    assert!(rt; both.two().left().summary().messages == 2);
+    let both = aligned(alloc, LOG.as_bytes(), REQUEST.as_bytes())?.or(Err("not aligned"))?;
+    assert!(rt; both.comparison() == Comparison::Different { item: 0 });
+    let more = repeated(alloc, REQUEST, 2)?;
+    let both = aligned(alloc, REQUEST.as_bytes(), more.as_bytes())?.or(Err("not aligned"))?;
+    assert!(rt; both.comparison() == Comparison::Different { item: 1 });
     Ok(())
 }
 
@@ -170,8 +192,8 @@ fn two_sessions_have_their_page(rt: HostRuntime) -> Result<(), Fail> {
         &[
             "<title>log and canonical",
             "The two sessions are the same",
-            "Items: 1.",
-            SHOWN[1],
+            "1 item, the same",
+            "<b>ReadDataByIdentifier</b>",
         ],
     );
     let page = page_of_two(alloc, "", "")?;
@@ -181,10 +203,10 @@ fn two_sessions_have_their_page(rt: HostRuntime) -> Result<(), Fail> {
         &rt,
         &page,
         &[
-            "differ, first at item 1<",
-            "It is answered in A and not in B.",
+            "1 difference: 1 item changed<",
+            "<b class=\"tag\">changed</b>",
+            "positive in A, without an answer in B",
             SHOWN[1],
-            "no answer",
         ],
     );
     let page = page_of_two(alloc, "x\n", REQUEST)?;
@@ -213,12 +235,12 @@ fn sessions_in_memory_have_their_pages(rt: HostRuntime) -> Result<(), Fail> {
     let refused = in_memory::page(alloc, &config, "", b"log", b"x\n").err();
     assert!(rt; refused == Some(Fault::BadLine { line: 1, column: 1 }));
     let page = page_of_two(alloc, LOG, REQUEST)?;
-    let found = in_memory::pair_page(alloc, &config, "", b"log", b"canonical", log, request);
+    let found = pair_page(alloc, &config, "", b"log", b"canonical", log, request);
     let found = found.or(Err("no page"))?;
     assert!(rt; found.text.as_slice() == page.as_bytes());
     assert!(rt; found.counted.comparison == Comparison::Different { item: 0 });
     assert!(rt; found.counted.left.messages == 2 && found.counted.right.messages == 1);
-    let refused = in_memory::pair_page(alloc, &config, "", b"log", b"canonical", log, b"x\n").err();
+    let refused = pair_page(alloc, &config, "", b"log", b"canonical", log, b"x\n").err();
     let of_the_right = CompareFault::Right(Fault::BadLine { line: 1, column: 1 });
     assert!(rt; refused == Some(NoPairPage::OfLog(of_the_right)));
     Ok(())
@@ -228,12 +250,12 @@ fn sessions_in_memory_have_their_pages(rt: HostRuntime) -> Result<(), Fail> {
 fn two_sessions_whose_page_can_not_be_written(rt: HostRuntime) -> Result<(), Fail> {
     let alloc = rt.alloc();
     let page = page_of_two(alloc, LOG, CANONICAL)?;
-    let (answer, _) = held(alloc, LOG.as_bytes(), CANONICAL.as_bytes())?;
+    let answer = aligned(alloc, LOG.as_bytes(), CANONICAL.as_bytes())?;
     let mut writer = Writing::new(full(alloc));
     let written = write_pair_page(&TITLE, &answer, None, &mut writer);
     assert!(rt; written == Err(Fault::Write) && writer.failures() == 1);
     assert_front(&rt, writer.into_inner().inner.inner.as_slice(), &page, 50);
-    let (answer, _) = held(alloc, failing(), LOG.as_bytes())?;
+    let answer = aligned(alloc, failing(), LOG.as_bytes())?;
     let mut writer = Writing::new(Vec::new(alloc));
     write_pair_page(&TITLE, &answer, None, &mut writer)?;
     assert!(rt; writer.into_inner().is_empty());

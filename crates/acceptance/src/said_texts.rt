@@ -15,8 +15,8 @@ use trace_io::TextSink;
 use trace_log::Count;
 use trace_text::values::{say_byte, say_direction, say_number, say_place, say_text};
 use trace_text::{
-    Bytes, EndCause, HexadecimalDigit, LayoutFault, Length, Number, Place, ResponseCode, Service,
-    SixDecimals, Stamp, ThreeDecimals, Verbatim, say_counts, say_items,
+    EndCause, HexBytes, HexadecimalDigit, LayoutFault, Length, Number, Ordinal, ResponseCode,
+    ServiceName, SixDecimals, Stamp, ThreeDecimals, Verbatim, say_counts, say_items,
 };
 
 /// Keeps what is said, up to where memory is refused.
@@ -97,8 +97,8 @@ fn a_number_of_each_length_is_said(rt: HostRuntime) -> Result<(), Fail> {
 fn each_part_is_said(rt: HostRuntime) -> Result<(), Fail> {
     let alloc = rt.alloc();
     assert_part(&rt, alloc, "line ", "line ")?;
-    assert_part(&rt, alloc, Place(0), "1")?;
-    assert_part(&rt, alloc, Place(usize::MAX), "18446744073709551616")?;
+    assert_part(&rt, alloc, Ordinal(0), "1")?;
+    assert_part(&rt, alloc, Ordinal(usize::MAX), "18446744073709551616")?;
     assert_part(&rt, alloc, HexadecimalDigit(11), "B")?;
     assert_part(&rt, alloc, SixDecimals(1_700_000_000_012_300), "012300")?;
     assert_part(
@@ -108,16 +108,16 @@ fn each_part_is_said(rt: HostRuntime) -> Result<(), Fail> {
         "1700000000.012300",
     )?;
     assert_part(&rt, alloc, Verbatim(b"7E0"), "7E0")?;
-    assert_part(&rt, alloc, Bytes(&[]), "")?;
-    assert_part(&rt, alloc, Bytes(&[0x22, 0xF1, 0x90]), "22F190")?;
+    assert_part(&rt, alloc, HexBytes(&[]), "")?;
+    assert_part(&rt, alloc, HexBytes(&[0x22, 0xF1, 0x90]), "22F190")?;
     assert_part(
         &rt,
         alloc,
-        Bytes(&[0x0A; 17]),
+        HexBytes(&[0x0A; 17]),
         "0A0A0A0A0A0A0A0A0A0A0A0A0A0A0A0A0A",
     )?;
-    assert_part(&rt, alloc, Service(0x22), "ReadDataByIdentifier")?;
-    assert_part(&rt, alloc, Service(0x02), "service_02")?;
+    assert_part(&rt, alloc, ServiceName(0x22), "ReadDataByIdentifier")?;
+    assert_part(&rt, alloc, ServiceName(0x02), "service_02")?;
     assert_part(&rt, alloc, ResponseCode(0x31), "requestOutOfRange")?;
     assert_part(&rt, alloc, ResponseCode(0x02), "code_02")
 }
@@ -126,7 +126,7 @@ fn each_part_is_said(rt: HostRuntime) -> Result<(), Fail> {
 fn parts_are_said_one_after_another(rt: HostRuntime) -> Result<(), Fail> {
     let mut said = empty_sink(rt.alloc());
     say(&mut said, ());
-    say(&mut said, ("item ", Place(11), ": ", Service(0x3E)));
+    say(&mut said, ("item ", Ordinal(11), ": ", ServiceName(0x3E)));
     assert_kept(&rt, &said, "item 12: TesterPresent")
 }
 
@@ -156,9 +156,9 @@ fn each_name_and_number_is_said(rt: HostRuntime) -> Result<(), Fail> {
     say(
         &mut said,
         (
-            Bytes(&[0x50, 0x03]),
+            HexBytes(&[0x50, 0x03]),
             ", ",
-            Service(0x10),
+            ServiceName(0x10),
             ", ",
             ResponseCode(0x10),
         ),

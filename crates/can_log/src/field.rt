@@ -101,7 +101,7 @@ pub(crate) fn run_of(
 
 /// Decimal digits of a line, and their value.
 #[derive(Clone, Copy)]
-pub(crate) struct Number<'a> {
+pub(crate) struct NumberField<'a> {
     digits: &'a [u8],
     pub(crate) value: u64,
     ghost is: { value ≡ digits_value 10 digits.now },
@@ -133,7 +133,7 @@ pub(crate) fn number_of(
     least: usize,
     most: usize,
     bytes: &[u8],
-) -> Result<(Number<'_>, &[u8]), Stop<'_>>
+) -> Result<(NumberField<'_>, &[u8]), Stop<'_>>
     requires { most ≤ 10 }
     ensures { GivesField (λ x. x.digits.now) result (run_at Digit least most bytes.now) }
 {
@@ -142,7 +142,7 @@ pub(crate) fn number_of(
     if n < least {
         return Err(stop_at(rest));
     }
-    Ok((Number { digits, value }, rest))
+    Ok((NumberField { digits, value }, rest))
 }
 
 /// The bytes after the byte `c`.

@@ -15,18 +15,18 @@ use Rattle.uds_exchange.specs.declared.step.Step.{Step}
 use Rattle.uds_exchange.specs.declared.step.Step.TheVariants as becomes
 use Rattle.uds_find.specs.Finding.{credit_line}
 use Rattle.uds_message.specs.Message.{sid, is_negative_response, response_code, is_suppressing}
-use Rattle.trace_canon.specs.declared.comparing.Comparison.{Comparison}
-use Rattle.trace_canon.specs.declared.comparing.Comparison.TheVariants.{Same, Different}
+use Rattle.trace_canon.specs.declared.comparer.Comparison.{Comparison}
+use Rattle.trace_canon.specs.declared.comparer.Comparison.TheVariants.{Same, Different}
 use Rattle.trace_text.specs.declared.item_style.Numbering.{Numbering}
 use Rattle.trace_text.specs.declared.item_style.Numbering.TheVariants.{Shown, Hidden}
 use Rattle.trace_text.specs.declared.remark.Remark.{Remark}
 use Rattle.trace_text.specs.declared.remark.Remark.TheVariants as remark
 use Rattle.trace_canon.specs.ComparisonText.{shown_members, shown_value, comparison_members}
 use Rattle.trace_text.specs.RemarkLines.{cause_text, layout_fault_text, reason_members, remark_members}
-use Rattle.trace_canon.specs.Finding.{credit_object}
+use Rattle.trace_canon.specs.CreditLines.{credit_object}
 use Rattle.trace_text.specs.Json.{Members, null, truth, number, string, object, nothing, member}
 use Rattle.trace_text.specs.ItemLines.{answer_members, outcome_members, item_members, item_object}
-use Rattle.trace_canon.specs.MessageLines.{placed_members}
+use Rattle.trace_canon.specs.MessagesScript.{placed_members}
 use Rattle.trace_text.specs.Words.{role_text}
 use Rattle.trace_text.specs.Words.{bytes_text, direction_text, service_text, code_text}
 use Rattle.trace_text.proofs.Promises.{bytes_word, service_word, code_word}
@@ -177,10 +177,10 @@ messages_are_read_as_meant placed =
               tt,
               (
                 plain (codes "start") refl,
-                stamp_plain placed.start.micros,
+                stamp_plain placed.first.micros,
                 (
                   plain (codes "end") refl,
-                  stamp_plain placed.end.micros,
+                  stamp_plain placed.last.micros,
                   (
                     plain (codes "message") refl,
                     bytes_plain placed.sent.1,

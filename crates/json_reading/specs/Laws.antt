@@ -1,14 +1,14 @@
 -- What is told as JSON is read as it is meant.
 use Rattle.std.specs.Prelude.{ℕ, Bool, List}
 use Rattle.json_reading.specs.ReadBack.{IsReadAsMeant}
-use Rattle.trace_canon.specs.declared.comparing.Comparison.{Comparison}
+use Rattle.trace_canon.specs.declared.comparer.Comparison.{Comparison}
 use Rattle.trace_text.specs.declared.item_style.Numbering.{Numbering}
 use Rattle.trace_text.specs.declared.remark.Remark.{Remark}
 use Rattle.trace_canon.specs.ComparisonText.{comparison_members}
 use Rattle.trace_text.specs.RemarkLines.{remark_members}
-use Rattle.trace_canon.specs.Finding.{credit_object}
+use Rattle.trace_canon.specs.CreditLines.{credit_object}
 use Rattle.trace_text.specs.ItemLines.{item_object}
-use Rattle.trace_canon.specs.MessageLines.{PlacedMessage, placed_members}
+use Rattle.trace_canon.specs.MessagesScript.{PlacedMessage, placed_members}
 use Rattle.uds_exchange.specs.Meaning.{ItemValue}
 use Rattle.uds_find.specs.Finding.{credit_line}
 use Rattle.uds_find.specs.declared.pair.IdPair.{IdPair}

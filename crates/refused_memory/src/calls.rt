@@ -10,7 +10,7 @@ use std::test::Fail;
 use trace_canon::Comparison;
 use trace_io::{Reading, Writing};
 use trace_log::{CompareFault, Config, Fault};
-use trace_report::PairTitle;
+use trace_pair::{Title, align_two, write_pair_page};
 use trace_text::{ItemStyle, Notation, Numbering};
 use uds_exchange::{
     Decider, Item, ItemSink, Judge, Meaning, MessageSink, OrderFault, Orderer, Pairing,
@@ -387,7 +387,7 @@ fn reported(alloc: Global, session: Session) -> Result<Made, Fail> {
 }
 
 #[test]
-fn keep_two(rt: HostRuntime) -> Result<(), Fail> {
+fn two_are_aligned(rt: HostRuntime) -> Result<(), Fail> {
     for session in SESSIONS {
         tell(held(rt.alloc(), session)?, session)?;
     }
@@ -396,7 +396,7 @@ fn keep_two(rt: HostRuntime) -> Result<(), Fail> {
 
 /// Holds the log of a session and its canonical log, and writes the page of both. Where they were refused memory, there is none.
 fn held(alloc: Global, session: Session) -> Result<Made, Fail> {
-    let title = PairTitle {
+    let title = Title {
         style: "",
         left: b"log",
         right: b"canonical",
@@ -406,9 +406,9 @@ fn held(alloc: Global, session: Session) -> Result<Made, Fail> {
     for made in TRIES {
         let mut log = Reading::new(session.log);
         let mut canonical = Reading::new(session.canonical);
-        let answer = trace_report::keep_two(alloc, &config()?, &mut log, &mut canonical);
+        let answer = align_two(alloc, &config()?, &mut log, &mut canonical);
         let mut writer = Writing::new(Page::new());
-        trace_report::write_pair_page(&title, &answer, None, &mut writer)?;
+        write_pair_page(&title, &answer, None, &mut writer)?;
         let page = writer.into_inner();
         match answer {
             Err(CompareFault::Left(Fault::Memory) | CompareFault::Right(Fault::Memory)) => {
@@ -416,7 +416,7 @@ fn held(alloc: Global, session: Session) -> Result<Made, Fail> {
                     Err("a page of nothing")?
                 }
             }
-            Ok(held) if held.comparison() == Comparison::Same => {
+            Ok(aligned) if aligned.comparison() == Comparison::Same => {
                 page.assert_tells(b"The two sessions are the same")?;
                 return Ok(made);
             }

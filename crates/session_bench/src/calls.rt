@@ -8,7 +8,8 @@ use trace_canon::{
 };
 use trace_io::{Bytes, Writing};
 use trace_log::Config;
-use trace_report::{PairTitle, keep_two, report, report_style, write_pair_page};
+use trace_pair::{Title, align_two, pair_style, write_pair_page};
+use trace_report::{report, report_style};
 use trace_text::{ItemStyle, Notation, Numbering};
 
 /// Lines with their numbers.
@@ -98,19 +99,19 @@ pub(crate) fn run_pair_page(
     digest: &mut Digest,
 ) {
     let mut writer = Writing::new(Digest::new());
-    let title = PairTitle {
-        style: report_style(),
+    let title = Title {
+        style: pair_style(),
         left: b"yesterday.log",
         right: b"today.log",
         tester: config.tester(),
         unit: config.unit(),
     };
-    let kept = keep_two(alloc, config, &mut Bytes::new(left), &mut Bytes::new(right));
-    let _ = write_pair_page(&title, &kept, None, &mut writer);
-    match &kept {
-        Ok(both) => {
-            digest.count(Some(&both.left().summary()));
-            digest.count(Some(&both.right().summary()));
+    let answer = align_two(alloc, config, &mut Bytes::new(left), &mut Bytes::new(right));
+    let _ = write_pair_page(&title, &answer, None, &mut writer);
+    match &answer {
+        Ok(aligned) => {
+            digest.count(Some(&aligned.two().left().summary()));
+            digest.count(Some(&aligned.two().right().summary()));
         }
         Err(_fault) => digest.count(None),
     }

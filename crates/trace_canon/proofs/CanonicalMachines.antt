@@ -12,7 +12,8 @@ use Rattle.uds_exchange.specs.Judging.{sent}
 use Rattle.uds_exchange.specs.declared.judge.Judged.{Judged}
 use Rattle.trace_run.specs.proving.Completing.{CompletesJudged}
 use Rattle.uds_exchange.specs.Orderer.{IsHeld, JudgedOrdererValue, judged_orderer_after}
-use Rattle.trace_canon.specs.MemoryNeeded.{CompletesMessage, CompletesHeld}
+use Rattle.trace_canon.specs.MemoryNeeded.{CompletesHeld}
+use Rattle.trace_canon.specs.FirstFrames.{CompletesMessage}
 use Rattle.trace_canon.specs.proving.CanonicalScript.{progress_behind, lines_due, StandsCanonical}
 use Rattle.trace_canon.specs.proving.Saying.{SaysDue}
 use Rattle.trace_log.specs.Settings.{Settings}

@@ -2,7 +2,6 @@
 use Rattle.std.proofs.Common.{◌≡◌, ℕ, List, [], ◌∷◌, ◌++◌, refl, ap, sym, subst, ◌∙◌, Result, Ok, Err}
 use Rattle.std.specs.Prelude.{OnOk, IfErr}
 use Rattle.direction.specs.Dir.{Message}
-use Rattle.direction.specs.declared.Dir.{Dir}
 use Rattle.isotp_receive.specs.declared.TheConstants.{MESSAGE_LIMIT}
 use Rattle.isotp_segment.specs.CanonicalFrames.{canonical_frames}
 use Rattle.isotp_segment.specs.Timed.{all_frames}
@@ -11,19 +10,13 @@ use Rattle.uds_exchange.specs.Orderer.{StopsHeld, StopsDue}
 use Rattle.uds_exchange.specs.MessageSink.{AfterOk, Fails, Puts}
 use Rattle.uds_exchange.specs.declared.order_fault.OrderFault.{OrderFault}
 use Rattle.uds_exchange.specs.declared.order_fault.OrderFault.TheVariants as order_fault
+use Rattle.trace_canon.specs.proving.Saying.{SaysPutMessage}
 use Rattle.trace_canon.specs.proving.Writing.{text_from, progress_after}
 use Rattle.trace_canon.specs.declared.canonical_sink.CanonicalSink.{CanonicalSink}
 use Rattle.trace_canon.proofs.CanonicalWriting.{text_none, progress_none, text_append, progress_append}
 
 module _ {S : Type 0} (says : S → List ℕ → S → Type 0) (nothing : (s : S) → says s [] s)
     (onward : (s m t : S) (a b : List ℕ) → says s a m → says m b t → says s (a ++ b) t) where
-  -- the lines of a message were said
-  abbrev pub SaysOne : CanonicalSink S → Dir → List ℕ → CanonicalSink S → Type 0
-  SaysOne s d m t =
-      (t.out.ghost_name ≡ s.out.ghost_name) × (t.progress.ghost_name ≡ s.progress.ghost_name) × (t.config ≡ s.config)
-      × (t.progress.now ≡ progress_after s.config s.progress.now (canonical_frames MESSAGE_LIMIT d m))
-      × says s.out.now (text_from s.config s.progress.now (canonical_frames MESSAGE_LIMIT d m)) t.out.now
-
   -- the lines of messages were said
   pub record SaidAll (s : CanonicalSink S) (put : List Message) (t : CanonicalSink S) : Type 0 where
     pub same_out : t.out.ghost_name ≡ s.out.ghost_name
@@ -32,7 +25,7 @@ module _ {S : Type 0} (says : S → List ℕ → S → Type 0) (nothing : (s : S
     pub progress : t.progress.now ≡ progress_after s.config s.progress.now (all_frames MESSAGE_LIMIT put)
     pub said : says s.out.now (text_from s.config s.progress.now (all_frames MESSAGE_LIMIT put)) t.out.now
 
-  pub said_all : (put : List Message) (s t : CanonicalSink S) → Puts SaysOne s put t → SaidAll s put t
+  pub said_all : (put : List Message) (s t : CanonicalSink S) → Puts (SaysPutMessage says) s put t → SaidAll s put t
   said_all [] s t is = subst (SaidAll s []) (sym is) (record {
     same_out = refl;
     same_progress = refl;

@@ -1,4 +1,4 @@
--- What is told of a log by its canonical lines is the text of the messages that are early.
+-- What is said of a log by its canonical lines is the text of the messages that are early.
 use Rattle.std.specs.Prelude.{OnOk, IfOk, if◌then◌else◌}
 use Rattle.direction.specs.Dir.{Message}
 use Rattle.trace_log.specs.CanonicalLog.{canonical_log, log_of_frames, canonical_log_of_lines, early_text, fitting}
@@ -7,6 +7,7 @@ use Rattle.trace_log.specs.Settings.{AreSettings, Settings}
 use Rattle.trace_log.proofs.Promises.{all_begin, written_is_canonical, written_of_recording, answer_certifies, messages_more, all_frames-append, fitting_frames, fitting_log_begins}
 use Rattle.std.proofs.Common.{arith, ◌+◌, ◌≡◌, Bool, true, false, refl, subst, Option, Ok, Err, ◌≤◌, ◌<◌, ℕ, List, [], ◌∷◌, ◌++◌, length, drop, ap, sym, ◌∙◌, append-nil, append_assoc, length-append, Result, inl, inr}
 use Rattle.std.proofs.Math.Seq.{drop-append_seam}
+use Rattle.std.proofs.lemmas.Bool.{le-leb, lt-leb, leb-true, leb-false}
 use Rattle.can_log.specs.declared.frame.Stamped.{Stamped}
 use Rattle.isotp_receive.specs.declared.TheConstants.{MESSAGE_LIMIT}
 use Rattle.isotp_receive.specs.Trace.{Entry}
@@ -16,10 +17,11 @@ use Rattle.uds_exchange.specs.Order.{early, held}
 use Rattle.uds_exchange.specs.Orderer.{JudgedOrdererValue}
 use Rattle.uds_exchange.specs.Meaning.{meaning, flattened}
 use Rattle.uds_exchange.proofs.Promises.{early_grows, early_then_held}
-use Rattle.trace_canon.specs.proving.CanonicalScript.{StandsCanonical, is_too_long, CanonicalTellsTheSame, canonical_command, canonical_script, progress_behind, lines_due, text_of_early, CanonicalTellsEarly}
+use Rattle.trace_canon.specs.proving.CanonicalScript.{StandsCanonical, CanonicalIsTheSame, canonical_command, canonical_script, progress_behind, lines_due, text_of_early, CanonicalSaysEarly}
 use Rattle.trace_log.specs.Needing.{HasTextOf}
 use Rattle.trace_run.specs.Script.{said_after, said_of_frames, said_of_lines, whole_of_lines}
 use Rattle.trace_run.specs.Ran.{AnswersAndWrites, EndsWith, FailsToWrite, WritesSaid, WritesSaidAndRefusal, WritesFrontOfWhole, WritesSaidEagerly}
+use Rattle.trace_canon.specs.proving.Measuring.{fits_within}
 use Rattle.trace_canon.specs.proving.Writing.{ProgressValue, start_of, text_from, progress_after}
 use Rattle.trace_canon.proofs.CanonicalWriting.{text_none, text_append, progress_append}
 use Rattle.trace_canon.proofs.Answered.{answers_accepted, answers_output_limit}
@@ -36,9 +38,9 @@ use Rattle.trace_log.specs.Summing.{summary_of}
 use Rattle.trace_log.specs.Trace.{trace}
 
 -- a front of what begins a text is no longer than that
-no_longer : (whole told last text fits more : List ℕ) → whole ≡ told ++ last → whole ≡ fits → text ≡ fits ++ more → length told ≤ length text
-no_longer whole told last text fits more parts is begins =
-    let one : length whole ≡ length told + length last = ap length parts ∙ length-append told last in
+no_longer : (whole said last text fits more : List ℕ) → whole ≡ said ++ last → whole ≡ fits → text ≡ fits ++ more → length said ≤ length text
+no_longer whole said last text fits more parts is begins =
+    let one : length whole ≡ length said + length last = ap length parts ∙ length-append said last in
     let two : length whole ≡ length fits = ap length is in
     let three : length text ≡ length fits + length more = ap length begins ∙ length-append fits more in
     omega (arith, one, two, three)
@@ -68,8 +70,8 @@ module _ (settings : Settings) where
       sym (append_assoc (text_of_early settings past) due later) ∙ ap (λ x. x ++ later) (one_more past e) ∙ from_there (past ++ e ∷ []) rest
       ∙ ap (text_of_early settings) (append_assoc past (e ∷ []) rest)
 
-pub canonical_tells_early : CanonicalTellsEarly
-canonical_tells_early settings T =
+pub canonical_says_early : CanonicalSaysEarly
+canonical_says_early settings T =
     ap (λ x. x ++ said_of_frames ((canonical_script settings).of_frame) T) (sym (text_none settings (start_of settings.max_bytes))) ∙ from_there settings [] T
 
 -- where the text stands at the end
@@ -79,14 +81,6 @@ progress_at_end settings M =
     let begin = start_of settings.max_bytes in
     sym (progress_append settings begin (all_frames MESSAGE_LIMIT (early M)) (all_frames MESSAGE_LIMIT (held M)))
     ∙ ap (progress_after settings begin) (sym (all_frames-append MESSAGE_LIMIT (early M) (held M))) ∙ ap (progress_behind settings) (early_then_held M)
-
--- a line did not fit
-pub over_at_end : (settings config : Settings) (T : List Entry) (orderer : JudgedOrdererValue) (progress after : ProgressValue) → StandsCanonical settings T orderer config progress
-    → after ≡ progress_after config progress (all_frames MESSAGE_LIMIT (held (messages MESSAGE_LIMIT T))) → after.is_full ≡ is_too_long settings T
-over_at_end settings config T orderer progress after stands at =
-    let frames = all_frames MESSAGE_LIMIT (held (messages MESSAGE_LIMIT T)) in
-    ap (λ (p : ProgressValue). p.is_full)
-    (at ∙ ap (λ s. progress_after s progress frames) stands.same ∙ ap (λ p. progress_after settings p frames) stands.at ∙ progress_at_end settings (messages MESSAGE_LIMIT T))
 
 -- what was said of messages is what fits of their canonical log
 said_fits : (settings : Settings) (put : List Message) → text_from settings (start_of settings.max_bytes) (all_frames MESSAGE_LIMIT put) ≡ fitting settings (canonical_log MESSAGE_LIMIT settings put)
@@ -104,16 +98,42 @@ whole_when : (settings : Settings) (put : List Message) → (progress_behind set
 unfolding canonical_log log_of_frames
 whole_when settings put within = within_when settings (start_of settings.max_bytes) (all_frames MESSAGE_LIMIT put) refl within
 
+-- and within the limit all of it was said
+said_whole : (settings : Settings) (put : List Message) → length (canonical_log MESSAGE_LIMIT settings put) ≤ settings.max_bytes
+    → text_from settings (start_of settings.max_bytes) (all_frames MESSAGE_LIMIT put) ≡ canonical_log MESSAGE_LIMIT settings put
+said_whole settings put fits = by ((progress_behind settings put).is_full) refl
+  where
+    by : (b : Bool) → (progress_behind settings put).is_full ≡ b → text_from settings (start_of settings.max_bytes) (all_frames MESSAGE_LIMIT put) ≡ canonical_log MESSAGE_LIMIT settings put
+    by true over = let long = long_when settings put over in absurd (omega (arith, long, fits))
+    by false within = (whole_when settings put within).1
+
+module _ (settings config : Settings) (T : List Entry) (orderer : JudgedOrdererValue) (progress after : ProgressValue) (stands : StandsCanonical settings T orderer config progress)
+    (at : after ≡ progress_after config progress (all_frames MESSAGE_LIMIT (held (messages MESSAGE_LIMIT T)))) where
+  -- whether a line did not fit, at the end
+  full_at_end : after.is_full ≡ (progress_behind settings (flattened (meaning (messages MESSAGE_LIMIT T)))).is_full
+  full_at_end =
+      let frames = all_frames MESSAGE_LIMIT (held (messages MESSAGE_LIMIT T)) in
+      ap (λ (p : ProgressValue). p.is_full)
+      (at ∙ ap (λ s. progress_after s progress frames) stands.same ∙ ap (λ p. progress_after settings p frames) stands.at ∙ progress_at_end settings (messages MESSAGE_LIMIT T))
+
+  -- one did not: the canonical log is too long
+  pub over_at_end : after.is_full ≡ true → fits_within settings (meaning (messages MESSAGE_LIMIT T)) ≡ false
+  over_at_end full = lt-leb _ settings.max_bytes (long_when settings (flattened (meaning (messages MESSAGE_LIMIT T))) (sym full_at_end ∙ full))
+
+  -- all did: it is not
+  pub within_at_end : after.is_full ≡ false → fits_within settings (meaning (messages MESSAGE_LIMIT T)) ≡ true
+  within_at_end room = le-leb _ settings.max_bytes (whole_when settings (flattened (meaning (messages MESSAGE_LIMIT T))) (sym full_at_end ∙ room)).0
+
 module _ (settings : Settings) where
   early_is : (meanings : List (Option Stamped)) → said_of_lines (canonical_script settings) settings meanings ≡ early_text MESSAGE_LIMIT settings meanings
-  early_is meanings = canonical_tells_early settings (trace settings meanings) ∙ said_fits settings (early (messages MESSAGE_LIMIT (trace settings meanings)))
+  early_is meanings = canonical_says_early settings (trace settings meanings) ∙ said_fits settings (early (messages MESSAGE_LIMIT (trace settings meanings)))
 
   whole_said : (log : List ℕ) (meanings : List (Option Stamped)) → whole_of_lines (canonical_script settings) MESSAGE_LIMIT settings log meanings
       ≡ text_from settings (start_of settings.max_bytes) (all_frames MESSAGE_LIMIT (flattened (meaning (messages MESSAGE_LIMIT (trace settings meanings)))))
   whole_said log meanings =
       let M = messages MESSAGE_LIMIT (trace settings meanings) in
       let begin = start_of settings.max_bytes in
-      ap (λ x. x ++ text_from settings (progress_behind settings (early M)) (all_frames MESSAGE_LIMIT (held M))) (canonical_tells_early settings (trace settings meanings))
+      ap (λ x. x ++ text_from settings (progress_behind settings (early M)) (all_frames MESSAGE_LIMIT (held M))) (canonical_says_early settings (trace settings meanings))
       ∙ sym (text_append settings begin (all_frames MESSAGE_LIMIT (early M)) (all_frames MESSAGE_LIMIT (held M)))
       ∙ ap (text_from settings begin) (sym (all_frames-append MESSAGE_LIMIT (early M) (held M)))
       ∙ ap (λ x. text_from settings begin (all_frames MESSAGE_LIMIT x)) (early_then_held M)
@@ -149,9 +169,9 @@ module _ (settings : Settings) where
           front = begins.1 ∙ ap (λ x. x ++ begins.0) (sym (whole_is log wrote.meanings) ∙ wrote.front) ∙ append_assoc wrote.written wrote.missing begins.0;
         }
 
-    -- neither what is told of some lines nor all that is has more bytes than their canonical log
-    told_within : (meanings : List (Option Stamped)) → length (said_of_lines (canonical_script settings) settings meanings) ≤ length (canonical_log_of_lines MESSAGE_LIMIT settings meanings)
-    told_within meanings =
+    -- neither what is said of some lines nor all that is has more bytes than their canonical log
+    said_within : (meanings : List (Option Stamped)) → length (said_of_lines (canonical_script settings) settings meanings) ≤ length (canonical_log_of_lines MESSAGE_LIMIT settings meanings)
+    said_within meanings =
         let script = canonical_script settings in
         let begins = fitting_log_begins MESSAGE_LIMIT settings (flattened (meaning (messages MESSAGE_LIMIT (trace settings meanings)))) in
         no_longer (whole_of_lines script MESSAGE_LIMIT settings log meanings) (said_of_lines script settings meanings)
@@ -165,10 +185,10 @@ module _ (settings : Settings) where
         no_longer whole whole [] (canonical_log_of_lines MESSAGE_LIMIT settings meanings) _ begins.0 (sym (append-nil whole)) (whole_is log meanings) begins.1
 
     canonical_some : FailsToWrite (canonical_command settings) MESSAGE_LIMIT settings log given old new → HasTextOf (canonical_log_of_lines MESSAGE_LIMIT settings) log
-    canonical_some (inl (wrote, inl told)) = record {
-      meanings = told.meanings;
-      begins = record { lines = told.read.lines; later = told.read.later; parts = told.read.parts; means = told.read.means };
-      some = some_of _ _ told.some (told_within told.meanings);
+    canonical_some (inl (wrote, inl said)) = record {
+      meanings = said.meanings;
+      begins = record { lines = said.read.lines; later = said.read.later; parts = said.read.parts; means = said.read.means };
+      some = some_of _ _ said.some (said_within said.meanings);
     }
     canonical_some (inl (wrote, inr ends)) = record {
       meanings = ends.meanings;
@@ -177,61 +197,61 @@ module _ (settings : Settings) where
     }
     canonical_some (inr refuses) = absurd (omega (arith, refuses.some))
 
-    pub writes_eagerly_told : WritesSaidEagerly (canonical_script settings) MESSAGE_LIMIT settings log given old new → WritesEagerly MESSAGE_LIMIT settings log given old new
-    writes_eagerly_told eager =
+    pub writes_eagerly_said : WritesSaidEagerly (canonical_script settings) MESSAGE_LIMIT settings log given old new → WritesEagerly MESSAGE_LIMIT settings log given old new
+    writes_eagerly_said eager =
         record { meanings = eager.meanings; read = eager.read; more = eager.more; wrote = eager.wrote ∙ ap (λ text. old ++ (text ++ eager.more)) (early_is eager.meanings) }
 
     ends_well : (summary : Summary) → EndsWith (canonical_command settings) MESSAGE_LIMIT settings log given (Ok summary) old new
         → Answers MESSAGE_LIMIT settings log given (Ok summary) old new
-    ends_well summary (all, meanings, read, answer, wrote) = by (is_too_long settings (trace settings meanings)) refl
+    ends_well summary (all, meanings, read, answer, wrote) = by (fits_within settings (meaning (messages MESSAGE_LIMIT (trace settings meanings)))) refl
       where
-        by : (b : Bool) → is_too_long settings (trace settings meanings) ≡ b → Answers MESSAGE_LIMIT settings log given (Ok summary) old new
-        by true is =
-            let same : Ok summary ≡ Err no_answer.OutputLimit =
-            answer ∙ ap (λ (b : Bool). if b then Err no_answer.OutputLimit else Ok (summary_of MESSAGE_LIMIT settings log meanings)) is in
-            absurd (cc same)
+        by : (b : Bool) → fits_within settings (meaning (messages MESSAGE_LIMIT (trace settings meanings))) ≡ b → Answers MESSAGE_LIMIT settings log given (Ok summary) old new
         by false is =
+            let same : Ok summary ≡ Err no_answer.OutputLimit =
+            answer ∙ ap (λ (b : Bool). if b then Ok (summary_of MESSAGE_LIMIT settings log meanings) else Err no_answer.OutputLimit) is in
+            absurd (cc same)
+        by true is =
             let same : Ok summary ≡ Ok (summary_of MESSAGE_LIMIT settings log meanings) =
-            answer ∙ ap (λ (b : Bool). if b then Err no_answer.OutputLimit else Ok (summary_of MESSAGE_LIMIT settings log meanings)) is in
+            answer ∙ ap (λ (b : Bool). if b then Ok (summary_of MESSAGE_LIMIT settings log meanings) else Err no_answer.OutputLimit) is in
             let counted : summary ≡ summary_of MESSAGE_LIMIT settings log meanings = cc same in
-            let fits = whole_when settings (flattened (meaning (messages MESSAGE_LIMIT (trace settings meanings)))) is in
+            let fits = leb-true _ _ is in
             subst (λ s. Answers MESSAGE_LIMIT settings log given (Ok s) old new) (sym counted)
-            (answers_accepted MESSAGE_LIMIT settings log given meanings old new read fits.0 (wrote ∙ ap (λ x. old ++ x) (whole_said log meanings ∙ fits.1)))
+            (answers_accepted MESSAGE_LIMIT settings log given meanings old new read fits
+            (wrote ∙ ap (λ x. old ++ x) (whole_said log meanings ∙ said_whole settings (flattened (meaning (messages MESSAGE_LIMIT (trace settings meanings)))) fits)))
 
     ends_over : EndsWith (canonical_command settings) MESSAGE_LIMIT settings log given (Err no_answer.OutputLimit) old new
         → Answers MESSAGE_LIMIT settings log given (Err OutputLimit) old new
-    ends_over (all, meanings, read, answer, wrote) = by (is_too_long settings (trace settings meanings)) refl
+    ends_over (all, meanings, read, answer, wrote) = by (fits_within settings (meaning (messages MESSAGE_LIMIT (trace settings meanings)))) refl
       where
-        by : (b : Bool) → is_too_long settings (trace settings meanings) ≡ b → Answers MESSAGE_LIMIT settings log given (Err OutputLimit) old new
-        by false is =
-            let same : Err no_answer.OutputLimit ≡ Ok (summary_of MESSAGE_LIMIT settings log meanings) =
-            answer ∙ ap (λ (b : Bool). if b then Err no_answer.OutputLimit else Ok (summary_of MESSAGE_LIMIT settings log meanings)) is in
-            absurd (cc same)
+        by : (b : Bool) → fits_within settings (meaning (messages MESSAGE_LIMIT (trace settings meanings))) ≡ b → Answers MESSAGE_LIMIT settings log given (Err OutputLimit) old new
         by true is =
-            answers_output_limit MESSAGE_LIMIT settings log given meanings old new read all (long_when settings (flattened (meaning (messages MESSAGE_LIMIT (trace settings meanings)))) is)
-            (wrote ∙ ap (λ x. old ++ x) (whole_is log meanings))
+            let same : Err no_answer.OutputLimit ≡ Ok (summary_of MESSAGE_LIMIT settings log meanings) =
+            answer ∙ ap (λ (b : Bool). if b then Ok (summary_of MESSAGE_LIMIT settings log meanings) else Err no_answer.OutputLimit) is in
+            absurd (cc same)
+        by false is =
+            answers_output_limit MESSAGE_LIMIT settings log given meanings old new read all (leb-false _ _ is) (wrote ∙ ap (λ x. old ++ x) (whole_is log meanings))
 
 -- writing fails only where the lines read have a canonical line
 pub unwritten_some : (settings : Settings) (log : List ℕ) (given : ℕ) (result : Result Summary Fault) (old new : List ℕ) → result ≡ Err Write
     → AnswersAndWrites (canonical_command settings) MESSAGE_LIMIT settings log given result old new → HasTextOf (canonical_log_of_lines MESSAGE_LIMIT settings) log
-unwritten_some settings log given result old new wrong told =
+unwritten_some settings log given result old new wrong said =
     canonical_some settings log given old new
-    (subst (λ (r : Result Summary Fault). AnswersAndWrites (canonical_command settings) MESSAGE_LIMIT settings log given r old new) wrong told)
+    (subst (λ (r : Result Summary Fault). AnswersAndWrites (canonical_command settings) MESSAGE_LIMIT settings log given r old new) wrong said)
 
-pub canonical_tells_the_same : CanonicalTellsTheSame
-canonical_tells_the_same settings log given (Ok summary) old new ends eager = ends_well settings log given old new summary ends
-canonical_tells_the_same settings log given (Err OutputLimit) old new ends eager = ends_over settings log given old new ends
-canonical_tells_the_same settings log given (Err (BadLine line column)) old new (why, wrote) eager = (why, writes_refused settings log given old new (BadLine line column) wrote)
-canonical_tells_the_same settings log given (Err (Oversize line announced)) old new (why, wrote) eager = (why, writes_early settings log given old new (Oversize line announced) wrote)
-canonical_tells_the_same settings log given (Err LogLimit) old new (why, wrote) eager = (why, writes_refused settings log given old new LogLimit wrote)
-canonical_tells_the_same settings log given (Err Read) old new wrote eager = (tt, writes_early settings log given old new Read wrote)
-canonical_tells_the_same settings log given (Err Write) old new (inl (wrote, why)) eager = (tt, (writes_front settings log given old new Write wrote, writes_eagerly_told settings log given old new eager))
-canonical_tells_the_same settings log given (Err Write) old new (inr refuses) eager = absurd (omega (arith, refuses.some))
-canonical_tells_the_same settings log given (Err Memory) old new wrote eager = (
+pub canonical_is_the_same : CanonicalIsTheSame
+canonical_is_the_same settings log given (Ok summary) old new ends eager = ends_well settings log given old new summary ends
+canonical_is_the_same settings log given (Err OutputLimit) old new ends eager = ends_over settings log given old new ends
+canonical_is_the_same settings log given (Err (BadLine line column)) old new (why, wrote) eager = (why, writes_refused settings log given old new (BadLine line column) wrote)
+canonical_is_the_same settings log given (Err (Oversize line announced)) old new (why, wrote) eager = (why, writes_early settings log given old new (Oversize line announced) wrote)
+canonical_is_the_same settings log given (Err LogLimit) old new (why, wrote) eager = (why, writes_refused settings log given old new LogLimit wrote)
+canonical_is_the_same settings log given (Err Read) old new wrote eager = (tt, writes_early settings log given old new Read wrote)
+canonical_is_the_same settings log given (Err Write) old new (inl (wrote, why)) eager = (tt, (writes_front settings log given old new Write wrote, writes_eagerly_said settings log given old new eager))
+canonical_is_the_same settings log given (Err Write) old new (inr refuses) eager = absurd (omega (arith, refuses.some))
+canonical_is_the_same settings log given (Err Memory) old new wrote eager = (
   tt,
   (
     writes_front settings log given old new Memory (front_of_whole (canonical_script settings) MESSAGE_LIMIT settings log given Memory old new wrote),
-    writes_eagerly_told settings log given old new eager,
+    writes_eagerly_said settings log given old new eager,
   ),
 )
 

@@ -3,9 +3,9 @@ use Rattle.std.proofs.Common.{◌≡◌, ℕ, ◌<◌, ◌≤◌, true, false, L
 use Rattle.std.proofs.lemmas.Bool.{cases_lt, le-leb, lt-leb}
 use Rattle.direction.specs.Dir.{Message}
 use Rattle.uds_exchange.specs.Meaning.{ItemValue, meaning, flattened}
-use Rattle.trace_canon.specs.proving.SessionScript.{Collects, fits_within}
+use Rattle.trace_canon.specs.proving.SessionScript.{Collects}
 use Rattle.trace_log.specs.Settings.{Settings}
-use Rattle.trace_canon.specs.proving.Measuring.{HaveLengths}
+use Rattle.trace_canon.specs.proving.Measuring.{HaveLengths, fits_within}
 use Rattle.trace_canon.proofs.Lengths.{log_has_length}
 
 -- items of this size fit, where that is within the limit

@@ -1,7 +1,7 @@
 -- A credit line as an object, in the parts that are said.
 use Rattle.std.proofs.Common.{◌≡◌, List, ℕ, ◌++◌, sym, ◌∙◌, append_assoc, codes}
 use Rattle.std.specs.Fmt.{decimal}
-use Rattle.trace_canon.specs.Finding.{credit_line_text, credit_object}
+use Rattle.trace_canon.specs.CreditLines.{credit_line_text, credit_object}
 use Rattle.trace_text.specs.declared.notation.Notation.{Notation}
 use Rattle.trace_text.specs.declared.notation.Notation.TheVariants.{Json}
 use Rattle.trace_text.proofs.Promises.{line_is}

@@ -8,9 +8,9 @@ use Rattle.isotp_receive.specs.Places.{bytes_in_first, between, consecutive_fram
 use Rattle.isotp_receive.specs.OnTime.{IsOnTime}
 use Rattle.isotp_receive.specs.OpenReception.{LeavesOpen}
 use Rattle.isotp_receive.proofs.Promises.{get-here, get-left}
-use Rattle.trace_canon.specs.MessageLines.{starts, last_start}
+use Rattle.trace_canon.specs.FirstFrames.{starts, last_start}
 use Rattle.trace_canon.specs.Laws.{BeginsWithItsReception, BeginsWithItsFrame}
-use Rattle.trace_canon.proofs.MessagePlaces.{last_start_more}
+use Rattle.trace_canon.proofs.NextStarts.{last_start_more}
 
 -- where no frame starts a message, the last start is the one before
 none_starts : (d : Dir) (x : Entry) (T : List Entry) → ((index : ℕ) (g : Entry) → At T index g → starts (role d g) ≡ false) → last_start d x T ≡ x

@@ -8,9 +8,11 @@ use Rattle.can_log.specs.declared.frame.Stamped.{Stamped}
 use Rattle.isotp_receive.specs.declared.TheConstants.{MESSAGE_LIMIT}
 use Rattle.trace_log.specs.declared.fault.Fault.{Fault}
 use Rattle.trace_log.specs.declared.fault.Fault.TheVariants as fault
-use Rattle.trace_canon.specs.declared.hearing.Found.{Found}
-use Rattle.trace_canon.specs.declared.hearing.Hearing.{Hearing}
-use Rattle.trace_canon.specs.Finding.{frames_in, GivesFound, IsFoundOf, NeedsMemoryToFind}
+use Rattle.trace_canon.specs.declared.hearer.FoundCreditLines.{FoundCreditLines}
+use Rattle.trace_canon.specs.declared.hearer.Hearer.{Hearer}
+use Rattle.trace_canon.specs.Finding.{GivesFound, IsFoundOf}
+use Rattle.trace_canon.specs.MemoryNeeded.{NeedsMemoryToFind}
+use Rattle.trace_canon.specs.CreditLines.{frames_in}
 use Rattle.trace_log.specs.Settings.{Settings}
 use Rattle.trace_log.specs.Feeding.{FeedsLog, FeedsSome, Took, Stopped, StopsWithin}
 use Rattle.trace_canon.specs.proving.Hearing.{HasHeard}
@@ -71,7 +73,7 @@ module _ (meanings : List (Option Stamped)) (what : Option Stamped) where
 
 -- what hears and what it writes to, which is nothing
 abbrev Heard : Type 0
-Heard = Hearing × Unit {0}
+Heard = Hearer × Unit {0}
 
 abbrev TookHeard : Took Heard
 TookHeard s meanings t = HasHeard [] s.0.finder s.0.lines → HasHeard meanings t.0.finder t.0.lines
@@ -119,12 +121,12 @@ heard_unwritten why start now feeds is = by (subst (λ f. FeedsSome TookHeard To
 -- ---- the end
 
 module _ (settings : Settings) (log : List ℕ) (meanings : List (Option Stamped)) (short : length log ≤ settings.max_bytes) (means : LogMeans log meanings) where
-  pub heard_end : (result : Result Found Fault) → IfOk result (λ found. IsFoundOf log meanings found.credit_lines.items found.summary) → IfErr result (λ why. why ≡ fault.Memory)
+  pub heard_end : (result : Result FoundCreditLines Fault) → IfOk result (λ found. IsFoundOf log meanings found.credit_lines.items found.summary) → IfErr result (λ why. why ≡ fault.Memory)
       → GivesFound settings log result
   heard_end (Ok found) is none = (meanings, (short, means), is)
   heard_end (Err why) none is = subst (IsUnreadFor false MESSAGE_LIMIT settings log) (sym is) tt
 
-  pub heard_end_need : (result : Result Found Fault) → IfErr result (λ why. HasCredit (frames_in meanings)) → result ≡ Err fault.Memory → NeedsMemoryToFind log
+  pub heard_end_need : (result : Result FoundCreditLines Fault) → IfErr result (λ why. HasCredit (frames_in meanings)) → result ≡ Err fault.Memory → NeedsMemoryToFind log
   heard_end_need (Ok found) needs is = absurd (cc is)
   heard_end_need (Err why) needs is = (meanings, all_begin log meanings means, needs)
 

@@ -4,7 +4,7 @@ use Rattle.std.specs.Io.KnownBytes.{IsAtEnd}
 use Rattle.std.specs.Prelude.{MatchResult, IfErr}
 use Rattle.isotp_receive.specs.Trace.{Entry}
 use Rattle.uds_exchange.specs.Meaning.{ItemValue}
-use Rattle.trace_canon.specs.declared.comparing.Compared.{Compared}
+use Rattle.trace_canon.specs.declared.comparer.Compared.{Compared}
 use Rattle.trace_canon.specs.declared.in_memory.CountedComparison.{CountedComparison}
 use Rattle.trace_log.specs.declared.fault.CompareFault.{CompareFault}
 use Rattle.trace_log.specs.declared.fault.CompareFault.TheVariants.{Left, Right}
@@ -18,13 +18,13 @@ use Rattle.trace_log.specs.declared.summary.Summary.{Summary}
 use Rattle.trace_log.specs.Answers.{Answers, TellsOutcome}
 use Rattle.trace_canon.specs.Sessions.{GivesMeaning}
 use Rattle.trace_log.specs.Failing.{FailedIf}
-use Rattle.trace_canon.specs.InMemory.{IsOfMemory, HasBytes, IsRefused, IsUnread, IsCanonicalLogWith, IsToldWith, NeedsMemoryForCanonicalLog, NeedsMemoryForMessageLines, MeansInMemory, ComparesWithCounts, counted_comparison, fault_in_memory}
+use Rattle.trace_canon.specs.InMemory.{IsOfMemory, HasBytes, IsRefused, IsUnread, IsCanonicalLogWith, IsSaidWith, NeedsMemoryForCanonicalLog, NeedsMemoryForMessageLines, MeansInMemory, ComparesWithCounts, counted_comparison, fault_in_memory}
 use Rattle.trace_log.specs.CanonicalLog.{canonical_log_of_lines}
 use Rattle.trace_log.specs.Needing.{HasTextOf}
 use Rattle.trace_log.specs.Outcome.{Accepted, IsOutcome}
 use Rattle.trace_canon.specs.MemoryNeeded.{NeedsMemoryToCollect, NeedsMemoryToOrder}
-use Rattle.trace_canon.specs.MessageLines.{messages_script}
-use Rattle.trace_canon.specs.WrittenAtEnd.{LeavesOnce, TextOfLog, WritesOnce}
+use Rattle.trace_canon.specs.MessagesScript.{messages_script}
+use Rattle.trace_canon.specs.WrittenAtEnd.{LeavesAtEnd, TextOfLog, WritesAtEnd}
 use Rattle.trace_log.specs.Settings.{Settings}
 use Rattle.trace_run.specs.Script.{Needing, RefusalText, answers_counts, command, needs_none, says_no_refusal, said_of_lines, whole_of_lines}
 use Rattle.trace_run.specs.proving.Scripts.{lenient}
@@ -101,14 +101,14 @@ abbrev IsTextWith : {V : Type 0} → TextOfLog V → List ℕ → List ℕ → S
 IsTextWith {V = V} of log text summary = (value : V) × of.gives log value summary × (text ≡ of.text value)
 
 -- where a text is written at the end alone, a failed write leaves one that has bytes
-left_some : {V : Type 0} (of : TextOfLog V) (log old new : List ℕ) (fault : Fault) → fault ≡ Write → LeavesOnce of log fault old new → HasBytes (IsTextWith of log)
-left_some of log old new fault is left = by (subst (λ (f : Fault). LeavesOnce of log f old new) is left)
+left_some : {V : Type 0} (of : TextOfLog V) (log old new : List ℕ) (fault : Fault) → fault ≡ Write → LeavesAtEnd of log fault old new → HasBytes (IsTextWith of log)
+left_some of log old new fault is left = by (subst (λ (f : Fault). LeavesAtEnd of log f old new) is left)
   where
-    by : LeavesOnce of log Write old new → HasBytes (IsTextWith of log)
+    by : LeavesAtEnd of log Write old new → HasBytes (IsTextWith of log)
     by (value, summary, known_is, some, front) = (of.text value, summary, (value, known_is, refl), some)
 
 pub written_in_memory : {V : Type 0} (of : TextOfLog V) (log : List ℕ) (answer : Result Summary Fault) (old taken held : List ℕ)
-    → of.lacks log Memory → old ≡ [] → taken ≡ held → FailedIf Read answer 0 0 → (answer ≡ Err Memory → of.reading.needs log) → WritesOnce of log answer old taken
+    → of.lacks log Memory → old ≡ [] → taken ≡ held → FailedIf Read answer 0 0 → (answer ≡ Err Memory → of.reading.needs log) → WritesAtEnd of log answer old taken
     → MatchResult answer (λ summary. IsTextWith of log held summary)
     (λ fault. of.lacks log (fault_in_memory fault) × IsOfMemory (of.reading.needs log ⊎ HasBytes (IsTextWith of log)) (fault_in_memory fault))
 written_in_memory of log (Ok summary) old taken held memory old_is held_is failed refused (value, is, wrote) =
@@ -117,34 +117,34 @@ written_in_memory of log (Err fault) old taken held memory old_is held_is failed
     known (of.lacks log) (of.reading.needs log ⊎ HasBytes (IsTextWith of log)) fault memory is (λ read. reads_well failed (ap Err read))
     (λ why. inl (refused (ap Err why))) (λ why. inr (left_some of log old taken fault why left))
 
--- nothing is told at the end of a log
-abbrev tells_no_end : List Entry → Summary → List ℕ
-tells_no_end T summary = []
+-- nothing is said at the end of a log
+abbrev says_no_end : List Entry → Summary → List ℕ
+says_no_end T summary = []
 
--- a write failed only where something is told of the first lines, if nothing is told at the end
-told_some : (of_frame : List Entry → Entry → List ℕ) (limit : ℕ) (settings : Settings) (log : List ℕ) (given : ℕ) (old new : List ℕ)
-    → FailsToWrite (command (lenient of_frame tells_no_end) says_no_refusal answers_counts needs_none) limit settings log given old new → HasTextOf (said_of_lines (lenient of_frame tells_no_end) settings) log
-told_some of_frame limit settings log given old new (inl (wrote, inl told)) = record {
-  meanings = told.meanings;
-  begins = record { lines = told.read.lines; later = told.read.later; parts = told.read.parts; means = told.read.means };
-  some = told.some;
+-- a write failed only where something is said of the first lines, if nothing is said at the end
+said_some : (of_frame : List Entry → Entry → List ℕ) (limit : ℕ) (settings : Settings) (log : List ℕ) (given : ℕ) (old new : List ℕ)
+    → FailsToWrite (command (lenient of_frame says_no_end) says_no_refusal answers_counts needs_none) limit settings log given old new → HasTextOf (said_of_lines (lenient of_frame says_no_end) settings) log
+said_some of_frame limit settings log given old new (inl (wrote, inl said)) = record {
+  meanings = said.meanings;
+  begins = record { lines = said.read.lines; later = said.read.later; parts = said.read.parts; means = said.read.means };
+  some = said.some;
 }
-told_some of_frame limit settings log given old new (inl (wrote, inr ends)) = record {
+said_some of_frame limit settings log given old new (inl (wrote, inr ends)) = record {
   meanings = ends.meanings;
   begins = all_begin log ends.meanings ends.read.1;
-  some = subst (λ (text : List ℕ). 0 < length text) (append-nil (said_of_lines (lenient of_frame tells_no_end) settings ends.meanings)) ends.some;
+  some = subst (λ (text : List ℕ). 0 < length text) (append-nil (said_of_lines (lenient of_frame says_no_end) settings ends.meanings)) ends.some;
 }
-told_some of_frame limit settings log given old new (inr refuses) = absurd (omega (arith, refuses.some))
+said_some of_frame limit settings log given old new (inr refuses) = absurd (omega (arith, refuses.some))
 
--- a text that is told as the log comes, by a script that is not strict
-pub told_in_memory : (of_frame : List Entry → Entry → List ℕ) (at_the_end : List Entry → Summary → List ℕ) (refusal : RefusalText) (needs : Needing) (NeedsMemory : ℕ → Settings → List ℕ → Type 0) (limit : ℕ) (settings : Settings) (log : List ℕ) (given : ℕ)
+-- a text that is said as the log comes, by a script that is not strict
+pub said_in_memory : (of_frame : List Entry → Entry → List ℕ) (at_the_end : List Entry → Summary → List ℕ) (refusal : RefusalText) (needs : Needing) (NeedsMemory : ℕ → Settings → List ℕ → Type 0) (limit : ℕ) (settings : Settings) (log : List ℕ) (given : ℕ)
     (answer : Result Summary Fault) (old taken held : List ℕ) → old ≡ [] → taken ≡ held → FailedIf Read answer 0 0 → (answer ≡ Err Memory → NeedsMemory limit settings log)
     → (FailsToWrite (command (lenient of_frame at_the_end) refusal answers_counts needs) limit settings log given old taken → NeedsMemory limit settings log)
     → AnswersAndWrites (command (lenient of_frame at_the_end) refusal answers_counts needs) limit settings log given answer old taken
-    → MatchResult answer (λ summary. IsToldWith (lenient of_frame at_the_end) limit settings log held summary) (λ fault. IsUnread NeedsMemory limit settings log (fault_in_memory fault))
-told_in_memory of_frame at_the_end refusal needs NeedsMemory limit settings log given (Ok summary) old taken held old_is held_is failed refused unwritten (whole, meanings, read, counted, wrote) =
+    → MatchResult answer (λ summary. IsSaidWith (lenient of_frame at_the_end) limit settings log held summary) (λ fault. IsUnread NeedsMemory limit settings log (fault_in_memory fault))
+said_in_memory of_frame at_the_end refusal needs NeedsMemory limit settings log given (Ok summary) old taken held old_is held_is failed refused unwritten (whole, meanings, read, counted, wrote) =
     (meanings, read, cc counted, sym held_is ∙ wrote ∙ ap (λ xs. xs ++ whole_of_lines (lenient of_frame at_the_end) limit settings log meanings) old_is)
-told_in_memory of_frame at_the_end refusal needs NeedsMemory limit settings log given (Err fault) old taken held old_is held_is failed refused unwritten is =
+said_in_memory of_frame at_the_end refusal needs NeedsMemory limit settings log given (Err fault) old taken held old_is held_is failed refused unwritten is =
     known (IsUnreadFor false limit settings log) (NeedsMemory limit settings log) fault tt (unread_for (command (lenient of_frame at_the_end) refusal answers_counts needs) refl (λ T summary none. absurd (cc none)) limit settings log given fault old taken is)
     (λ read. reads_well failed (ap Err read)) (λ why. refused (ap Err why))
     (λ why. unwritten (subst (λ (f : Fault). AnswersAndWrites (command (lenient of_frame at_the_end) refusal answers_counts needs) limit settings log given (Err f) old taken) why is))
@@ -152,7 +152,7 @@ told_in_memory of_frame at_the_end refusal needs NeedsMemory limit settings log 
 -- the lines of messages
 pub message_lines_in_memory : (notation : Notation) (limit : ℕ) (settings : Settings) (log : List ℕ) (given : ℕ) (old new : List ℕ)
     → FailsToWrite (command (messages_script notation limit) says_no_refusal answers_counts needs_none) limit settings log given old new → NeedsMemoryForMessageLines notation limit settings log
-message_lines_in_memory notation limit settings log given old new fails = inr (told_some ((messages_script notation limit).of_frame) limit settings log given old new fails)
+message_lines_in_memory notation limit settings log given old new fails = inr (said_some ((messages_script notation limit).of_frame) limit settings log given old new fails)
 
 pub meaning_in_memory : (limit : ℕ) (settings : Settings) (log : List ℕ) (answer : Result (List ItemValue) Fault) → FailedIf Read answer 0 0
     → IfErr answer (λ fault. fault ≢ Write) → (answer ≡ Err Memory → NeedsMemoryToCollect limit settings log) → GivesMeaning limit settings log answer → MeansInMemory limit settings log answer
@@ -165,12 +165,12 @@ abbrev pub counted_in : Result Compared CompareFault → Result CountedCompariso
 counted_in (Ok compared) = Ok (counted_comparison compared)
 counted_in (Err fault) = Err fault
 
-pub comparison_in_memory : (limit : ℕ) (settings : Settings) (one other : List ℕ) (answer : Result Compared CompareFault)
+pub comparison_in_memory : (limit : ℕ) (settings : Settings) (left right : List ℕ) (answer : Result Compared CompareFault)
     → FailedIf (Left Read) answer 0 0 → FailedIf (Right Read) answer 0 0 → IfErr answer (λ fault. fault_in fault ≢ Write)
-    → (answer ≡ Err (Left Memory) → NeedsMemoryToCollect limit settings one) → (answer ≡ Err (Right Memory) → NeedsMemoryToCollect limit settings other)
-    → Compares limit settings one other answer → ComparesWithCounts limit settings one other (counted_in answer)
-comparison_in_memory limit settings one other (Ok compared) left right written left_refused right_refused is = (compared, is, refl)
-comparison_in_memory limit settings one other (Err (Left fault)) left right written left_refused right_refused is =
-    (is, record { no_read = λ read. reads_well left (ap (λ f. Err (Left f)) read); no_write = written; memory = λ why. left_refused (ap (λ f. Err (Left f)) why) })
-comparison_in_memory limit settings one other (Err (Right fault)) left right written left_refused right_refused is =
-    (is, record { no_read = λ read. reads_well right (ap (λ f. Err (Right f)) read); no_write = written; memory = λ why. right_refused (ap (λ f. Err (Right f)) why) })
+    → (answer ≡ Err (Left Memory) → NeedsMemoryToCollect limit settings left) → (answer ≡ Err (Right Memory) → NeedsMemoryToCollect limit settings right)
+    → Compares limit settings left right answer → ComparesWithCounts limit settings left right (counted_in answer)
+comparison_in_memory limit settings left right (Ok compared) left_failed right_failed written left_refused right_refused is = (compared, is, refl)
+comparison_in_memory limit settings left right (Err (Left fault)) left_failed right_failed written left_refused right_refused is =
+    (is, record { no_read = λ read. reads_well left_failed (ap (λ f. Err (Left f)) read); no_write = written; memory = λ why. left_refused (ap (λ f. Err (Left f)) why) })
+comparison_in_memory limit settings left right (Err (Right fault)) left_failed right_failed written left_refused right_refused is =
+    (is, record { no_read = λ read. reads_well right_failed (ap (λ f. Err (Right f)) read); no_write = written; memory = λ why. right_refused (ap (λ f. Err (Right f)) why) })

@@ -1,4 +1,4 @@
-pub mod HandedOn
+pub mod Results
 pub mod LeftAlone
 pub mod Comparisons
 pub mod Lengths
@@ -11,12 +11,13 @@ pub mod CanonicalSayings
 pub mod CanonicalMachines
 pub mod CanonicalScripts
 pub mod MovedStarts
-pub mod MessagePlaces
+pub mod NextStarts
 pub mod FirstFrames
 pub mod SaidMessages
 pub mod Collecting
 pub mod SessionScripts
 pub mod WatchScripts
+pub mod CompletedMessages
 pub mod InMemories
 pub mod Hearings
 pub mod CreditLines

@@ -12,7 +12,7 @@ use Rattle.trace_log.specs.Summing.{summary_of}
 use Rattle.trace_run.specs.proving.Scripts.{SaysNothing}
 use Rattle.uds_exchange.specs.Meaning.{ItemValue}
 
--- it tells nothing
+-- it says nothing
 pub silent_says_nothing : SaysNothing silent_script
 silent_says_nothing = record { of_frame = λ T e. refl; at_the_end = λ T summary. refl }
 

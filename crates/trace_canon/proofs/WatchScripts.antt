@@ -23,9 +23,9 @@ use Rattle.trace_log.specs.Summing.{summary_of}
 use Rattle.trace_run.specs.Script.{answers_counts, command, says_no_refusal, said_after}
 use Rattle.trace_run.specs.Ran.{AnswersAndWrites}
 use Rattle.trace_log.specs.Trace.{trace}
-use Rattle.trace_canon.specs.WatchScript.{decided_of, newly_decided, text_behind, watching_script, WritesTheList}
-use Rattle.trace_canon.specs.Laws.{WatchTellsDecided, WatchTellsTheList}
-use Rattle.trace_canon.specs.proving.Watching.{SaysLines, SaysDecided, WatchesItems}
+use Rattle.trace_canon.specs.WatchScript.{decided_of, newly_decided, text_behind, watch_script, WritesTheList}
+use Rattle.trace_canon.specs.Laws.{WatchSaysDecided, WatchSaysTheList}
+use Rattle.trace_canon.specs.proving.Watching.{SaysPutItem, SaysLines, SaysDecided, WatchesItems}
 use Rattle.trace_log.specs.declared.fault.Fault.{Fault}
 use Rattle.trace_text.specs.declared.item_style.ItemStyle.{ItemStyle}
 use Rattle.trace_log.specs.declared.summary.Summary.{Summary}
@@ -41,19 +41,13 @@ next_number n after is few = omega arith
 
 module _ {S : Type 0} (says : S → List ℕ → S → Type 0) (nothing : (s : S) → says s [] s)
     (onward : (s m t : S) (a b : List ℕ) → says s a m → says m b t → says s (a ++ b) t) where
-  -- the line of an item was said
-  abbrev pub SaysItem : LineSink S → ItemValue → LineSink S → Type 0
-  SaysItem s item t =
-      (t.out.ghost_name ≡ s.out.ghost_name) × (t.number.ghost_name ≡ s.number.ghost_name) × (t.style ≡ s.style)
-      × (t.number.now ≡ one_more s.number.now) × says s.out.now (item_line s.style s.number.now item) t.out.now
-
   -- the lines of items were said
   pub record SaidItems (s : LineSink S) (items : List ItemValue) (t : LineSink S) : Type 0 where
     pub same_out : t.out.ghost_name ≡ s.out.ghost_name
     pub same_number : t.number.ghost_name ≡ s.number.ghost_name
     pub lines : SaysLines says s.style items s.number.now s.out.now t.number.now t.out.now
 
-  pub said_items : (items : List ItemValue) (s t : LineSink S) → PutsItems SaysItem s items t → SaidItems s items t
+  pub said_items : (items : List ItemValue) (s t : LineSink S) → PutsItems (SaysPutItem says) s items t → SaidItems s items t
   said_items [] s t is = subst (SaidItems s []) (sym is) (record { same_out = refl; same_number = refl; lines = λ few. (omega arith, nothing s.out.now) })
   said_items (item ∷ later) s t (between, one, rest) =
       let after = said_items later between t rest in
@@ -89,12 +83,12 @@ pub completes_kept : (T : List Entry) (e : Entry) (judged : Judged) → Complete
 completes_kept T e judged completes kept =
     (judged.bytes.now, completes.did, subst (λ d. IsKept (messages MESSAGE_LIMIT T) (d, judged.bytes.now)) (sym completes.dir) kept)
 
-module _ {S : Type 0} (says : S → List ℕ → S → Type 0) (style kept : ItemStyle) (T : List Entry) where
+module _ {S : Type 0} (says : S → List ℕ → S → Type 0) (style own_style : ItemStyle) (T : List Entry) where
   -- a message: the lines of what it decides were said
   pub watches_next : (e : Entry) (message : Message) (decider decider_now : DeciderValue) (number number_now : ℕ) (out out_now : S) → length T < 2 ^ 62
-      → messages MESSAGE_LIMIT (T ++ e ∷ []) ≡ messages MESSAGE_LIMIT T ++ message ∷ [] → WatchesItems style T decider kept number
-      → decider_now ≡ decider_after (messages MESSAGE_LIMIT T ++ message ∷ []) → SaysDecided says kept (messages MESSAGE_LIMIT T) message number out number_now out_now
-      → WatchesItems style (T ++ e ∷ []) decider_now kept number_now × says out (text_behind style MESSAGE_LIMIT T (newly_decided MESSAGE_LIMIT T e)) out_now
+      → messages MESSAGE_LIMIT (T ++ e ∷ []) ≡ messages MESSAGE_LIMIT T ++ message ∷ [] → WatchesItems style T decider own_style number
+      → decider_now ≡ decider_after (messages MESSAGE_LIMIT T ++ message ∷ []) → SaysDecided says own_style (messages MESSAGE_LIMIT T) message number out number_now out_now
+      → WatchesItems style (T ++ e ∷ []) decider_now own_style number_now × says out (text_behind style MESSAGE_LIMIT T (newly_decided MESSAGE_LIMIT T e)) out_now
   watches_next e message decider decider_now number number_now out out_now few next stood decides (items, are, lines) =
       let before = decided_of MESSAGE_LIMIT T in
       let longer : decided_of MESSAGE_LIMIT (T ++ e ∷ []) ≡ before ++ items = ap decided next ∙ are in
@@ -111,8 +105,8 @@ module _ {S : Type 0} (says : S → List ℕ → S → Type 0) (style kept : Ite
 
   -- no message: nothing is
   pub watches_on : (nothing : (s : S) → says s [] s) (e : Entry) (decider : DeciderValue) (number : ℕ) (out : S) → length T < 2 ^ 62
-      → messages MESSAGE_LIMIT (T ++ e ∷ []) ≡ messages MESSAGE_LIMIT T → WatchesItems style T decider kept number
-      → WatchesItems style (T ++ e ∷ []) decider kept number × says out (text_behind style MESSAGE_LIMIT T (newly_decided MESSAGE_LIMIT T e)) out
+      → messages MESSAGE_LIMIT (T ++ e ∷ []) ≡ messages MESSAGE_LIMIT T → WatchesItems style T decider own_style number
+      → WatchesItems style (T ++ e ∷ []) decider own_style number × says out (text_behind style MESSAGE_LIMIT T (newly_decided MESSAGE_LIMIT T e)) out
   watches_on nothing e decider number out few next stood =
       let before = decided_of MESSAGE_LIMIT T in
       let same : messages MESSAGE_LIMIT (T ++ e ∷ []) ≡ messages MESSAGE_LIMIT T = next in
@@ -128,8 +122,8 @@ module _ {S : Type 0} (says : S → List ℕ → S → Type 0) (style kept : Ite
       )
 
   -- at the end what is not decided
-  pub watched : (decider : DeciderValue) (number number_now : ℕ) (out out_now : S) → WatchesItems style T decider kept number
-      → SaysLines says kept (undecided (messages MESSAGE_LIMIT T)) number out number_now out_now
+  pub watched : (decider : DeciderValue) (number number_now : ℕ) (out out_now : S) → WatchesItems style T decider own_style number
+      → SaysLines says own_style (undecided (messages MESSAGE_LIMIT T)) number out number_now out_now
       → says out (text_behind style MESSAGE_LIMIT T (undecided (messages MESSAGE_LIMIT T))) out_now
   watched decider number number_now out out_now stood lines =
       let all_few = few_items T in
@@ -138,7 +132,7 @@ module _ {S : Type 0} (says : S → List ℕ → S → Type 0) (style kept : Ite
       let few = stood.few in
       subst (λ text. says out text out_now) (λ i. list_text_from (same i) (numbered i) (undecided (messages MESSAGE_LIMIT T))) (lines (omega arith)).1
 
--- ---- all that is told
+-- ---- all that is said
 
 module _ (style : ItemStyle) (limit : ℕ) where
   -- the list of items, and the text of those behind them
@@ -146,10 +140,10 @@ module _ (style : ItemStyle) (limit : ℕ) where
       → list_text style (decided_of limit T) ++ text_behind style limit T items ≡ list_text style (decided_of limit T ++ items)
   joined T items = sym (lines-append style 1 (decided_of limit T) items)
 
-  -- the list so far, and what is told of one more frame
-  next_told : (T : List Entry) (e : Entry)
+  -- the list so far, and what is said of one more frame
+  next_said : (T : List Entry) (e : Entry)
       → list_text style (decided_of limit T) ++ text_behind style limit T (newly_decided limit T e) ≡ list_text style (decided_of limit (T ++ e ∷ []))
-  next_told T e =
+  next_said T e =
       let M = messages limit T in
       let grows = decided_grows M (told_message e.dir (verdict limit T e).verdict) in
       let longer : decided_of limit (T ++ e ∷ []) ≡ decided M ++ grows.0 = ap decided (messages_more limit T e) ∙ grows.1 in
@@ -158,30 +152,30 @@ module _ (style : ItemStyle) (limit : ℕ) where
 
   -- and of all that follow
   from_there : (past rest : List Entry)
-      → list_text style (decided_of limit past) ++ said_after ((watching_script style limit).of_frame) past rest ≡ list_text style (decided_of limit (past ++ rest))
+      → list_text style (decided_of limit past) ++ said_after ((watch_script style limit).of_frame) past rest ≡ list_text style (decided_of limit (past ++ rest))
   from_there past [] = append-nil (list_text style (decided_of limit past)) ∙ ap (λ T. list_text style (decided_of limit T)) (sym (append-nil past))
   from_there past (e ∷ rest) =
       let word = text_behind style limit past (newly_decided limit past e) in
-      let later = said_after ((watching_script style limit).of_frame) (past ++ e ∷ []) rest in
-      sym (append_assoc (list_text style (decided_of limit past)) word later) ∙ ap (λ x. x ++ later) (next_told past e) ∙ from_there (past ++ e ∷ []) rest
+      let later = said_after ((watch_script style limit).of_frame) (past ++ e ∷ []) rest in
+      sym (append_assoc (list_text style (decided_of limit past)) word later) ∙ ap (λ x. x ++ later) (next_said past e) ∙ from_there (past ++ e ∷ []) rest
       ∙ ap (λ T. list_text style (decided_of limit T)) (append_assoc past (e ∷ []) rest)
 
-pub watch_tells_decided : WatchTellsDecided
-watch_tells_decided style limit T = from_there style limit [] T
+pub watch_says_decided : WatchSaysDecided
+watch_says_decided style limit T = from_there style limit [] T
 
-pub watch_tells_the_list : WatchTellsTheList
-watch_tells_the_list style limit T summary =
+pub watch_says_the_list : WatchSaysTheList
+watch_says_the_list style limit T summary =
     let M = messages limit T in
-    ap (λ x. x ++ text_behind style limit T (undecided M)) (watch_tells_decided style limit T) ∙ joined style limit T (undecided M)
+    ap (λ x. x ++ text_behind style limit T (undecided M)) (watch_says_decided style limit T) ∙ joined style limit T (undecided M)
     ∙ ap (list_text style) (decided_then_undecided M)
 
 -- so where a run comes to the end of the log, that was written
 pub writes_the_list : (style : ItemStyle) (settings : Settings) (log : List ℕ) (given : ℕ) (result : Result Summary Fault) (old new : List ℕ)
-    → AnswersAndWrites (command (watching_script style MESSAGE_LIMIT) says_no_refusal answers_counts (CompletesKept MESSAGE_LIMIT)) MESSAGE_LIMIT settings log given result old new
+    → AnswersAndWrites (command (watch_script style MESSAGE_LIMIT) says_no_refusal answers_counts (CompletesKept MESSAGE_LIMIT)) MESSAGE_LIMIT settings log given result old new
     → OnOk result (WritesTheList style MESSAGE_LIMIT settings log old new)
 writes_the_list style settings log given (Ok summary) old new (all, meanings, is, counted, wrote) = (
   meaning_of_lines MESSAGE_LIMIT settings meanings,
   record { meanings = meanings; means = is.1; found = refl },
-  wrote ∙ ap (λ x. old ++ x) (watch_tells_the_list style MESSAGE_LIMIT (trace settings meanings) (summary_of MESSAGE_LIMIT settings log meanings)),
+  wrote ∙ ap (λ x. old ++ x) (watch_says_the_list style MESSAGE_LIMIT (trace settings meanings) (summary_of MESSAGE_LIMIT settings log meanings)),
 )
 writes_the_list style settings log given (Err why) old new answers = tt

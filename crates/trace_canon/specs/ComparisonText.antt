@@ -6,9 +6,9 @@ use Rattle.uds_exchange.specs.Meaning.{ItemValue}
 use Rattle.trace_text.specs.Json.{Value, Members, nothing, member, object_line, value_text}
 use Rattle.trace_text.specs.Json as json
 use Rattle.trace_text.specs.ItemLines.{item_object, worded_line}
-use Rattle.trace_canon.specs.declared.comparing.Compared.{Compared}
-use Rattle.trace_canon.specs.declared.comparing.Comparison.{Comparison}
-use Rattle.trace_canon.specs.declared.comparing.Comparison.TheVariants.{Same, Different}
+use Rattle.trace_canon.specs.declared.comparer.Compared.{Compared}
+use Rattle.trace_canon.specs.declared.comparer.Comparison.{Comparison}
+use Rattle.trace_canon.specs.declared.comparer.Comparison.TheVariants.{Same, Different}
 use Rattle.trace_canon.specs.declared.comparison_text.ComparisonStyle.{ComparisonStyle}
 use Rattle.trace_text.specs.declared.item_style.Numbering.TheVariants.{Shown}
 use Rattle.trace_text.specs.declared.notation.Notation.{Notation}
@@ -47,7 +47,7 @@ comparison_lines shows Same left right = codes "same\n"
 comparison_lines shows (Different index) left right =
     codes "different at item " ++ decimal (index + 1) ++ codes "\n" ++ (if shows then shown_lines index left right else [])
 
--- the members of two logs that differ at this index, and what else is told of them
+-- the members of two logs that differ at this index, and what else is said of them
 abbrev pub different_members : ℕ → Members → Members
 different_members index later =
     member (codes "same") (json.truth false) (member (codes "item") (json.number (index + 1)) later)

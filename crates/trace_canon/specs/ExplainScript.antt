@@ -1,4 +1,4 @@
--- What is told of a log that is explained, in the order of the log.
+-- What is said of a log that is explained, in the order of the log.
 use Rattle.std.specs.Prelude.{ℕ, false, List, [], ◌++◌, Option, Some, None, option_map}
 use Rattle.direction.specs.declared.Dir.{Dir}
 use Rattle.direction.specs.declared.Dir.TheVariants as dir
@@ -11,12 +11,12 @@ use Rattle.trace_log.specs.declared.summary.Summary.{Summary}
 use Rattle.trace_text.specs.RemarkLines.{remark_text}
 use Rattle.trace_run.specs.Script.{Script}
 
--- what is told of a reception that the frame of this line ended, if it ended one
+-- what is said of a reception that the frame of this line ended, if it ended one
 abbrev pub ended_text : Notation → ℕ → Option Ended → List ℕ
 ended_text notation line None = []
 ended_text notation line (Some ended) = remark_text notation (remark.Ended line ended)
 
--- what is told of a frame of this line, sent by this side, if it was dropped
+-- what is said of a frame of this line, sent by this side, if it was dropped
 abbrev pub dropped_text : Notation → ℕ → Dir → VerdictValue → List ℕ
 dropped_text notation line d (dropped reason) = remark_text notation (remark.Dropped line d reason)
 dropped_text notation line d (message bytes) = []
@@ -47,7 +47,7 @@ unfinished_text notation receptions =
 abbrev pub end_text : Notation → Receptions → Summary → List ℕ
 end_text notation receptions summary = unfinished_text notation receptions ++ remark_text notation (remark.Counts summary)
 
--- what `explain` tells: of each frame its lines, and at the end the receptions that stand, and the counts
+-- what `explain` says: of each frame its lines, and at the end the receptions that stand, and the counts
 abbrev pub explain_script : Notation → ℕ → Script
 explain_script notation limit = record {
   strict = false;

@@ -2,7 +2,7 @@
 use Rattle.std.specs.Prelude.{◌≡◌, ◌≢◌, ◌⊎◌, ◌<◌, ⊤, ℕ, List, length, Option, Result, Ok, Err}
 use Rattle.can_log.specs.declared.frame.Stamped.{Stamped}
 use Rattle.uds_exchange.specs.Meaning.{ItemValue}
-use Rattle.trace_canon.specs.declared.comparing.Compared.{Compared}
+use Rattle.trace_canon.specs.declared.comparer.Compared.{Compared}
 use Rattle.trace_canon.specs.declared.in_memory.CountedComparison.{CountedComparison}
 use Rattle.trace_log.specs.declared.fault.CompareFault.{CompareFault}
 use Rattle.trace_log.specs.declared.fault.CompareFault.TheVariants.{Left, Right}
@@ -16,13 +16,14 @@ use Rattle.trace_canon.specs.Sessions.{GivesMeaning, IsAcceptedWith}
 use Rattle.trace_canon.specs.Compared.{Compares, fault_in}
 use Rattle.trace_log.specs.ReadAs.{IsReadAs}
 use Rattle.trace_canon.specs.ExplainScript.{explain_script}
-use Rattle.trace_canon.specs.Finding.{IsFoundIn, NeedsMemoryToFind, credit_lines_text}
-use Rattle.trace_canon.specs.MemoryNeeded.{NeedsMemoryToCollect, NeedsMemoryToOrder}
+use Rattle.trace_canon.specs.Finding.{IsFoundIn}
+use Rattle.trace_canon.specs.MemoryNeeded.{NeedsMemoryToCollect, NeedsMemoryToFind, NeedsMemoryToOrder}
+use Rattle.trace_canon.specs.CreditLines.{credit_lines_text}
 use Rattle.trace_text.specs.ItemLines.{list_text}
 use Rattle.trace_log.specs.CanonicalLog.{canonical_log_of_lines}
 use Rattle.trace_log.specs.Needing.{HasTextOf, NeedsMemoryToReceive}
 use Rattle.trace_log.specs.Outcome.{IsOutcome}
-use Rattle.trace_canon.specs.MessageLines.{messages_script}
+use Rattle.trace_canon.specs.MessagesScript.{messages_script}
 use Rattle.trace_log.specs.Settings.{Settings}
 use Rattle.trace_log.specs.Summing.{summary_of}
 use Rattle.trace_run.specs.Script.{Script, said_of_lines, whole_of_lines}
@@ -36,7 +37,7 @@ pub record IsOfMemory (NeedsMemory : Type 0) (fault : Fault) : Type 0 where
   pub memory : fault ≡ Memory → NeedsMemory
 
 -- the log is refused for what the fault tells, or memory was refused, which it needs. Here and below a need is said of
--- a limit, settings and a log, so that a clause tells these once and names its need by one word.
+-- a limit, settings and a log, so that a clause says these once and names its need by one word.
 abbrev pub IsRefused : (ℕ → Settings → List ℕ → Type 0) → ℕ → Settings → List ℕ → Fault → Type 0
 IsRefused NeedsMemory limit settings log fault =
     TellsOutcome limit settings log fault × IsOfMemory (NeedsMemory limit settings log) fault
@@ -57,19 +58,19 @@ abbrev pub IsListWith : ItemStyle → ℕ → Settings → List ℕ → List ℕ
 IsListWith style limit settings log text summary =
     (items : List ItemValue) × IsAcceptedWith limit settings log items summary × (text ≡ list_text style items)
 
--- the log can be read and has these counts, and this is all that a script tells of it
-abbrev pub IsToldWith : Script → ℕ → Settings → List ℕ → List ℕ → Summary → Type 0
-IsToldWith script limit settings log text summary =
+-- the log can be read and has these counts, and this is all that a script says of it
+abbrev pub IsSaidWith : Script → ℕ → Settings → List ℕ → List ℕ → Summary → Type 0
+IsSaidWith script limit settings log text summary =
     (meanings : List (Option Stamped)) × IsReadAs settings log (Ok meanings)
     × (summary ≡ summary_of limit settings log meanings) × (text ≡ whole_of_lines script limit settings log meanings)
 
 -- the log can be read and has these counts, and these are the lines of its messages in this notation
 abbrev pub AreMessageLinesWith : Notation → ℕ → Settings → List ℕ → List ℕ → Summary → Type 0
-AreMessageLinesWith notation limit = IsToldWith (messages_script notation limit) limit
+AreMessageLinesWith notation limit = IsSaidWith (messages_script notation limit) limit
 
 -- the log can be read and has these counts, and this explains it in this notation
 abbrev pub IsExplanationWith : Notation → ℕ → Settings → List ℕ → List ℕ → Summary → Type 0
-IsExplanationWith notation limit = IsToldWith (explain_script notation limit) limit
+IsExplanationWith notation limit = IsSaidWith (explain_script notation limit) limit
 
 -- the log can be read and has these counts, and this is the text of its credit lines in this notation
 abbrev pub IsFindingWith : Notation → Settings → List ℕ → List ℕ → Summary → Type 0
@@ -100,8 +101,8 @@ abbrev pub NeedsMemoryForExplanation : ℕ → Settings → List ℕ → Type 0
 NeedsMemoryForExplanation limit settings log = ⊤
 
 -- Memory is needed to gather the credit lines: to read the log, or since it has one, whatever the limit of a message.
-abbrev pub NeedsMemoryForFinding : Notation → ℕ → Settings → List ℕ → Type 0
-NeedsMemoryForFinding notation limit settings log = NeedsMemoryToFind log ⊎ HasBytes (IsFindingWith notation settings log)
+abbrev pub NeedsMemoryForCreditLines : Notation → ℕ → Settings → List ℕ → Type 0
+NeedsMemoryForCreditLines notation limit settings log = NeedsMemoryToFind log ⊎ HasBytes (IsFindingWith notation settings log)
 
 -- the meaning of the log, or why it has none
 abbrev pub MeansInMemory : ℕ → Settings → List ℕ → Result (List ItemValue) Fault → Type 0
@@ -110,8 +111,8 @@ MeansInMemory limit settings log (Err fault) = IsRefused NeedsMemoryToCollect li
 
 -- the log of which a fault tells needs memory
 abbrev pub NeedsMemoryOnSide : ℕ → Settings → List ℕ → List ℕ → CompareFault → Type 0
-NeedsMemoryOnSide limit settings one other (Left fault) = NeedsMemoryToCollect limit settings one
-NeedsMemoryOnSide limit settings one other (Right fault) = NeedsMemoryToCollect limit settings other
+NeedsMemoryOnSide limit settings left right (Left fault) = NeedsMemoryToCollect limit settings left
+NeedsMemoryOnSide limit settings left right (Right fault) = NeedsMemoryToCollect limit settings right
 
 -- how two logs compare, and the counts of each: what they mean is left out
 abbrev pub counted_comparison : Compared → CountedComparison
@@ -120,11 +121,11 @@ counted_comparison compared =
 
 -- how the meanings of the two logs compare, with the counts of each; or why one has none
 abbrev pub ComparesWithCounts : ℕ → Settings → List ℕ → List ℕ → Result CountedComparison CompareFault → Type 0
-ComparesWithCounts limit settings one other (Ok counted) =
-    (compared : Compared) × Compares limit settings one other (Ok compared) × (counted ≡ counted_comparison compared)
-ComparesWithCounts limit settings one other (Err fault) =
-    Compares limit settings one other (Err fault)
-    × IsOfMemory (NeedsMemoryOnSide limit settings one other fault) (fault_in fault)
+ComparesWithCounts limit settings left right (Ok counted) =
+    (compared : Compared) × Compares limit settings left right (Ok compared) × (counted ≡ counted_comparison compared)
+ComparesWithCounts limit settings left right (Err fault) =
+    Compares limit settings left right (Err fault)
+    × IsOfMemory (NeedsMemoryOnSide limit settings left right fault) (fault_in fault)
 
 -- the fault of a text that is gathered in memory, where a write fails for want of memory alone
 abbrev pub fault_in_memory : Fault → Fault

@@ -1,9 +1,12 @@
-pub mod ReadOnly
+pub mod FirstFrames
+pub mod ReceptionStarts
+pub mod CreditLines
 pub mod MemoryNeeded
+pub mod WaysOfReading
+pub mod ReadOnly
 pub mod WrittenAtEnd
 pub mod ExplainScript
-pub mod MessageLines
-pub mod ReceptionStarts
+pub mod MessagesScript
 pub mod WatchScript
 pub mod Sessions
 pub mod Compared

@@ -1,14 +1,16 @@
--- For which frames of a log a command needs memory, beyond those whose bytes are kept.
-use Rattle.std.specs.Prelude.{◌≡◌, ℕ, ◌⊎◌, List}
+-- For which frames a command needs memory, and so for which logs.
+use Rattle.std.specs.Prelude.{◌≡◌, ℕ, ◌⊎◌, List, Option}
+use Rattle.can_log.specs.declared.frame.Stamped.{Stamped}
 use Rattle.direction.specs.Dir.{Message}
 use Rattle.isotp_receive.specs.Trace.{Entry}
 use Rattle.isotp_receive.specs.Verdict.{message, messages, verdict}
 use Rattle.uds_exchange.specs.Decider.{IsKept}
 use Rattle.uds_exchange.specs.Orderer.{IsHeld}
 use Rattle.trace_log.specs.Settings.{Settings}
-use Rattle.trace_log.specs.Needing.{HasFrame, IsKeptForMessage}
-use Rattle.trace_log.specs.Refusal.{IsNotRefusedWithin}
-use Rattle.trace_canon.specs.ReadOnly.{WayOfReading}
+use Rattle.trace_log.specs.Needing.{BeginsWithLines, HasFrame, IsKeptForMessage}
+use Rattle.trace_canon.specs.CreditLines.{frames_in}
+use Rattle.trace_canon.specs.FirstFrames.{CompletesMessage}
+use Rattle.uds_find.specs.Credit.{HasCredit}
 
 -- The frame completes a message which is such behind the messages so far.
 abbrev pub CompletesSuch : (List Message → Message → Type 0) → ℕ → List Entry → Entry → Type 0
@@ -23,22 +25,14 @@ CompletesHeld limit T e = CompletesSuch IsHeld limit T e
 abbrev pub CompletesKept : ℕ → List Entry → Entry → Type 0
 CompletesKept limit T e = CompletesSuch IsKept limit T e
 
--- The frame completes a message.
-abbrev pub CompletesMessage : ℕ → List Entry → Entry → Type 0
-CompletesMessage limit T e = (bytes : List ℕ) × ((verdict limit T e).verdict ≡ message bytes)
-
 -- the log has a frame whose bytes are kept, or one that completes a message which is held
 abbrev pub NeedsMemoryToOrder : ℕ → Settings → List ℕ → Type 0
 NeedsMemoryToOrder limit = HasFrame (λ T e. IsKeptForMessage limit T e ⊎ CompletesHeld limit T e)
 
--- how a log is read whose messages are put in order
-abbrev pub reading_to_order : ℕ → Settings → WayOfReading
-reading_to_order limit settings = record {
-  unrefused = IsNotRefusedWithin limit settings;
-  needs = NeedsMemoryToOrder limit settings;
-  max_bytes = settings.max_bytes;
-}
-
 -- the log has a frame whose bytes are kept, or one that completes any message
 abbrev pub NeedsMemoryToCollect : ℕ → Settings → List ℕ → Type 0
 NeedsMemoryToCollect limit = HasFrame (λ T e. IsKeptForMessage limit T e ⊎ CompletesMessage limit T e)
+
+-- the first lines of the log have an answer that is credited
+abbrev pub NeedsMemoryToFind : List ℕ → Type 0
+NeedsMemoryToFind log = (meanings : List (Option Stamped)) × BeginsWithLines log meanings × HasCredit (frames_in meanings)

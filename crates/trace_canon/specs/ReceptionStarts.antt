@@ -6,7 +6,7 @@ use Rattle.isotp_receive.specs.StandingReception.{StandingReception, stands}
 use Rattle.isotp_receive.specs.Trace.{Entry, same_direction}
 use Rattle.isotp_receive.specs.Verdict.{VerdictValue, message, began, stored, flowed, dropped, EventValue}
 use Rattle.isotp_receive.specs.declared.event.Ended.{Ended}
-use Rattle.trace_canon.specs.MessageLines.{last_start, place_of}
+use Rattle.trace_canon.specs.FirstFrames.{last_start, place_of}
 use Rattle.trace_canon.specs.declared.reception_starts.FramePlace.{FramePlace}
 use Rattle.trace_canon.specs.declared.reception_starts.ReceptionStarts.{ReceptionStarts}
 

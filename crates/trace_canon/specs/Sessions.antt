@@ -1,8 +1,8 @@
 -- What the frames of a log mean, and what a call that writes nothing answers of it.
 use Rattle.std.specs.Prelude.{◌≡◌, ℕ, List, Result, Ok, Err}
 use Rattle.trace_io.specs.declared.device.Source.{Ghosts as SourceGhosts}
-use Rattle.trace_canon.specs.MemoryNeeded.{NeedsMemoryToCollect}
-use Rattle.trace_canon.specs.ReadOnly.{RanToRead, WayOfReading}
+use Rattle.trace_canon.specs.ReadOnly.{RanToRead}
+use Rattle.trace_canon.specs.WaysOfReading.{reading_to_collect}
 use Rattle.trace_canon.specs.declared.collector.Session.{Session}
 use Rattle.trace_log.specs.declared.fault.Fault.{Fault}
 use Rattle.isotp_receive.specs.Trace.{Entry}
@@ -11,7 +11,6 @@ use Rattle.uds_exchange.specs.Meaning.{ItemValue, meaning}
 use Rattle.trace_log.specs.Settings.{Settings}
 use Rattle.trace_log.specs.Messages.{HasMeaning}
 use Rattle.trace_log.specs.Outcome.{Accepted, IsOutcome}
-use Rattle.trace_log.specs.Refusal.{IsNotRefusedWithin}
 use Rattle.trace_log.specs.Answers.{TellsOutcome}
 use Rattle.trace_log.specs.declared.summary.Summary.{Summary}
 
@@ -37,15 +36,6 @@ abbrev pub GivesMeaning : ℕ → Settings → List ℕ → Result (List ItemVal
 GivesMeaning limit settings log (Ok items) =
     ((accepted : Accepted) × IsOutcome limit settings log (Ok accepted)) × HasMeaning limit settings log items
 GivesMeaning limit settings log (Err fault) = TellsOutcome limit settings log fault
-
--- how a log is read whose items are collected: memory is needed for a message of several frames, or for one that is
--- complete
-abbrev pub reading_to_collect : ℕ → Settings → WayOfReading
-reading_to_collect limit settings = record {
-  unrefused = IsNotRefusedWithin limit settings;
-  needs = NeedsMemoryToCollect limit settings;
-  max_bytes = settings.max_bytes;
-}
 
 -- the run of a call that collects the items of a log and answers so
 abbrev pub RanToCollect : {R A : Type 0} → SourceGhosts R → (ℕ → Settings → List ℕ → Result A Fault → Type 0) → ℕ → Settings

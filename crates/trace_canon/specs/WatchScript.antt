@@ -1,4 +1,4 @@
--- What is told of a log whose items are watched: the list of them, each line as soon as its item is decided.
+-- What is said of a log whose items are watched: the list of them, each line as soon as its item is decided.
 use Rattle.std.specs.Prelude.{◌≡◌, ℕ, ◌+◌, false, List, [], ◌∷◌, ◌++◌, length, drop}
 use Rattle.isotp_receive.specs.Trace.{Entry}
 use Rattle.isotp_receive.specs.Verdict.{messages}
@@ -22,9 +22,9 @@ newly_decided limit T e = drop (length (decided_of limit T)) (decided_of limit (
 abbrev pub text_behind : ItemStyle → ℕ → List Entry → List ItemValue → List ℕ
 text_behind style limit T items = list_text_from style (1 + length (decided_of limit T)) items
 
--- what `watch` tells: of each frame the items that it decides, and at the end those that are not decided
-abbrev pub watching_script : ItemStyle → ℕ → Script
-watching_script style limit = record {
+-- what `watch` says: of each frame the items that it decides, and at the end those that are not decided
+abbrev pub watch_script : ItemStyle → ℕ → Script
+watch_script style limit = record {
   strict = false;
   of_frame = λ T e. text_behind style limit T (newly_decided limit T e);
   at_the_end = λ T summary. text_behind style limit T (undecided (messages limit T));

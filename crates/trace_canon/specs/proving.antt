@@ -2,7 +2,7 @@
 pub mod Writing
 pub mod Saying
 pub mod CanonicalScript
-pub mod MessageTelling
+pub mod MessageSaying
 pub mod Watching
 pub mod Measuring
 pub mod SessionScript

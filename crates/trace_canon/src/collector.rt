@@ -72,7 +72,7 @@ pub(crate) struct Collector {
 impl Machine for Collector {
     ghost use Rattle.isotp_receive.specs.declared.TheConstants.{MESSAGE_LIMIT};
     ghost use Rattle.isotp_receive.specs.Verdict.{messages};
-    ghost use Rattle.trace_canon.specs.MemoryNeeded.{CompletesMessage};
+    ghost use Rattle.trace_canon.specs.FirstFrames.{CompletesMessage};
     ghost use Rattle.trace_canon.specs.proving.SessionScript.{Collects, answers_session, silent_script};
 
     type Answer = Session;

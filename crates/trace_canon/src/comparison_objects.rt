@@ -3,11 +3,11 @@ ghost use Rattle.trace_canon.specs.ComparisonText.{comparison_members, different
 ghost use Rattle.trace_text.specs.Json.{object_line};
 
 use crate::compared_items::say_item_at;
-use crate::comparing::{Compared, Comparison};
+use crate::comparer::{Compared, Comparison};
 use text_parts::say;
 use trace_io::TextSink;
 use trace_text::values::say_text;
-use trace_text::{Notation, Place};
+use trace_text::{Notation, Ordinal};
 
 /// Says how two logs compare, as an object in a line.
 pub(crate) fn say_comparison_object<S: TextSink>(
@@ -24,7 +24,7 @@ pub(crate) fn say_comparison_object<S: TextSink>(
         Comparison::Same => say_text(out, "{\"same\":true}\n"),
         Comparison::Different { item } if shows_items => say_shown_object(compared, item, out),
         Comparison::Different { item } => {
-            say(out, ("{\"same\":false,\"item\":", Place(item), "}\n"));
+            say(out, ("{\"same\":false,\"item\":", Ordinal(item), "}\n"));
         }
     }
 }
@@ -38,7 +38,7 @@ fn say_shown_object<S: TextSink>(compared: &Compared, index: usize, out: &mut S)
 {
     say(
         out,
-        ("{\"same\":false,\"item\":", Place(index), ",\"left\":"),
+        ("{\"same\":false,\"item\":", Ordinal(index), ",\"left\":"),
     );
     say_item_at(&compared.left.meaning, index, Notation::Json, out);
     say_text(out, ",\"right\":");

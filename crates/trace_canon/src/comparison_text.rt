@@ -4,14 +4,14 @@ ghost use Rattle.trace_run.specs.Printed.{Prints};
 ghost use Rattle.trace_io.specs.Counted.{IsLowCount};
 
 use crate::compared_items::say_item_at;
-use crate::comparing::{Compared, Comparison};
+use crate::comparer::{Compared, Comparison};
 use crate::comparison_objects::say_comparison_object;
 use text_parts::{Part, say};
 use trace_io::{Target, TextSink};
 use trace_log::Fault;
 use trace_run::print;
 use trace_text::values::say_text;
-use trace_text::{Notation, Place};
+use trace_text::{Notation, Ordinal};
 
 /// How a comparison is written.
 #[derive(Clone, Copy, Debug, PartialEq, Eq)]
@@ -66,7 +66,7 @@ fn say_lines<S: TextSink>(compared: &Compared, shows_items: bool, out: &mut S)
     match compared.comparison {
         Comparison::Same => say_text(out, "same\n"),
         Comparison::Different { item } => {
-            say(out, ("different at item ", Place(item), "\n"));
+            say(out, ("different at item ", Ordinal(item), "\n"));
             if shows_items {
                 say_items_at(compared, item, out);
             }

@@ -1,5 +1,5 @@
 //! The text of credit lines, said line by line.
-ghost use Rattle.trace_canon.specs.Finding.{credit_line_text, credit_lines_text};
+ghost use Rattle.trace_canon.specs.CreditLines.{credit_line_text, credit_lines_text};
 
 use text_parts::say;
 use trace_io::TextSink;

@@ -5,15 +5,15 @@ ghost use Rattle.isotp_receive.specs.declared.TheConstants.{MESSAGE_LIMIT};
 ghost use Rattle.trace_canon.specs.InMemory.{IsCanonicalLogWith, IsListWith, AreMessageLinesWith, IsExplanationWith};
 ghost use Rattle.trace_canon.specs.InMemory.{IsFindingWith, MeansInMemory, ComparesWithCounts, fault_in_memory};
 ghost use Rattle.trace_canon.specs.InMemory.{NeedsMemoryForCanonicalLog, NeedsMemoryForList, NeedsMemoryForMessageLines};
-ghost use Rattle.trace_canon.specs.InMemory.{NeedsMemoryForExplanation, NeedsMemoryForFinding, IsRefused, IsUnread};
+ghost use Rattle.trace_canon.specs.InMemory.{NeedsMemoryForExplanation, NeedsMemoryForCreditLines, IsRefused, IsUnread};
 ghost use Rattle.trace_canon.specs.InMemory as Spec;
 
 use crate::collector::meaning_of;
-use crate::comparing::{Compared, Comparison, compare};
+use crate::comparer::{Compared, Comparison, compare};
 use crate::explainer::explain;
-use crate::finding::find;
+use crate::finder::find;
 use crate::lister::list;
-use crate::message_lines::messages;
+use crate::messenger::messages;
 use crate::normaliser::normalise;
 use std::alloc::Global;
 use trace_io::{Bytes, Writing};
@@ -38,14 +38,14 @@ pub struct CountedComparison {
 
 /// What the messages of a log mean, as [`meaning_of`](crate::meaning_of) answers it.
 pub fn meaning(alloc: Global, config: &Config, log: &[u8]) -> Result<Meaning, Fault>
-    ensures { MeansInMemory MESSAGE_LIMIT config.now log.now result }
+    ensures answer { MeansInMemory MESSAGE_LIMIT config.now log.now result }
 {
     meaning_of(alloc, config, &mut Bytes::new(log))
 }
 
 /// The canonical log of a log, as [`normalise`](crate::normalise) writes it.
 pub fn canonical_log(alloc: Global, config: &Config, log: &[u8]) -> Result<CountedText, Fault>
-    ensures { MatchResult result
+    ensures answer { MatchResult result
         (λ counted. IsCanonicalLogWith MESSAGE_LIMIT config.now log.now counted.text.items counted.summary)
         (IsRefused NeedsMemoryForCanonicalLog MESSAGE_LIMIT config.now log.now) }
 {
@@ -61,7 +61,7 @@ pub fn item_list(
     style: ItemStyle,
     log: &[u8],
 ) -> Result<CountedText, Fault>
-    ensures { MatchResult result
+    ensures answer { MatchResult result
         (λ counted. IsListWith style MESSAGE_LIMIT config.now log.now counted.text.items counted.summary)
         (IsRefused (NeedsMemoryForList style) MESSAGE_LIMIT config.now log.now) }
 {
@@ -70,14 +70,14 @@ pub fn item_list(
     counted_text(answer, writer.into_inner())
 }
 
-/// The line of each message of a log, as [`messages`](crate::messages) writes them.
+/// The lines of the messages of a log, as [`messages`](crate::messages) writes them.
 pub fn message_lines(
     alloc: Global,
     config: &Config,
     notation: Notation,
     log: &[u8],
 ) -> Result<CountedText, Fault>
-    ensures { MatchResult result
+    ensures answer { MatchResult result
         (λ counted. AreMessageLinesWith notation MESSAGE_LIMIT config.now log.now counted.text.items counted.summary)
         (IsUnread (NeedsMemoryForMessageLines notation) MESSAGE_LIMIT config.now log.now) }
 {
@@ -93,7 +93,7 @@ pub fn explanation(
     notation: Notation,
     log: &[u8],
 ) -> Result<CountedText, Fault>
-    ensures { MatchResult result
+    ensures answer { MatchResult result
         (λ counted. IsExplanationWith notation MESSAGE_LIMIT config.now log.now counted.text.items counted.summary)
         (IsUnread NeedsMemoryForExplanation MESSAGE_LIMIT config.now log.now) }
 {
@@ -109,9 +109,9 @@ pub fn credit_lines(
     notation: Notation,
     log: &[u8],
 ) -> Result<CountedText, Fault>
-    ensures { MatchResult result
+    ensures answer { MatchResult result
         (λ counted. IsFindingWith notation config.now log.now counted.text.items counted.summary)
-        (IsUnread (NeedsMemoryForFinding notation) MESSAGE_LIMIT config.now log.now) }
+        (IsUnread (NeedsMemoryForCreditLines notation) MESSAGE_LIMIT config.now log.now) }
 {
     let mut writer = Writing::new(Vec::new(alloc));
     let answer = find(alloc, config, notation, &mut Bytes::new(log), &mut writer);
@@ -125,14 +125,14 @@ pub fn comparison(
     left: &[u8],
     right: &[u8],
 ) -> Result<CountedComparison, CompareFault>
-    ensures { ComparesWithCounts MESSAGE_LIMIT config.now left.now right.now result }
+    ensures answer { ComparesWithCounts MESSAGE_LIMIT config.now left.now right.now result }
 {
     let compared = compare(alloc, config, &mut Bytes::new(left), &mut Bytes::new(right))?;
     Ok(counted_comparison(&compared))
 }
 
 /// How two logs compare, and the counts of each: what they mean is left out.
-fn counted_comparison(compared: &Compared) -> CountedComparison
+pub fn counted_comparison(compared: &Compared) -> CountedComparison
     ensures { result ≡ Spec.counted_comparison compared.now }
 {
     CountedComparison {
@@ -144,7 +144,7 @@ fn counted_comparison(compared: &Compared) -> CountedComparison
 
 /// The text that was gathered with its counts, where all is well: where a write failed, memory was refused.
 pub fn counted_text(answer: Result<Summary, Fault>, text: Vec<u8>) -> Result<CountedText, Fault>
-    ensures { MatchResult answer
+    ensures answer { MatchResult answer
         (λ summary. result ≡ Ok (record { text = text; summary = summary }))
         (λ fault. result ≡ Err (fault_in_memory fault)) }
 {

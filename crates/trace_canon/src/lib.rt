@@ -4,7 +4,7 @@
 //! Two recordings of one diagnostic session differ in time stamps, interface names, padding, frame sizes and foreign
 //! traffic. [`normalise`] reads a log and writes the one spelling that all logs with the same meaning share. So two
 //! logs mean the same session exactly where their canonical logs are equal byte for byte. A log that is not accepted
-//! is refused for a reason that is told, with the line where one is the reason.
+//! is refused with its reason, and with the line and the column where it has them.
 //!
 //! The log
 //!
@@ -28,58 +28,60 @@
 //!
 //! | Command | Files | Definitions |
 //! |---|---|---|
-//! | [`normalise`] | `normaliser`, `canonical_sink`, `progress`, `length` | `Answers`, `Outcome`, `CanonicalLog` of `trace_log` |
+//! | [`normalise`] | `normaliser`, `canonical_sink`, `canonical_lines`, `progress`, `length` | `Answers`, `Outcome`, `CanonicalLog` of `trace_log` |
 //! | [`explain`] | `explainer` | `ExplainScript` |
-//! | [`messages`] | `message_lines`, `reception_starts`, `message_objects`, `message_parts` | `MessageLines`, `ReceptionStarts` |
+//! | [`messages`] | `messenger`, `message_objects`, `message_parts` | `MessagesScript` |
 //! | [`watch`] | `watcher` | `WatchScript` |
 //! | [`meaning_of`] | `collector`, `length` | `Sessions` |
-//! | [`compare`] | `comparing` | `Compared` |
+//! | [`compare`] | `comparer` | `Compared` |
 //! | [`write_comparison`] | `comparison_text`, `comparison_objects`, `compared_items` | `ComparisonText` |
 //! | [`list`], [`write_items`] | `lister`, `item_text` | `ItemText` |
-//! | [`find`] | `finding`, `hearing`, `credit_lines` | `Finding` |
+//! | [`find`] | `finder`, `hearer`, `credit_lines` | `Finding`, `CreditLines` |
+//! | where messages began, for [`messages`] and for a page | [`reception_starts`] | `FirstFrames`, `ReceptionStarts` |
 //! | over logs in memory, seven of these | [`in_memory`] | `InMemory` |
 //! | laws of [`watch`] and of [`messages`] | [`laws`] | `Laws` |
 //!
-//! How a log is read, and what a run comes to that writes nothing, is in `ReadOnly`; what one comes to that writes a
-//! text at the end, in `WrittenAtEnd`; for which frames a command needs memory, in `MemoryNeeded`.
+//! How a log is read is in `WaysOfReading`, for which frames a command needs memory, in `MemoryNeeded`; what a run
+//! comes to that writes nothing, in `ReadOnly`, and what one that writes a text at the end, in `WrittenAtEnd`.
 //!
-//! What tells of a log while it comes is a machine of [`trace_run`](trace_run::Machine): those of the first four rows.
-//! So is what collects the meaning of a log: on it stand [`meaning_of`], [`compare`] and [`write_items`].
+//! What says text of a log while it comes is a machine of [`trace_run`](trace_run::Machine): those of the first four
+//! rows. So is what collects the meaning of a log: on it stand [`meaning_of`], [`compare`] and [`write_items`].
 //!
 //! [`find`] is none: it hears every frame, whatever its identifier, and has no receiver. What the credit lines are that
-//! it writes, `Finding` says.
+//! it writes, `CreditLines` says.
 #![tactic(auto)]
 
+mod canonical_lines;
 mod canonical_sink;
 mod collector;
 mod compared_items;
-mod comparing;
+mod comparer;
 mod comparison_objects;
 mod comparison_text;
 mod credit_lines;
 mod explainer;
-mod finding;
-mod hearing;
+mod finder;
+mod hearer;
 pub mod in_memory;
 mod item_text;
 pub mod laws;
 mod length;
 mod lister;
-mod message_lines;
 mod message_objects;
 mod message_parts;
+mod messenger;
 mod normaliser;
 mod progress;
 pub mod reception_starts;
 mod watcher;
 
 pub use collector::{Session, meaning_of};
-pub use comparing::{Compared, Comparison, compare};
+pub use comparer::{Compared, Comparison, compare};
 pub use comparison_text::{ComparisonStyle, write_comparison};
 pub use explainer::explain;
-pub use finding::find;
+pub use finder::find;
 pub use item_text::{ItemText, write_items};
 pub use lister::list;
-pub use message_lines::messages;
+pub use messenger::messages;
 pub use normaliser::normalise;
 pub use watcher::watch;

@@ -1,12 +1,12 @@
 //! The line of a message as an object of JSON.
 ghost use Rattle.trace_text.specs.Json.{object_line};
-ghost use Rattle.trace_canon.specs.MessageLines.{judged_at, placed_members};
+ghost use Rattle.trace_canon.specs.MessagesScript.{judged_at, placed_members};
 
 use crate::message_parts::Role;
 use crate::reception_starts::FramePlace;
 use text_parts::say;
 use trace_io::TextSink;
-use trace_text::{Bytes, Number, Sender, Stamp};
+use trace_text::{HexBytes, Number, Sender, Stamp};
 use uds_exchange::Judged;
 
 /// Says the line of a message that has its first frame and its last one in these places, as an object.
@@ -41,7 +41,7 @@ pub(crate) fn say_message_object<S: TextSink>(
                 "\",\"end\":\"",
                 Stamp(last.micros),
             ),
-            ("\",\"message\":\"", Bytes(message.bytes), "\"}\n"),
+            ("\",\"message\":\"", HexBytes(message.bytes), "\"}\n"),
         ),
     );
 }

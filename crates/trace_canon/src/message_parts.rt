@@ -23,13 +23,13 @@ impl Part for Role {
 
 /// The lines and the times of the first frame of a message and of its last one.
 #[derive(Clone, Copy)]
-pub(crate) struct Extent {
+pub(crate) struct FrameExtent {
     pub first: FramePlace,
     pub last: FramePlace,
 }
 
-impl Part for Extent {
-    ghost use Rattle.trace_canon.specs.MessageLines.{extent_text};
+impl Part for FrameExtent {
+    ghost use Rattle.trace_canon.specs.MessagesScript.{extent_text};
 
     ghost text = { λ extent. extent_text extent.first extent.last };
 

@@ -1,5 +1,5 @@
-//! `normalise`: a machine that says the canonical log. The other commands promise a record that several of them share;
-//! `normalise` alone writes a canonical log, so what it promises stands clause by clause at its call.
+//! `normalise`: a machine that says the canonical log. No other command writes one: so what it promises is no record
+//! that several commands share, but stands clause by clause at its call.
 ghost use Rattle.std.specs.Prelude.{◌≡◌, ◌++◌, ℕ, List, OnOk, IfOk, Err};
 ghost use Rattle.direction.specs.Dir.{Message};
 ghost use Rattle.isotp_receive.specs.declared.TheConstants.{MESSAGE_LIMIT};
@@ -8,8 +8,7 @@ ghost use Rattle.trace_log.specs.Answers.{Answers, WritesEagerly};
 ghost use Rattle.trace_log.specs.CanonicalLog.{canonical_log, canonical_log_of_lines};
 ghost use Rattle.trace_log.specs.Devices.{AgreesWith, bytes_given, ReadFrom, WroteTo, HasLowCounts};
 ghost use Rattle.trace_log.specs.Needing.{HasTextOf};
-ghost use Rattle.trace_canon.specs.MemoryNeeded.{reading_to_order};
-ghost use Rattle.trace_canon.specs.ReadOnly.{NeedsMemoryWhere, StopsNear};
+ghost use Rattle.trace_canon.specs.WaysOfReading.{NeedsMemoryWhere, StopsNear, reading_to_order};
 ghost use Rattle.trace_log.specs.declared.fault.Fault.TheVariants.{Memory, Write};
 ghost use Rattle.trace_log.specs.Laws.{IsCanonicalFor, Records, Certifies};
 ghost use Rattle.trace_io.specs.Counted.{IsLowCount};
@@ -115,11 +114,11 @@ impl Machine for Normaliser {
             return Ok(());
         };
         say_due(
-            out,
             &self.config,
             &mut self.progress,
             &mut self.orderer,
             message,
+            out,
         )
     }
 
@@ -134,7 +133,7 @@ impl Machine for Normaliser {
             mut progress,
             config,
         } = self;
-        say_held(out, &config, &mut progress, orderer);
+        say_held(&config, &mut progress, orderer, out);
         if progress.is_full() {
             return Err(NoAnswer::OutputLimit);
         }

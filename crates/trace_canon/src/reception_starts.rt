@@ -5,8 +5,7 @@ ghost use Rattle.isotp_receive.specs.declared.TheConstants.{MESSAGE_LIMIT};
 ghost use Rattle.isotp_receive.specs.EventSeen.{seen_event, seen_verdict};
 ghost use Rattle.isotp_receive.specs.Trace.{Entry, same_direction};
 ghost use Rattle.trace_run.specs.Seen.{IsEventOf};
-ghost use Rattle.trace_canon.specs.MemoryNeeded.{CompletesMessage};
-ghost use Rattle.trace_canon.specs.MessageLines.{first_frame, place_of};
+ghost use Rattle.trace_canon.specs.FirstFrames.{CompletesMessage, first_frame, place_of};
 ghost use Rattle.trace_canon.specs.ReceptionStarts.{AreStartsAfter, message_start, reception_start, start_after_event, start_after_verdict};
 ghost use Rattle.trace_canon.specs.ReceptionStarts as Spec;
 
@@ -73,8 +72,11 @@ impl ReceptionStarts {
     fn end(&mut self, ended: Option<Ended>)
         ensures { (d : DirValue) → reception_start self.new d ≡ Spec.still_begun d ended (reception_start self.old d) }
     {
-        if let Some(ended) = ended {
-            self.set(ended.dir, None);
+        // Most frames end none, and then nothing is moved.
+        if let Some(_) = ended {
+            let tester = still_begun(Dir::Tester, ended, self.tester);
+            let unit = still_begun(Dir::Unit, ended, self.unit);
+            *self = ReceptionStarts { tester, unit };
         }
     }
 
@@ -107,6 +109,7 @@ impl ReceptionStarts {
 
 /// Where the reception of a direction began, if it still stands after this end. A page asks, whose rows tell of the end
 /// before they tell of the frame.
+#[inline(always)]
 pub fn still_begun(dir: Dir, ended: Option<Ended>, begun: Option<FramePlace>) -> Option<FramePlace>
     ensures { result ≡ Spec.still_begun dir ended begun }
 {

@@ -8,7 +8,7 @@ ghost use Rattle.uds_exchange.specs.Decider.{decider_after, IsKept};
 ghost use Rattle.trace_canon.specs.MemoryNeeded.{CompletesKept};
 ghost use Rattle.trace_run.specs.Script.{answers_counts, command, says_no_refusal};
 ghost use Rattle.trace_run.specs.Ran.{RanLenient};
-ghost use Rattle.trace_canon.specs.WatchScript.{watching_script, WritesTheList};
+ghost use Rattle.trace_canon.specs.WatchScript.{watch_script, WritesTheList};
 ghost use Rattle.trace_canon.specs.proving.Watching.{SaysDecided, SaysLines};
 ghost use Rattle.trace_io.specs.Counted.{IsLowCount};
 ghost use Rattle.trace_log.specs.Devices.{AgreesWith, HasLowCounts};
@@ -37,7 +37,7 @@ pub fn watch<R: Source, W: Target>(
 
     // What is answered and written; that it is written before more is read; and what was done with the devices.
     ensures ran { RanLenient R.Source W.Target
-        (command (watching_script style MESSAGE_LIMIT) says_no_refusal answers_counts (CompletesKept MESSAGE_LIMIT))
+        (command (watch_script style MESSAGE_LIMIT) says_no_refusal answers_counts (CompletesKept MESSAGE_LIMIT))
         config.now reader.old writer.old result reader.new writer.new }
 
     // At the end of the log that is the list of its meaning.
@@ -65,14 +65,14 @@ impl Machine for Watcher {
     ghost use Rattle.isotp_receive.specs.declared.TheConstants.{MESSAGE_LIMIT};
     ghost use Rattle.trace_canon.specs.MemoryNeeded.{CompletesKept};
     ghost use Rattle.trace_run.specs.Script.{answers_counts};
-    ghost use Rattle.trace_canon.specs.WatchScript.{watching_script};
+    ghost use Rattle.trace_canon.specs.WatchScript.{watch_script};
     ghost use Rattle.trace_canon.specs.proving.Watching.{WatchesItems};
 
     type Answer = Summary;
 
     ghost stands = { λ start T now. WatchesItems start.style T now.decider now.style now.number };
 
-    ghost script = { λ start. watching_script start.style MESSAGE_LIMIT };
+    ghost script = { λ start. watch_script start.style MESSAGE_LIMIT };
 
     ghost answers = { λ start. answers_counts };
 
@@ -89,11 +89,11 @@ impl Machine for Watcher {
             return Ok(());
         };
         say_decided(
-            out,
             self.style,
             &mut self.number,
             &mut self.decider,
             message,
+            out,
         )
     }
 
@@ -108,7 +108,7 @@ impl Machine for Watcher {
             style,
             mut number,
         } = self;
-        say_undecided(out, style, &mut number, decider);
+        say_undecided(style, &mut number, decider, out);
         Ok(*summary)
     }
 
@@ -130,13 +130,9 @@ pub(crate) struct LineSink<'a, S> {
 }
 
 impl<'a, S: TextSink> ItemSink for LineSink<'a, S> {
-    ghost use Rattle.std.specs.Prelude.{◌≡◌};
-    ghost use Rattle.uds_exchange.specs.Judging.{one_more};
-    ghost use Rattle.trace_text.specs.ItemLines.{item_line};
+    ghost use Rattle.trace_canon.specs.proving.Watching.{SaysPutItem};
 
-    ghost takes = { λ s item t. (t.out.ghost_name ≡ s.out.ghost_name) × (t.number.ghost_name ≡ s.number.ghost_name)
-        × (t.style ≡ s.style) × (t.number.now ≡ one_more s.number.now)
-        × S.says s.out.now (item_line s.style s.number.now item) t.out.now };
+    ghost takes = { λ s item t. SaysPutItem S.says s item t };
 
     fn put(&mut self, item: Item<'_>) {
         say_item_line(*self.number, self.style, item, self.out);
@@ -146,11 +142,11 @@ impl<'a, S: TextSink> ItemSink for LineSink<'a, S> {
 
 /// Takes one more message, and says the lines of all items that are now decided.
 fn say_decided<S: TextSink>(
-    out: &mut S,
     style: ItemStyle,
     number: &mut u64,
     decider: &mut Decider,
     message: Judged<'_>,
+    out: &mut S,
 ) -> Result<(), AllocError>
     ensures stands { OnOk result ((M : List Message) → decider.old ≡ decider_after M → IsJudgedAfter M message.entry
         → decider.new ≡ decider_after (M ++ sent message.entry ∷ [])) }
@@ -165,7 +161,7 @@ fn say_decided<S: TextSink>(
 }
 
 /// Says the lines of the items that are not decided.
-fn say_undecided<S: TextSink>(out: &mut S, style: ItemStyle, number: &mut u64, decider: Decider)
+fn say_undecided<S: TextSink>(style: ItemStyle, number: &mut u64, decider: Decider, out: &mut S)
     ensures { (M : List Message) → decider ≡ decider_after M
         → SaysLines S.says style (undecided M) number.old out.old number.new out.new }
 {

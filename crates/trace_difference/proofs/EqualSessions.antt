@@ -9,7 +9,7 @@ use Rattle.uds_difference.specs.Rows.{AreBeside, is_shortest, rows_of}
 use Rattle.uds_difference.specs.declared.row.Row.{Row}
 use Rattle.uds_difference.specs.declared.row.Row.TheVariants.{Same, Changed, OnlyLeft, OnlyRight}
 use Rattle.uds_difference.proofs.Promises.{first_change_is_first_difference, rows_are_beside}
-use Rattle.trace_difference.specs.Hunks.{differs}
+use Rattle.shown_rows.specs.Rows.{differs}
 use Rattle.trace_difference.specs.Laws.{NothingIsWrittenOfEqualSessions}
 use Rattle.trace_difference.specs.Unified.{note_text}
 

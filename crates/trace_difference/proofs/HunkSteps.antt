@@ -2,7 +2,8 @@
 use Rattle.std.proofs.Common.{◌≡◌, ℕ, zero, suc, ◌+◌, ◌-◌, ◌<◌, true, false, List, ◌∷◌, ◌++◌, take, arith, refl}
 use Rattle.std.specs.List.{flat_map}
 use Rattle.uds_difference.specs.declared.row.Row.{Row}
-use Rattle.trace_difference.specs.Hunks.{Hunk, changes_within, context, hunk_length, hunks_behind, left_in, right_in}
+use Rattle.shown_rows.specs.Hunks.{Hunk, hunk_length, hunks_behind}
+use Rattle.shown_rows.specs.Rows.{changes_within, context, left_in, right_in}
 use Rattle.trace_difference.specs.proving.HunkOf.{hunk_of}
 
 module _ (text : Hunk → List ℕ) where

@@ -3,12 +3,13 @@ use Rattle.std.proofs.Common.{◌≡◌, ℕ, ◌+◌, ◌-◌, ◌<◌, Bool, t
 use Rattle.std.specs.List.{flat_map}
 use Rattle.uds_exchange.specs.Meaning.{ItemValue}
 use Rattle.uds_difference.specs.declared.row.Row.{Row}
-use Rattle.trace_difference.specs.Hunks.{Hunk, changes_within, context, hunk_length, left_count, left_in, right_count, right_in}
+use Rattle.shown_rows.specs.Hunks.{Hunk, hunk_length}
+use Rattle.shown_rows.specs.Rows.{changes_within, context, left_count, left_in, right_count, right_in}
 use Rattle.trace_difference.specs.Lines.{line_text, lines_of}
 use Rattle.trace_difference.specs.Unified.{hunk_text, span_text}
 use Rattle.trace_difference.specs.proving.HunkOf.{hunk_of}
 use Rattle.trace_difference.proofs.HunkSteps.{at-hunk, before-hunk, hunks_left, in-hunk}
-use Rattle.trace_difference.proofs.Saying.{IsLeft, same-rest, say-more}
+use Rattle.text_parts.proofs.Promises.{IsLeft, same-rest, say-more}
 
 module _ {S : Type 0} (says : S → List ℕ → S → Type 0) (onward : (s m t : S) (a b : List ℕ) → says s a m → says m b t → says s (a ++ b) t)
     (text : Hunk → List ℕ) (old : S) (whole : List ℕ) (rows later : List Row) (row : Row) (shown i j : ℕ) (now : S) where

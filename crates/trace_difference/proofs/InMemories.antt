@@ -1,10 +1,10 @@
 -- What is known of calls over devices is known of a difference in memory.
-use Rattle.std.proofs.Common.{◌≡◌, ◌≢◌, ℕ, Bool, List, [], ◌++◌, Result, Ok, Err, inl, inr, refl, ap, sym, subst, ◌∙◌}
+use Rattle.std.proofs.Common.{◌≡◌, ◌≢◌, ◌<◌, ◌⊎◌, ℕ, Bool, List, [], ◌∷◌, ◌++◌, Result, Ok, Err, inl, inr, arith, refl, ap, length, sym, subst, ◌∙◌}
 use Rattle.std.specs.Prelude.{IfErr}
 use Rattle.trace_canon.specs.Compared.{Compares, fault_in}
 use Rattle.trace_canon.specs.InMemory.{counted_comparison}
 use Rattle.trace_canon.specs.MemoryNeeded.{NeedsMemoryToCollect}
-use Rattle.trace_canon.specs.declared.comparing.Compared.{Compared}
+use Rattle.trace_canon.specs.declared.comparer.Compared.{Compared}
 use Rattle.trace_canon.specs.declared.in_memory.CountedComparison.{CountedComparison}
 use Rattle.trace_canon.proofs.Promises.{reads_well}
 use Rattle.trace_io.specs.Written.{HasWritten}
@@ -15,11 +15,13 @@ use Rattle.trace_log.specs.declared.fault.CompareFault.TheVariants.{Left, Right}
 use Rattle.trace_log.specs.declared.fault.Fault.{Fault}
 use Rattle.trace_log.specs.declared.fault.Fault.TheVariants.{Memory, Read, Write}
 use Rattle.trace_text.specs.declared.notation.Notation.{Notation}
+use Rattle.trace_text.specs.declared.notation.Notation.TheVariants.{Text, Json}
 use Rattle.uds_difference.specs.Rows.{is_shortest, rows_of}
 use Rattle.uds_difference.specs.declared.row.Row.{Row}
 use Rattle.uds_exchange.specs.Meaning.{ItemValue}
-use Rattle.trace_difference.specs.InMemory.{ComparesInMemory, HasNoDifferenceText, IsDifferenceWith}
+use Rattle.trace_difference.specs.InMemory.{ComparesInMemory, HasItems, HasNoDifferenceText, IsDifferenceWith, NeedsMemoryForText}
 use Rattle.trace_difference.specs.Written.{difference_text, written_rows}
+use Rattle.trace_difference.proofs.EqualSessions.{nothing_is_written_of_equal_sessions}
 
 -- what two logs are to each other, where no device fails
 pub compared_in_memory : (limit : ℕ) (settings : Settings) (one other : List ℕ) (answer : Result Compared CompareFault)
@@ -53,3 +55,38 @@ pub difference_of : (notation : Notation) (left_name right_name : List ℕ) (lim
     → IsDifferenceWith notation left_name right_name limit settings one other text counted
 difference_of notation left_name right_name limit settings one other text answer compared counted is compares said counts =
     (compared, subst (ComparesInMemory limit settings one other) is compares, said, counts)
+
+-- memory is needed for the text where one of both logs means an item
+pub needed_of_items : (notation : Notation) (compared : Compared) → HasItems compared → NeedsMemoryForText notation compared
+needed_of_items Text compared some = some
+needed_of_items Json compared some = tt
+
+-- one of two sessions has an item where there is something to write of them in words
+some_item : (left_name right_name : List ℕ) (xs ys : List ItemValue) → 0 < length (difference_text Text left_name right_name xs ys) → (xs ≢ []) ⊎ (ys ≢ [])
+some_item left_name right_name (x ∷ xs) ys some = inl (λ is. cc)
+some_item left_name right_name [] (y ∷ ys) some = inr (λ is. cc)
+some_item left_name right_name [] [] some =
+    let none : difference_text Text left_name right_name [] [] ≡ [] = (nothing_is_written_of_equal_sessions left_name right_name [] []).0 refl in
+    never (subst (λ (text : List ℕ). 0 < length text) none some)
+  where
+    never : {A : Type 0} → 0 < 0 → A
+    never low = absurd (omega (arith, low))
+
+-- and where the text has a byte
+needed_of_text : (notation : Notation) (left_name right_name : List ℕ) (compared : Compared) → 0 < length (difference_text notation left_name right_name compared.left.meaning compared.right.meaning)
+    → NeedsMemoryForText notation compared
+needed_of_text Text left_name right_name compared some = some_item left_name right_name compared.left.meaning compared.right.meaning some
+needed_of_text Json left_name right_name compared some = tt
+
+-- memory is needed for a text that was refused, since that has a byte
+pub needed_where_refused : {A E : Type 0} (notation : Notation) (left_name right_name text : List ℕ) (compared : Compared) (result : Result A E)
+    → text ≡ difference_text notation left_name right_name compared.left.meaning compared.right.meaning → IfErr result (λ refused. 0 < length text)
+    → IfErr result (λ refused. NeedsMemoryForText notation compared)
+needed_where_refused notation left_name right_name text compared (Ok value) is some = tt
+needed_where_refused notation left_name right_name text compared (Err refused) is some =
+    needed_of_text notation left_name right_name compared (subst (λ (t : List ℕ). 0 < length t) is some)
+
+-- two accepted logs have no text where memory for it was refused
+pub none_where_refused : (notation : Notation) (limit : ℕ) (settings : Settings) (one other : List ℕ) (answer : Result Compared CompareFault) (compared : Compared) → answer ≡ Ok compared
+    → ComparesInMemory limit settings one other answer → NeedsMemoryForText notation compared → HasNoDifferenceText notation limit settings one other (Right Memory)
+none_where_refused notation limit settings one other answer compared is compares needed = inr (refl, (compared, subst (ComparesInMemory limit settings one other) is compares, needed))

@@ -10,7 +10,8 @@ use Rattle.uds_difference.specs.Rows.{AreBeside, rows_of}
 use Rattle.uds_difference.specs.declared.row.Row.{Row}
 use Rattle.uds_difference.specs.declared.row.Row.TheVariants.{Same, Changed, OnlyLeft, OnlyRight}
 use Rattle.uds_difference.proofs.Promises.{rows_are_beside}
-use Rattle.trace_difference.specs.Hunks.{Hunk, changes_within, context, hunk_length, hunks_behind, is_change, left_count, left_in, right_count, right_in, rows_to_last_change}
+use Rattle.shown_rows.specs.Hunks.{Hunk, hunk_length, hunks_behind, rows_to_last_change}
+use Rattle.shown_rows.specs.Rows.{changes_within, context, is_change, left_count, left_in, right_count, right_in}
 use Rattle.trace_difference.specs.Laws.{HunksLeadToTheRight, Leads, new_lines, old_lines}
 use Rattle.trace_difference.specs.Lines.{Line, added, behind_removed, kept, line_at, lines_of, listed, removed}
 

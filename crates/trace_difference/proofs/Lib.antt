@@ -1,5 +1,3 @@
-pub mod Saying
-pub mod RowSteps
 pub mod LineSteps
 pub mod HunkSteps
 pub mod LineTurns
@@ -8,6 +6,6 @@ pub mod ObjectTexts
 pub mod ObjectTurns
 pub mod Leading
 pub mod EqualSessions
-pub mod Counted
+pub mod ListedLines
 pub mod InMemories
 pub mod Promises

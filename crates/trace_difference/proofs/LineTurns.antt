@@ -5,7 +5,7 @@ use Rattle.uds_difference.specs.declared.row.Row.{Row}
 use Rattle.uds_difference.specs.declared.row.Row.TheVariants.{Same, Changed, OnlyLeft, OnlyRight}
 use Rattle.trace_difference.specs.Lines.{line_at}
 use Rattle.trace_difference.proofs.LineSteps.{changed-step, ends, left-step, rest_text, right-step, same-step, waiting_text}
-use Rattle.trace_difference.proofs.Saying.{IsLeft, same-rest, say-last, say-more}
+use Rattle.text_parts.proofs.Promises.{IsLeft, same-rest, say-last, say-more}
 
 module _ {S : Type 0} (says : S → List ℕ → S → Type 0) (onward : (s m t : S) (a b : List ℕ) → says s a m → says m b t → says s (a ++ b) t)
     (xs ys : List ItemValue) (old : S) (whole : List ℕ) (rows later : List Row) (i j waiting : ℕ) (now : S) where

@@ -7,9 +7,10 @@ use Rattle.uds_difference.specs.declared.row.Row.{Row}
 use Rattle.uds_difference.specs.declared.row.Row.TheVariants.{Same, Changed, OnlyLeft, OnlyRight}
 use Rattle.trace_text.specs.Json.{object_line, value_text}
 use Rattle.trace_text.proofs.Promises.{line_is, value_is}
-use Rattle.trace_difference.specs.Hunks.{left_in, right_in}
+use Rattle.shown_rows.specs.Rows.{left_in, right_in}
 use Rattle.trace_difference.specs.proving.RowFront.{row_front}
-use Rattle.trace_difference.specs.Objects.{change_word, count_members, count_of, left_value, right_value, row_members}
+use Rattle.shown_rows.specs.Rows.{count_of}
+use Rattle.trace_difference.specs.Objects.{change_word, count_members, left_value, right_value, row_members}
 
 in_one : (a b c d e f g h i j k l m : List ℕ)
     → ((((((a ++ b ++ c ++ d) ++ (e ++ f ++ g ++ h ++ i)) ++ j) ++ k) ++ l) ++ m)

@@ -3,9 +3,9 @@ use Rattle.std.proofs.Common.{◌≡◌, ℕ, ◌+◌, Bool, true, false, List, 
 use Rattle.uds_exchange.specs.Meaning.{ItemValue}
 use Rattle.uds_difference.specs.declared.row.Row.{Row}
 use Rattle.trace_text.specs.Json.{object_line}
-use Rattle.trace_difference.specs.Hunks.{is_change, left_in, right_in}
+use Rattle.shown_rows.specs.Rows.{is_change, left_in, right_in}
 use Rattle.trace_difference.specs.Objects.{next_change_number, row_members, row_text, rows_text}
-use Rattle.trace_difference.proofs.Saying.{IsLeft, same-rest, say-more}
+use Rattle.text_parts.proofs.Promises.{IsLeft, same-rest, say-more}
 
 module _ {S : Type 0} (says : S → List ℕ → S → Type 0) (onward : (s m t : S) (a b : List ℕ) → says s a m → says m b t → says s (a ++ b) t)
     (xs ys : List ItemValue) (old : S) (whole : List ℕ) (rows later : List Row) (row : Row) (change_number : ℕ) (behind : Bool) (i j : ℕ) (now : S) where

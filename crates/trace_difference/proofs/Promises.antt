@@ -2,4 +2,4 @@
 -- of proofs/ is for them.
 pub use Rattle.trace_difference.proofs.Leading.{hunks_lead_to_the_right}
 pub use Rattle.trace_difference.proofs.EqualSessions.{nothing_is_written_of_equal_sessions}
-pub use Rattle.trace_difference.proofs.Counted.{counts_add_up, listed_lines_are_the_list}
+pub use Rattle.trace_difference.proofs.ListedLines.{listed_lines_are_the_list}

@@ -8,9 +8,10 @@ use Rattle.trace_text.specs.ItemLines.{list_text}
 use Rattle.trace_text.specs.declared.item_style.ItemStyle.{ItemStyle}
 use Rattle.trace_text.specs.declared.item_style.Numbering.TheVariants.{Hidden}
 use Rattle.trace_text.specs.declared.notation.Notation.TheVariants.{Text}
-use Rattle.trace_difference.specs.Hunks.{Hunk, hunks, left_count, right_count}
+use Rattle.shown_rows.specs.Hunks.{Hunk, hunks}
+use Rattle.shown_rows.specs.Rows.{left_count, right_count}
 use Rattle.trace_difference.specs.Lines.{Line, added, kept, removed, lines_of, listed}
-use Rattle.trace_difference.specs.Objects.{count_of}
+use Rattle.shown_rows.specs.Rows.{count_of}
 use Rattle.trace_difference.specs.Written.{difference_text}
 
 -- the lines that a hunk has of the left list: what it keeps and what it removes
@@ -58,9 +59,3 @@ ListedLinesAreTheList = (items : List ItemValue) → let style : ItemStyle = rec
 -- nothing is written in words exactly where both sessions are equal
 abbrev pub NothingIsWrittenOfEqualSessions : Type 0
 NothingIsWrittenOfEqualSessions = (left_name right_name : List ℕ) (xs ys : List ItemValue) → (xs ≡ ys) ↔ (difference_text Text left_name right_name xs ys ≡ [])
-
--- the counts of a difference add up to those of both sessions
-abbrev pub CountsAddUp : Type 0
-CountsAddUp = (xs ys : List ItemValue)
-    → (count_of Same (rows_of xs ys) + count_of Changed (rows_of xs ys) + count_of OnlyLeft (rows_of xs ys) ≡ length xs)
-    × (count_of Same (rows_of xs ys) + count_of Changed (rows_of xs ys) + count_of OnlyRight (rows_of xs ys) ≡ length ys)

@@ -1,4 +1,3 @@
-pub mod Hunks
 pub mod Lines
 pub mod Labels
 pub mod Unified

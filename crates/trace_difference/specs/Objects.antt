@@ -7,7 +7,7 @@ use Rattle.trace_text.specs.Json.{Value, Members, nothing, member, object_line}
 use Rattle.trace_text.specs.Json as json
 use Rattle.trace_text.specs.ItemLines.{item_object}
 use Rattle.trace_text.specs.declared.item_style.Numbering.TheVariants.{Hidden}
-use Rattle.trace_difference.specs.Hunks.{is_change, left_in, right_in}
+use Rattle.shown_rows.specs.Rows.{count_of, is_change, left_in, right_in}
 
 -- what becomes of the item of a row
 abbrev pub change_word : Row → List ℕ
@@ -58,19 +58,6 @@ rows_text xs ys change_number behind_change i j [] = []
 rows_text xs ys change_number behind_change i j (row ∷ rows) =
     row_text xs ys (next_change_number change_number behind_change row) i j row
     ++ rows_text xs ys (next_change_number change_number behind_change row) (is_change row) (i + left_in row) (j + right_in row) rows
-
--- both are of one kind
-abbrev pub same_row : Row → Row → Bool
-same_row Same Same = true
-same_row Changed Changed = true
-same_row OnlyLeft OnlyLeft = true
-same_row OnlyRight OnlyRight = true
-same_row _ _ = false
-
--- how many rows are of this kind
-abbrev pub count_of : Row → List Row → ℕ
-count_of kind [] = 0
-count_of kind (row ∷ rows) = (if same_row kind row then 1 else 0) + count_of kind rows
 
 -- the counts, and whether the script of equal items is known to be a shortest one
 abbrev pub count_members : Bool → List Row → Members

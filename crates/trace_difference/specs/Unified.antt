@@ -5,7 +5,8 @@ use Rattle.std.specs.Fmt.{decimal}
 use Rattle.std.specs.List.{flat_map}
 use Rattle.uds_exchange.specs.Meaning.{ItemValue}
 use Rattle.uds_difference.specs.declared.row.Row.{Row}
-use Rattle.trace_difference.specs.Hunks.{Hunk, differs, hunks, left_count, right_count}
+use Rattle.shown_rows.specs.Hunks.{Hunk, hunks}
+use Rattle.shown_rows.specs.Rows.{differs, left_count, right_count}
 use Rattle.trace_difference.specs.Labels.{label}
 use Rattle.trace_difference.specs.Lines.{line_text, lines_of}
 

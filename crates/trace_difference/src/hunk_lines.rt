@@ -4,7 +4,7 @@ ghost use Rattle.std.specs.List.{flat_map};
 ghost use Rattle.trace_difference.specs.Lines.{line_at, line_text, lines_of};
 ghost use Rattle.trace_difference.specs.proving.Waiting.{added_lines};
 
-use crate::written::Side;
+use crate::written::NamedSession;
 use text_parts::say;
 use trace_io::TextSink;
 use trace_text::{Numbering, say_worded_line};
@@ -14,8 +14,8 @@ use uds_exchange::Meaning;
 /// Says the lines of the rows of a hunk, before which so many items of both sessions stand. What is added at a place waits
 /// until all of it is said that is removed there.
 pub(crate) fn say_lines<S: TextSink>(
-    left: Side<'_>,
-    right: Side<'_>,
+    left: NamedSession<'_>,
+    right: NamedSession<'_>,
     left_before: usize,
     right_before: usize,
     rows: &[Row],

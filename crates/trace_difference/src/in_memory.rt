@@ -1,13 +1,12 @@
 //! Where two logs differ that lie in memory: the text of that, gathered there. No device is asked.
-ghost use Rattle.std.specs.Prelude.{◌≡◌, IfOk, MatchResult};
+ghost use Rattle.std.specs.Prelude.{◌≡◌, ◌<◌, IfErr, IfOk, MatchResult, length};
 ghost use Rattle.isotp_receive.specs.declared.TheConstants.{MESSAGE_LIMIT};
-ghost use Rattle.trace_canon.specs.InMemory as Spec;
-ghost use Rattle.trace_difference.specs.InMemory.{ComparesInMemory, HasNoDifferenceText, IsDifferenceWith};
+ghost use Rattle.trace_difference.specs.InMemory.{ComparesInMemory, HasNoDifferenceText, IsDifferenceWith, NeedsMemoryForText};
 ghost use Rattle.trace_difference.specs.Written.{difference_text, written_rows};
 
-use crate::written::{Side, write_difference};
+use crate::written::{NamedSession, write_difference};
 use std::alloc::{AllocError, Global};
-use trace_canon::in_memory::CountedComparison;
+use trace_canon::in_memory::{CountedComparison, counted_comparison};
 use trace_canon::{Compared, compare};
 use trace_io::{Bytes, Writing};
 use trace_log::{CompareFault, Config, Fault};
@@ -22,7 +21,7 @@ pub struct CountedDifference {
 }
 
 /// Where two logs differ, which have these names, in this notation, as [`write_difference`](crate::write_difference) writes
-/// it; how they compare, and the counts of each. Memory that is refused to their difference is told of the right one.
+/// it; how they compare, and the counts of each. Memory that is refused to the text is told of the right one.
 pub fn pair_difference(
     alloc: Global,
     config: &Config,
@@ -32,7 +31,7 @@ pub fn pair_difference(
     left: &[u8],
     right: &[u8],
 ) -> Result<CountedDifference, CompareFault>
-    ensures { MatchResult result (λ told. IsDifferenceWith notation left_name.now right_name.now MESSAGE_LIMIT config.now left.now right.now told.text.items told.counted) (HasNoDifferenceText MESSAGE_LIMIT config.now left.now right.now) }
+    ensures { MatchResult result (λ told. IsDifferenceWith notation left_name.now right_name.now MESSAGE_LIMIT config.now left.now right.now told.text.items told.counted) (HasNoDifferenceText notation MESSAGE_LIMIT config.now left.now right.now) }
 {
     let answer = compare_both(alloc, config, left, right);
     match &answer {
@@ -67,13 +66,14 @@ fn text_of(
     right_name: &[u8],
     compared: &Compared,
 ) -> Result<Vec<u8>, AllocError>
-    ensures { IfOk result (λ text. text.items ≡ difference_text notation left_name.now right_name.now compared.now.left.meaning compared.now.right.meaning) }
+    ensures text { IfOk result (λ text. text.items ≡ difference_text notation left_name.now right_name.now compared.now.left.meaning compared.now.right.meaning) }
+    ensures refused { IfErr result (λ refused. NeedsMemoryForText notation compared.now) }
 {
-    let left = Side {
+    let left = NamedSession {
         name: left_name,
         items: &compared.left.meaning,
     };
-    let right = Side {
+    let right = NamedSession {
         name: right_name,
         items: &compared.right.meaning,
     };
@@ -85,26 +85,16 @@ fn text_of(
 fn gathered(
     alloc: Global,
     difference: &Difference,
-    left: Side<'_>,
-    right: Side<'_>,
+    left: NamedSession<'_>,
+    right: NamedSession<'_>,
     notation: Notation,
 ) -> Result<Vec<u8>, AllocError>
-    ensures { IfOk result (λ text. text.items ≡ written_rows notation left.entry.name.now right.entry.name.now difference.now.shortest difference.now.rows.items left.entry.items.now right.entry.items.now) }
+    ensures text { IfOk result (λ text. text.items ≡ written_rows notation left.entry.name.now right.entry.name.now difference.now.shortest difference.now.rows.items left.entry.items.now right.entry.items.now) }
+    ensures refused { IfErr result (λ refused. 0 < length (written_rows notation left.entry.name.now right.entry.name.now difference.now.shortest difference.now.rows.items left.entry.items.now right.entry.items.now)) }
 {
     let mut writer = Writing::new(Vec::new(alloc));
     match write_difference(difference, left, right, notation, &mut writer) {
         Ok(()) => Ok(writer.into_inner()),
         Err(_fault) => Err(AllocError),
-    }
-}
-
-/// What two logs are to each other, without what they mean.
-fn counted_comparison(compared: &Compared) -> CountedComparison
-    ensures { result ≡ Spec.counted_comparison compared.now }
-{
-    CountedComparison {
-        comparison: compared.comparison,
-        left: compared.left.summary,
-        right: compared.right.summary,
     }
 }

@@ -1,5 +1,5 @@
 //! What holds of the text of any two sessions. Each law is its contract; a call does nothing.
-ghost use Rattle.trace_difference.specs.Laws.{CountsAddUp, HunksLeadToTheRight, ListedLinesAreTheList, NothingIsWrittenOfEqualSessions};
+ghost use Rattle.trace_difference.specs.Laws.{HunksLeadToTheRight, ListedLinesAreTheList, NothingIsWrittenOfEqualSessions};
 
 /// What the text removes from the left list and adds to it is the right list. Both are lists as `list` writes them without
 /// numbers.
@@ -11,9 +11,4 @@ pub fn hunks_lead_to_the_right()
 /// Nothing is written in words exactly where both sessions are equal.
 pub fn nothing_is_written_of_equal_sessions()
     ensures { NothingIsWrittenOfEqualSessions }
-{}
-
-/// The counts add up to those of both sessions.
-pub fn counts_add_up()
-    ensures { CountsAddUp }
 {}

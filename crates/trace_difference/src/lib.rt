@@ -17,7 +17,6 @@
 #![tactic(auto)]
 
 mod hunk_lines;
-mod hunk_rows;
 pub mod in_memory;
 mod labels;
 pub mod laws;
@@ -26,4 +25,4 @@ mod unified_text;
 mod written;
 
 pub use labels::is_plain_name;
-pub use written::{Side, say_difference, write_difference};
+pub use written::{NamedSession, say_difference, write_difference};

@@ -1,12 +1,12 @@
 //! The rows of a difference as objects of JSON.
 ghost use Rattle.std.specs.Prelude.{◌≡◌, ◌+◌, ◌<◌, ◌≤◌, ◌^◌, false, slice_get};
 ghost use Rattle.trace_text.specs.Json.{object_line, value_text};
-ghost use Rattle.trace_difference.specs.Hunks.{left_in, right_in};
+ghost use Rattle.shown_rows.specs.Rows.{left_in, right_in};
 ghost use Rattle.trace_difference.specs.proving.RowFront.{row_front};
-ghost use Rattle.trace_difference.specs.Objects.{change_word, count_members, count_of, left_value, listed_value, next_change_number, objects_text, right_value, row_members, row_text, rows_text, same_row};
+ghost use Rattle.trace_difference.specs.Objects.{change_word, count_members, left_value, listed_value, next_change_number, objects_text, right_value, row_members, row_text, rows_text};
 
-use crate::hunk_rows::{is_change, left_in, right_in};
-use crate::written::Side;
+use crate::written::NamedSession;
+use shown_rows::{count_of, is_change, left_in, right_in};
 use text_parts::{Either, Part, say};
 use trace_io::TextSink;
 use trace_text::values::say_text;
@@ -17,8 +17,8 @@ use uds_exchange::Meaning;
 /// Says the objects of all rows of two sessions.
 pub(crate) fn say_objects<S: TextSink>(
     shortest: bool,
-    left: Side<'_>,
-    right: Side<'_>,
+    left: NamedSession<'_>,
+    right: NamedSession<'_>,
     rows: &[Row],
     out: &mut S,
 )
@@ -29,7 +29,7 @@ pub(crate) fn say_objects<S: TextSink>(
 }
 
 /// Says an object for each row that is a change.
-fn say_rows<S: TextSink>(left: Side<'_>, right: Side<'_>, rows: &[Row], out: &mut S)
+fn say_rows<S: TextSink>(left: NamedSession<'_>, right: NamedSession<'_>, rows: &[Row], out: &mut S)
     ensures { S.says out.old (rows_text left.entry.items.now right.entry.items.now 0 false 0 0 rows.now) out.new }
 {
     let mut change_number = 0;
@@ -110,7 +110,7 @@ fn say_row_front<S: TextSink>(
             "{\"place\":",
             Number(change_number),
             ",\"change\":\"",
-            Change(row),
+            ShownChange(row),
         ),
     );
     say(
@@ -127,9 +127,9 @@ fn say_row_front<S: TextSink>(
 
 /// What becomes of the item of a row.
 #[derive(Clone, Copy)]
-struct Change(Row);
+struct ShownChange(Row);
 
-impl Part for Change {
+impl Part for ShownChange {
     ghost use Rattle.trace_difference.specs.Objects.{change_word};
 
     ghost text = { λ change. change_word change.0 };
@@ -197,24 +197,4 @@ fn say_row_counts<S: TextSink>(shortest: bool, rows: &[Row], out: &mut S)
             Either(shortest, "true}\n", "false}\n"),
         ),
     );
-}
-
-/// How many rows are of this kind.
-fn count_of(kind: Row, rows: &[Row]) -> u64
-    ensures { result ≡ count_of kind rows.now }
-{
-    let mut count = 0;
-    'rows: for row in rows {
-        if is_of(kind, *row) {
-            count += 1;
-        }
-    }
-    count
-}
-
-/// Whether a row is of this kind.
-fn is_of(kind: Row, row: Row) -> bool
-    ensures { result ≡ same_row kind row }
-{
-    kind == row
 }

@@ -2,26 +2,26 @@
 ghost use Rattle.std.specs.Prelude.{◌≡◌, ◌+◌, ◌<◌, ◌^◌, length};
 ghost use Rattle.std.specs.List.{flat_map};
 ghost use Rattle.uds_difference.specs.Bound.{bound_for};
-ghost use Rattle.trace_difference.specs.Hunks.{Hunk, hunks};
+ghost use Rattle.shown_rows.specs.Hunks.{Hunk, hunks};
 ghost use Rattle.trace_difference.specs.Unified.{header_text, hunk_text, unified_text};
 ghost use Rattle.trace_difference.specs.proving.HunkOf.{hunk_of};
 
 use crate::hunk_lines::say_lines;
-use crate::hunk_rows::{
+use crate::labels::Label;
+use crate::written::NamedSession;
+use shown_rows::{
     CONTEXT, changes_within, differs, hunk_length, left_count, left_in, right_count, right_in,
 };
-use crate::labels::Label;
-use crate::written::Side;
 use text_parts::{Part, say};
 use trace_io::TextSink;
-use trace_text::{Number, Place};
+use trace_text::{Number, Ordinal};
 use uds_difference::{Row, bound_for};
 
 /// Says the text of these rows of two sessions: nothing where nothing differs.
 pub(crate) fn say_unified<S: TextSink>(
     shortest: bool,
-    left: Side<'_>,
-    right: Side<'_>,
+    left: NamedSession<'_>,
+    right: NamedSession<'_>,
     rows: &[Row],
     out: &mut S,
 )
@@ -31,7 +31,10 @@ pub(crate) fn say_unified<S: TextSink>(
         let bound = u64::from(bound_for(left.items.len() + right.items.len()));
         say(
             out,
-            (Note { shortest, bound }, Header(left.name, right.name)),
+            (
+                DiffNote { shortest, bound },
+                DiffHeader(left.name, right.name),
+            ),
         );
         say_hunks(left, right, rows, out);
     }
@@ -39,12 +42,12 @@ pub(crate) fn say_unified<S: TextSink>(
 
 /// That a shorter script may keep equal items, where this bound was passed up to which one is looked for.
 #[derive(Clone, Copy)]
-struct Note {
+struct DiffNote {
     shortest: bool,
     bound: u64,
 }
 
-impl Part for Note {
+impl Part for DiffNote {
     ghost use Rattle.trace_difference.specs.Unified.{note_text};
 
     ghost text = { λ note. note_text note.shortest note.bound };
@@ -65,9 +68,9 @@ impl Part for Note {
 
 /// The names of both files.
 #[derive(Clone, Copy)]
-struct Header<'a>(&'a [u8], &'a [u8]);
+struct DiffHeader<'a>(&'a [u8], &'a [u8]);
 
-impl<'a> Part for Header<'a> {
+impl<'a> Part for DiffHeader<'a> {
     ghost use Rattle.trace_difference.specs.Unified.{header_text};
 
     ghost text = { λ names. header_text names.0.now names.1.now };
@@ -78,7 +81,12 @@ impl<'a> Part for Header<'a> {
 }
 
 /// Says the hunks of all rows of two sessions.
-fn say_hunks<S: TextSink>(left: Side<'_>, right: Side<'_>, rows: &[Row], out: &mut S)
+fn say_hunks<S: TextSink>(
+    left: NamedSession<'_>,
+    right: NamedSession<'_>,
+    rows: &[Row],
+    out: &mut S,
+)
     ensures { S.says out.old (flat_map (hunk_text left.entry.items.now right.entry.items.now) (hunks rows.now)) out.new }
 {
     let mut shown = 0;
@@ -100,8 +108,8 @@ fn say_hunks<S: TextSink>(left: Side<'_>, right: Side<'_>, rows: &[Row], out: &m
 
 /// Says the hunk that has these rows, before which so many items of both sessions stand.
 fn say_hunk<S: TextSink>(
-    left: Side<'_>,
-    right: Side<'_>,
+    left: NamedSession<'_>,
+    right: NamedSession<'_>,
     left_before: usize,
     right_before: usize,
     rows: &[Row],
@@ -115,12 +123,12 @@ fn say_hunk<S: TextSink>(
         out,
         (
             "@@ -",
-            Span {
+            HunkSpan {
                 before: left_before,
                 count: left_count(rows),
             },
             " +",
-            Span {
+            HunkSpan {
                 before: right_before,
                 count: right_count(rows),
             },
@@ -132,12 +140,12 @@ fn say_hunk<S: TextSink>(
 
 /// Which lines of a list a hunk has.
 #[derive(Clone, Copy)]
-struct Span {
+struct HunkSpan {
     before: usize,
     count: usize,
 }
 
-impl Part for Span {
+impl Part for HunkSpan {
     ghost use Rattle.trace_difference.specs.Unified.{span_text};
 
     ghost text = { λ span. span_text span.before span.count };
@@ -145,8 +153,8 @@ impl Part for Span {
     fn say<S: TextSink>(self, out: &mut S) {
         match self.count {
             0 => say(out, (Number(self.before as u64), ",0")),
-            1 => say(out, Place(self.before)),
-            _ => say(out, (Place(self.before), ",", Number(self.count as u64))),
+            1 => say(out, Ordinal(self.before)),
+            _ => say(out, (Ordinal(self.before), ",", Number(self.count as u64))),
         }
     }
 }

@@ -15,7 +15,7 @@ use uds_exchange::Meaning;
 
 /// A session, and the name of its file.
 #[derive(Clone, Copy)]
-pub struct Side<'a> {
+pub struct NamedSession<'a> {
     pub name: &'a [u8],
     pub items: &'a Meaning,
 }
@@ -25,8 +25,8 @@ pub struct Side<'a> {
 /// The target is not flushed.
 pub fn write_difference<W: Target>(
     difference: &Difference,
-    left: Side<'_>,
-    right: Side<'_>,
+    left: NamedSession<'_>,
+    right: NamedSession<'_>,
     notation: Notation,
     target: &mut W,
 ) -> Result<(), Fault>
@@ -49,8 +49,8 @@ pub fn write_difference<W: Target>(
 /// Says a difference of two sessions, in this notation.
 pub fn say_difference<S: TextSink>(
     difference: &Difference,
-    left: Side<'_>,
-    right: Side<'_>,
+    left: NamedSession<'_>,
+    right: NamedSession<'_>,
     notation: Notation,
     out: &mut S,
 )
@@ -66,8 +66,8 @@ pub fn say_difference<S: TextSink>(
 #[derive(Clone, Copy)]
 struct DifferenceText<'a> {
     difference: &'a Difference,
-    left: Side<'a>,
-    right: Side<'a>,
+    left: NamedSession<'a>,
+    right: NamedSession<'a>,
     notation: Notation,
 }
 

@@ -20,7 +20,7 @@ use Rattle.isotp_receive.specs.Trace.{Entry, FrameRole, single, first, consecuti
 use Rattle.isotp_receive.specs.Verdict.{EventValue, VerdictValue, message, on_fit, on_flow_control, on_layout, verdict}
 use Rattle.isotp_receive.proofs.Promises.{one_more, same-self, other-apart}
 use Rattle.uds_exchange.specs.Judging.{one_more as one_more_count}
-use Rattle.trace_canon.specs.MessageLines.{last_start, place_of}
+use Rattle.trace_canon.specs.FirstFrames.{last_start, place_of}
 use Rattle.trace_report.specs.Events.{frames_by}
 use Rattle.trace_canon.specs.declared.reception_starts.FramePlace.{FramePlace}
 use Rattle.trace_report.specs.declared.frames.FrameCounts.{FrameCounts}

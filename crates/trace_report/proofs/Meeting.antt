@@ -21,10 +21,10 @@ use Rattle.uds_exchange.specs.Order.{open_request}
 use Rattle.uds_exchange.proofs.Promises.{open_request_goes_on}
 use Rattle.uds_message.specs.Message.{sid, is_final_for, is_pending_for, is_suppressing}
 use Rattle.uds_exchange.specs.Meaning.{is_from_tester}
-use Rattle.trace_canon.specs.MessageLines.{first_frame, place_of}
+use Rattle.trace_canon.specs.FirstFrames.{first_frame, place_of}
 use Rattle.trace_canon.specs.declared.reception_starts.FramePlace.{FramePlace}
 use Rattle.trace_canon.proofs.Promises.{messages_next}
-use Rattle.trace_report.specs.Events.{asked_in, completes_request, completes_request_by, ended_rows, event_rows, frame_rows, frames_by, is_request_step, ends_nothing, rows_before, verdict_rows}
+use Rattle.trace_report.specs.Events.{asked_in, closing_before, completes_request, completes_request_by, ended_rows, event_rows, frame_rows, frames_by, is_request_step, ends_nothing, verdict_rows}
 use Rattle.trace_report.specs.Roles.{role_of_step}
 use Rattle.trace_report.specs.Rows.{RowValue}
 use Rattle.trace_report.specs.Rows.{message as tells_message}
@@ -151,14 +151,14 @@ pub message_event : (T : List Entry) (e : Entry) (d : Dir) (event : EventValue) 
     → e.dir ≡ d → event ≡ verdict MESSAGE_LIMIT T e → event.verdict ≡ message bytes → asked ≡ asked_in MESSAGE_LIMIT T → here ≡ place_of e
     → extent.first ≡ place_of (first_frame T e) → extent.frames ≡ frames_by (stands MESSAGE_LIMIT e.dir T) (role e.dir e)
     → ended_rows e event.ended
-    ++ (rows_before (messages MESSAGE_LIMIT T) (step_after (messages MESSAGE_LIMIT T) (d, bytes))
+    ++ (closing_before (messages MESSAGE_LIMIT T) (step_after (messages MESSAGE_LIMIT T) (d, bytes))
     ++ tells_message (role_of_step asked (step_after (messages MESSAGE_LIMIT T) (d, bytes)) d bytes) d
     (record { item = number_after (messages MESSAGE_LIMIT T) (d, bytes); first = extent.first; last = here; frames = extent.frames }) bytes ∷ [])
     ≡ frame_rows MESSAGE_LIMIT T e
 message_event T e d event bytes asked here extent dir_is is told asked_is here_is first_is frames_is =
     let M = messages MESSAGE_LIMIT T in
     (λ i. ended_rows e (is i).ended
-    ++ (rows_before M (step_after M (sym dir_is i, bytes))
+    ++ (closing_before M (step_after M (sym dir_is i, bytes))
     ++ tells_message (role_of_step (asked_is i) (step_after M (sym dir_is i, bytes)) (sym dir_is i) bytes) (sym dir_is i)
     (record { item = number_after M (sym dir_is i, bytes); first = first_is i; last = here_is i; frames = frames_is i }) bytes ∷ []))
     ∙ ap (λ v. ended_rows e (verdict MESSAGE_LIMIT T e).ended ++ verdict_rows MESSAGE_LIMIT T e (ends_nothing (verdict MESSAGE_LIMIT T e).ended) v)

@@ -22,7 +22,7 @@ use Rattle.uds_exchange.specs.declared.step.Step.{Step}
 use Rattle.uds_exchange.specs.declared.step.Step.TheVariants as becomes
 use Rattle.uds_message.specs.Message.{is_final_for, is_keep_alive, is_negative_response, is_pending_for, sid}
 use Rattle.trace_canon.proofs.Promises.{messages_next}
-use Rattle.trace_report.specs.Events.{asked_in, closing_rows, end_rows, ended_rows, ends_nothing, is_request_step, message_rows, rows_before, rows_of, standing_row, verdict_rows, waiting_row}
+use Rattle.trace_report.specs.Events.{asked_in, closing_before, closing_rows, end_rows, ended_rows, ends_nothing, is_request_step, message_rows, rows_of, standing_row, verdict_rows, waiting_row}
 use Rattle.trace_report.specs.Roles.{role_of_step}
 use Rattle.trace_report.specs.Numbers.{HasItem, HasPart, HasPartBy, IsUnanswered, RowNumbersArePlaces, TellsItsItem}
 use Rattle.trace_report.specs.Rows.{RowValue}
@@ -122,7 +122,7 @@ module _ (M : List Message) (x : Message) where
     tt,
   )
 
-  before-tells : (step : Step) → is_request_step step ≡ is_request_step (step_after M x) → AllByRecursion (Tells (M ++ x ∷ [])) (rows_before M step)
+  before-tells : (step : Step) → is_request_step step ≡ is_request_step (step_after M x) → AllByRecursion (Tells (M ++ x ∷ [])) (closing_before M step)
   before-tells (becomes.Request service) is = waiting-tells (open_request M) refl (asks (sym is))
   before-tells becomes.Answer is = tt
   before-tells becomes.Removed is = tt
@@ -140,7 +140,7 @@ module _ (T : List Entry) (e : Entry) where
       let x : Message = (e.dir, bytes) in
       let step = step_after M x in
       let has = one-has M x in
-      AllByRecursion-append (Tells (M ++ x ∷ [])) (rows_before M step) _ (before-tells M x step refl)
+      AllByRecursion-append (Tells (M ++ x ∷ [])) (closing_before M step) _ (before-tells M x step refl)
       ((has.0, has.1, has.2, has.3, part-by (asked_in MESSAGE_LIMIT T) step e.dir bytes has.1 has.4), tt)
 
   verdict-tells : (linked : Bool) (did : VerdictValue) → AllByRecursion (Tells (M ++ told_message e.dir did)) (verdict_rows MESSAGE_LIMIT T e linked did)

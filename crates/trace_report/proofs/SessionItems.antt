@@ -20,7 +20,7 @@ use Rattle.uds_exchange.specs.declared.step.Step.{Step}
 use Rattle.uds_exchange.specs.declared.step.Step.TheVariants as becomes
 use Rattle.uds_exchange.specs.proving.OpenExchange.{open_sid_in}
 use Rattle.uds_exchange.specs.proving.Pairing.{items_with}
-use Rattle.trace_report.specs.Events.{asked_in, closing_rows, end_rows, ended_rows, ends_nothing, message_place, rows_before, rows_of, standing_row, verdict_rows, waiting_row}
+use Rattle.trace_report.specs.Events.{asked_in, closing_before, closing_rows, end_rows, ended_rows, ends_nothing, message_place, rows_of, standing_row, verdict_rows, waiting_row}
 use Rattle.trace_report.specs.Roles.{role_of_step}
 use Rattle.trace_report.specs.Laws.{ItemsAreTheMeaning}
 use Rattle.trace_report.specs.Page.{all_rows}
@@ -62,7 +62,7 @@ waiting-quiet : (M : List Message) (waits : Option (List ℕ)) → IsQuiet (map 
 waiting-quiet M None = tt
 waiting-quiet M (Some request) = tt
 
-before-quiet : (M : List Message) (step : Step) → IsQuiet (map kind (rows_before M step))
+before-quiet : (M : List Message) (step : Step) → IsQuiet (map kind (closing_before M step))
 before-quiet M (becomes.Request service) = waiting-quiet M (open_request M)
 before-quiet M becomes.Answer = tt
 before-quiet M becomes.Removed = tt
@@ -88,12 +88,12 @@ module _ (T : List Entry) (e : Entry) where
       ∙ joined ks x ∙ ap (λ items. items_with items x) so ∙ sym (meaning_goes_on M x)
 
   with-message-rows : (ks : List RowKind) (bytes : List ℕ) (step : Step) → step ≡ step_after M (e.dir, bytes) → values_of ks ≡ meaning M
-      → values_of (ks ++ map kind (rows_before M step ++ row.message (role_of_step (asked_in MESSAGE_LIMIT T) step e.dir bytes) e.dir (message_place MESSAGE_LIMIT T e bytes) bytes ∷ []))
+      → values_of (ks ++ map kind (closing_before M step ++ row.message (role_of_step (asked_in MESSAGE_LIMIT T) step e.dir bytes) e.dir (message_place MESSAGE_LIMIT T e bytes) bytes ∷ []))
       ≡ meaning (M ++ (e.dir, bytes) ∷ [])
   with-message-rows ks bytes step is so =
       let sent = row.message (role_of_step (asked_in MESSAGE_LIMIT T) step e.dir bytes) e.dir (message_place MESSAGE_LIMIT T e bytes) bytes in
-      let before = map kind (rows_before M step) in
-      ap (λ l. values_of (ks ++ l)) (map-append kind (rows_before M step) (sent ∷ []))
+      let before = map kind (closing_before M step) in
+      ap (λ l. values_of (ks ++ l)) (map-append kind (closing_before M step) (sent ∷ []))
       ∙ ap values_of (sym (append_assoc ks before (kind sent ∷ [])))
       ∙ ap (λ k. values_of ((ks ++ before) ++ k ∷ [])) (kind-of-message (asked_in MESSAGE_LIMIT T) step e.dir (message_place MESSAGE_LIMIT T e bytes) bytes
       ∙ ap (λ s. kind_of_step s (e.dir, bytes)) is)

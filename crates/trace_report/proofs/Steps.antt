@@ -10,7 +10,7 @@ use Rattle.uds_exchange.specs.Judging.{step_after}
 use Rattle.uds_exchange.specs.Order.{open_request}
 use Rattle.uds_exchange.specs.declared.step.Step.{Step}
 use Rattle.uds_exchange.specs.declared.step.Step.TheVariants as becomes
-use Rattle.trace_report.specs.Events.{asked_behind, asked_in, completes_request, ended_rows, frame_rows, ends_nothing, message_place, rows_before, rows_behind, rows_of, verdict_rows, waiting_row}
+use Rattle.trace_report.specs.Events.{asked_behind, asked_in, closing_before, completes_request, ended_rows, frame_rows, ends_nothing, message_place, rows_behind, rows_of, verdict_rows, waiting_row}
 use Rattle.trace_report.specs.Roles.{role_of_step}
 use Rattle.trace_report.specs.Page.{first_time, last_time}
 use Rattle.trace_report.specs.Rows as row
@@ -61,7 +61,7 @@ few_waiting : (M : List Message) (waiting : Option (List ℕ)) → length (waiti
 few_waiting M None = omega arith
 few_waiting M (Some request) = omega arith
 
-few_before : (M : List Message) (step : Step) → length (rows_before M step) ≤ 1
+few_before : (M : List Message) (step : Step) → length (closing_before M step) ≤ 1
 few_before M (becomes.Request service) = few_waiting M (open_request M)
 few_before M becomes.Answer = omega arith
 few_before M becomes.Removed = omega arith
@@ -78,7 +78,7 @@ few_of_verdict limit T e linked (message bytes) =
     let step = step_after M (e.dir, bytes) in
     let one = few_before M step in
     let row = row.message (role_of_step (asked_in limit T) step e.dir bytes) e.dir (message_place limit T e bytes) bytes in
-    let both = length-append (rows_before M step) (row ∷ []) in
+    let both = length-append (closing_before M step) (row ∷ []) in
     omega (arith, one, both)
 few_of_verdict limit T e linked began = omega arith
 few_of_verdict limit T e linked stored = omega arith

@@ -10,21 +10,21 @@ use Rattle.trace_report.specs.declared.counts.SortCounts.{SortCounts}
 use Rattle.trace_report.specs.declared.sorts.Sort.{Sort}
 use Rattle.trace_report.specs.declared.sorts.Sort.TheVariants as sort
 use Rattle.trace_report.specs.declared.tally.FirstTargets.{FirstTargets}
-use Rattle.trace_report.specs.declared.targets.Target.{Target}
+use Rattle.trace_report.specs.declared.targets.LinkTarget.{LinkTarget}
 use Rattle.trace_report.specs.proving.Tallying.{counts_with, first_with}
 
 -- the front of a list with one more element is known from its front
-take_one_more : (n : ℕ) (xs : List Target) (x : Target) → take n (take n xs ++ x ∷ []) ≡ take n (xs ++ x ∷ [])
+take_one_more : (n : ℕ) (xs : List LinkTarget) (x : LinkTarget) → take n (take n xs ++ x ∷ []) ≡ take n (xs ++ x ∷ [])
 take_one_more zero xs x = refl
 take_one_more (suc n) [] x = refl
 take_one_more (suc n) (y ∷ xs) x = ap (λ rest. y ∷ rest) (take_one_more n xs x)
 
 -- a list with one more element where the condition holds
-abbrev added : Bool → Target → List Target → List Target
+abbrev added : Bool → LinkTarget → List LinkTarget → List LinkTarget
 added true x xs = xs ++ x ∷ []
 added false x xs = xs
 
-append_if : (b : Bool) (x : Target) (xs : List Target) → xs ++ ((if b then x ∷ [] else []) ++ []) ≡ added b x xs
+append_if : (b : Bool) (x : LinkTarget) (xs : List LinkTarget) → xs ++ ((if b then x ∷ [] else []) ++ []) ≡ added b x xs
 append_if true x xs = refl
 append_if false x xs = append-nil xs
 
@@ -36,7 +36,7 @@ targets_next rows row kind =
     ∙ append_if (is_of kind row) (target_of row) (targets_of kind rows)
 
 -- no sort has more rows than there are
-few_more : (b : Bool) (x : Target) (n : ℕ) (xs : List Target) → length xs ≤ n → length ((if b then x ∷ [] else []) ++ xs) ≤ suc n
+few_more : (b : Bool) (x : LinkTarget) (n : ℕ) (xs : List LinkTarget) → length xs ≤ n → length ((if b then x ∷ [] else []) ++ xs) ≤ suc n
 few_more true x n xs few = omega arith
 few_more false x n xs few = omega arith
 
@@ -45,7 +45,7 @@ few_targets kind [] = zero-le
 few_targets kind (row ∷ rest) = few_more (is_of kind row) (target_of row) (length rest) (targets_of kind rest) (few_targets kind rest)
 
 -- the counts and the first targets by the targets of each sort
-abbrev counts_by : (Sort → List Target) → SortCounts
+abbrev counts_by : (Sort → List LinkTarget) → SortCounts
 counts_by targets = record {
   requests = length (targets sort.Requests);
   positives = length (targets sort.Positives);
@@ -60,7 +60,7 @@ counts_by targets = record {
   unfinished = length (targets sort.Unfinished);
 }
 
-abbrev first_by : (Sort → List Target) → FirstTargets
+abbrev first_by : (Sort → List LinkTarget) → FirstTargets
 first_by targets = record {
   dropped = record { items = take most_links (targets sort.Dropped) };
   ended = record { items = take most_links (targets sort.Ended) };
@@ -70,12 +70,12 @@ first_by targets = record {
   strays = record { items = take most_links (targets sort.Strays) };
 }
 
-one_longer : (xs : List Target) (x : Target) → length xs < 2 ^ 64 - 1 → one_more (length xs) ≡ length (xs ++ x ∷ [])
+one_longer : (xs : List LinkTarget) (x : LinkTarget) → length xs < 2 ^ 64 - 1 → one_more (length xs) ≡ length (xs ++ x ∷ [])
 one_longer xs x few = rw (length-append xs (x ∷ [])) (omega arith)
 
-module _ (targets : Sort → List Target) (target : Target) where
+module _ (targets : Sort → List LinkTarget) (target : LinkTarget) where
   -- with one more target of a sort
-  abbrev targets_with : Sort → Sort → List Target
+  abbrev targets_with : Sort → Sort → List LinkTarget
   targets_with of kind = added (rank kind == rank of) target (targets kind)
 
   counts_more : (few : (kind : Sort) → length (targets kind) < 2 ^ 64 - 1) (of : Sort) → counts_with of (counts_by targets) ≡ counts_by (targets_with of)

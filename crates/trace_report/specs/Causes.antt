@@ -93,13 +93,13 @@ abbrev pub named_text : Bool → List ℕ → List ℕ
 named_text is_named name = if is_named then name ++ codes " " else []
 
 -- the text of a row of the table of causes, for a log with this name
-abbrev pub row_text : CauseRowValue → List ℕ → List ℕ
-row_text row name =
+abbrev pub cause_row_text : CauseRowValue → List ℕ → List ℕ
+cause_row_text row name =
     row.before ++ number_text row.number ++ row.between ++ named_text row.is_named name ++ row.words ++ codes "; " ++ row.command
 
 -- what is said of the cause of a refusal, for a log with this name
 abbrev pub refusal_cause_text : RefusalCause → List ℕ → List ℕ
-refusal_cause_text why name = row_text (row_of_cause why) name
+refusal_cause_text why name = cause_row_text (row_of_cause why) name
 
 -- the line of a page that tells the cause of a refusal, where one is known
 abbrev pub cause_line : Option RefusalCause → List ℕ

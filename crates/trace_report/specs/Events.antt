@@ -10,7 +10,7 @@ use Rattle.uds_exchange.specs.Judging.{number_after, open_number, step_after}
 use Rattle.uds_exchange.specs.Order.{open_request}
 use Rattle.uds_exchange.specs.declared.step.Step.{Step}
 use Rattle.uds_message.specs.Message.{is_suppressing}
-use Rattle.trace_canon.specs.MessageLines.{first_frame, place_of}
+use Rattle.trace_canon.specs.FirstFrames.{first_frame, place_of}
 use Rattle.trace_report.specs.Rows.{RowValue}
 use Rattle.trace_report.specs.declared.row.MessagePlace.{MessagePlace}
 use Rattle.trace_report.specs.Roles.{role_of_step}
@@ -18,7 +18,7 @@ use Rattle.direction.specs.declared.Dir.TheVariants as dir
 use Rattle.uds_exchange.specs.declared.step.Step.TheVariants as becomes
 use Rattle.trace_report.specs.Rows as row
 
--- a message of which this becomes begins an exchange
+-- a message begins an exchange, where this is what becomes of it
 abbrev pub is_request_step : Step → Bool
 is_request_step (becomes.Request service) = true
 is_request_step becomes.Answer = false
@@ -78,15 +78,16 @@ waiting_row M (Some request) = row.no_answer (open_number M) (is_suppressing req
 abbrev pub closing_rows : List Message → List RowValue
 closing_rows M = waiting_row M (open_request M)
 
--- the rows that stand before that of a message of which this becomes: a request closes the exchange before it
-abbrev pub rows_before : List Message → Step → List RowValue
-rows_before M step = if is_request_step step then closing_rows M else []
+-- the rows that stand before the row of a message, where this is what becomes of it: a request closes the exchange before
+-- it
+abbrev pub closing_before : List Message → Step → List RowValue
+closing_before M step = if is_request_step step then closing_rows M else []
 
--- the rows of a message that the frame e completes after the frames T, and of which this becomes: its own, and what closes
--- before it
+-- the rows of a message that the frame e completes after the frames T, where this is what becomes of it: what closes before
+-- it, and its own
 abbrev pub message_rows : ℕ → List Entry → Entry → List ℕ → Step → List RowValue
 message_rows limit T e bytes step =
-    rows_before (messages limit T) step
+    closing_before (messages limit T) step
     ++ row.message (role_of_step (asked_in limit T) step e.dir bytes) e.dir (message_place limit T e bytes) bytes ∷ []
 
 -- a frame ended no reception

@@ -66,19 +66,16 @@ shapes_text =
     ++ codes "<g id=\"ue\"><line class=\"l\" x1=\"40%\" x2=\"100%\" y1=\"6\" y2=\"6\"/><svg x=\"40%\" overflow=\"visible\"><path class=\"k\" d=\"M-1 0v12m-5-12v12\"/></svg></g>\n"
     ++ codes "</defs></svg>\n"
 
--- the links of the page, of which the first is called `verdict` and the second `middle`; and the notice of a page that
--- breaks off, which is hidden unless the style shows it, where the end of the page is missing
-abbrev pub notice_with : List ℕ → List ℕ → List ℕ
-notice_with verdict middle =
-    codes "<p class=\"skip\"><a href=\"#verdict\">" ++ verdict ++ codes "</a> <a href=\"#session\">" ++ middle
-    ++ codes "</a> <a href=\"#help\">How to read this page</a></p>\n"
-    ++ codes "<p id=\"cut\" role=\"status\" hidden>This page has no end. What wrote it was stopped, or the file was cut, or the page is still loading: it tells nothing of the rest of the session.</p>\n"
-    ++ codes "</header>\n"
+-- the links of the page of one log; its verdict is written last: the style shows it first, and hides the words that say so
+abbrev pub page_links : List ℕ
+page_links =
+    codes "<p class=\"skip\"><a href=\"#verdict\">Verdict<span class=\"plain\">, at the end of this page</span></a> <a href=\"#session\">Session</a> <a href=\"#help\">How to read this page</a></p>\n"
 
--- the links of the page of one log, and its notice; its verdict is written last, which the style alone shows first and hides
--- the word of
-abbrev pub notice_text : List ℕ
-notice_text = notice_with (codes "Verdict<span class=\"plain\">, at the end of this page</span>") (codes "Session")
+-- the notice of a page that breaks off, which is hidden unless the style shows it, where the end of the page is missing;
+-- and the end of the header
+abbrev pub cut_notice : List ℕ
+cut_notice =
+    codes "<p id=\"cut\" role=\"status\" hidden>This page has no end. What wrote it was stopped, or the file was cut, or the page is still loading: it tells nothing of the rest of the session.</p>\n</header>\n"
 
 -- the two identifiers of a page, each by the name of its side
 abbrev pub identifiers_text : Id → Id → List ℕ
@@ -90,7 +87,7 @@ identifiers_text tester unit =
 abbrev pub header_text : PageTitleValue → List ℕ
 header_text title =
     codes "<div class=\"page\">\n<header>\n<p class=\"brand\">udsnorm report</p>\n<h1>" ++ name_text title.name ++ codes "</h1>\n"
-    ++ identifiers_text title.tester title.unit ++ notice_text
+    ++ identifiers_text title.tester title.unit ++ page_links ++ cut_notice
 
 -- the start of the chart of a session, with the filter that shows only what needs attention
 abbrev pub session_start : List ℕ

@@ -17,14 +17,6 @@ help_start =
     ++ codes "<p>The left line is the tester, the right line the unit. Each arrow is a message, however many frames carried it, in the order in which the messages were complete. "
     ++ times_words
 
--- the words of the help on what the page of two logs shows
-abbrev pub pair_help_start : List ℕ
-pair_help_start =
-    help_heading
-    ++ codes "<p>A and B are the two logs. Items of one number stand side by side, or once where they are the same. Two charts show each message and each dropped frame around the first items that differ; where the difference is a byte or the end of a message, it has a mark. All other items are folded, but for the first ones behind those.</p>\n"
-    ++ codes "<p>In a chart the left line is the tester, the right line the unit, and an arrow from one to the other is a message, however many frames carried it, in the order in which the messages were complete. An item has the time of its first message. "
-    ++ times_words
-
 -- the legend of the rows of an exchange
 abbrev pub exchange_legend : List ℕ
 exchange_legend =
@@ -64,7 +56,3 @@ tail_text = codes "</p>\n</footer>\n</div>\n<p id=\"end\">End of the report.</p>
 -- the end of the page of one log
 abbrev pub help_text : List ℕ
 help_text = help_start ++ legend_text ++ limits_text ++ blocks_words ++ tail_text
-
--- the end of the page of two logs
-abbrev pub pair_help_text : List ℕ
-pair_help_text = pair_help_start ++ legend_text ++ limits_text ++ tail_text

@@ -1,50 +1,16 @@
--- What is answered of a page of logs that lie in memory. No device fails there: what has no page can't be read, or memory
+-- What is answered of a page of a log that lies in memory. No device fails there: what has no page can't be read, or memory
 -- was refused.
-use Rattle.std.specs.Prelude.{◌≡◌, ⊤, ℕ, List, None, Result, Ok, Err}
-use Rattle.trace_canon.specs.Compared.{fault_in}
-use Rattle.trace_canon.specs.InMemory.{IsOfMemory, IsToldWith}
-use Rattle.trace_canon.specs.declared.in_memory.CountedComparison.{CountedComparison}
+use Rattle.std.specs.Prelude.{⊤, ℕ, List}
+use Rattle.trace_canon.specs.InMemory.{IsSaidWith}
 use Rattle.trace_log.specs.Settings.{Settings}
-use Rattle.trace_log.specs.declared.fault.CompareFault.{CompareFault}
-use Rattle.trace_log.specs.declared.fault.CompareFault.TheVariants.{Left, Right}
 use Rattle.trace_log.specs.declared.summary.Summary.{Summary}
 use Rattle.trace_report.specs.Front.{PageTitleValue}
-use Rattle.trace_report.specs.Kept.{HasOwnFrame, KeepsTwo, TwoValue, comparison_in}
 use Rattle.trace_report.specs.Page.{report_script}
-use Rattle.trace_report.specs.PairPage.{PairTitleValue, pair_page}
-use Rattle.trace_report.specs.declared.in_memory.NoPairPage.{NoPairPage}
-use Rattle.trace_report.specs.declared.in_memory.NoPairPage.TheVariants.{OfLog, OfMemory}
 
 -- the log can be read and has these counts, and this is the page with this title
 abbrev pub IsPageWith : PageTitleValue → ℕ → Settings → List ℕ → List ℕ → Summary → Type 0
-IsPageWith title limit = IsToldWith (report_script title limit) limit
+IsPageWith title limit = IsSaidWith (report_script title limit) limit
 
 -- memory is needed to gather a page: each has its front
 abbrev pub NeedsMemoryForPage : ℕ → Settings → List ℕ → Type 0
 NeedsMemoryForPage limit settings log = ⊤
-
--- how two logs compare that are kept, and the counts of each
-abbrev pub counted_two : TwoValue → CountedComparison
-counted_two two = record { comparison = comparison_in two; left = two.left.summary; right = two.right.summary }
-
--- both logs can be read; this is their page with this title; and so they compare, and these are the counts of each
-abbrev pub IsPairPageWith : PairTitleValue → ℕ → Settings → List ℕ → List ℕ → List ℕ → CountedComparison → Type 0
-IsPairPageWith title limit settings one other text counted =
-    (two : TwoValue) × KeepsTwo limit settings one other (Ok two) × (text ≡ pair_page title (Ok two) None) × (counted ≡ counted_two two)
-
--- memory is needed to keep the log of which a fault tells: it has a frame of one of the two sides
-abbrev pub NeedsMemoryToKeep : Settings → List ℕ → List ℕ → CompareFault → Type 0
-NeedsMemoryToKeep settings one other (Left fault) = HasOwnFrame settings one
-NeedsMemoryToKeep settings one other (Right fault) = HasOwnFrame settings other
-
--- what both logs say, or why one of them can't be read
-abbrev pub KeepsInMemory : ℕ → Settings → List ℕ → List ℕ → Result TwoValue CompareFault → Type 0
-KeepsInMemory limit settings one other (Ok two) = KeepsTwo limit settings one other (Ok two)
-KeepsInMemory limit settings one other (Err fault) =
-    KeepsTwo limit settings one other (Err fault) × IsOfMemory (NeedsMemoryToKeep settings one other fault) (fault_in fault)
-
--- two logs have no page: a log can't be read, or memory was refused, which it needs; or, where both can be read, memory
--- for the page was
-abbrev pub HasNoPairPage : ℕ → Settings → List ℕ → List ℕ → NoPairPage → Type 0
-HasNoPairPage limit settings one other (OfLog fault) = KeepsInMemory limit settings one other (Err fault)
-HasNoPairPage limit settings one other OfMemory = (two : TwoValue) × KeepsTwo limit settings one other (Ok two)

@@ -1,10 +1,12 @@
 -- The items of a session by its rows: each with the message that begins it and its answer, in the order of the numbers that
--- `udsnorm list` gives them; and the items of two sessions side by side.
-use Rattle.std.specs.Prelude.{ℕ, List, [], ◌∷◌, Option, Some, None, option_map, if◌then◌else◌}
+-- `udsnorm list` gives them.
+use Rattle.std.specs.Prelude.{ℕ, ◌+◌, ◌-◌, ◌==◌, Bool, false, List, [], ◌∷◌, Option, Some, None, option_map, if◌then◌else◌}
 use Rattle.direction.specs.declared.Dir.{Dir}
 use Rattle.uds_exchange.specs.Meaning.{ItemValue, exchange, stray}
 use Rattle.trace_report.specs.Roles.{is_request_role, begins_item, is_answer_role}
 use Rattle.trace_report.specs.Rows.{RowValue, message, no_answer, dropped, ended, unfinished}
+use Rattle.trace_report.specs.declared.items.PlacedItem.{PlacedItem}
+use Rattle.trace_report.specs.declared.items.RowMessage.{RowMessage}
 use Rattle.trace_report.specs.declared.row.MessagePlace.{MessagePlace}
 use Rattle.trace_report.specs.declared.roles.MessageRole.{MessageRole}
 
@@ -19,6 +21,14 @@ pub record RowMessageValue : Type 0 where
 pub record PlacedItemValue : Type 0 where
   pub begin : RowMessageValue
   pub answer : Option RowMessageValue
+
+-- a message that is lent, as it is
+abbrev pub message_of : RowMessage → RowMessageValue
+message_of lent = record { role = lent.sent.now.role; dir = lent.sent.now.dir; place = lent.sent.now.place; bytes = lent.bytes.now }
+
+-- an item that is lent, as it is
+abbrev pub item_of : PlacedItem → PlacedItemValue
+item_of item = record { begin = message_of item.begin; answer = option_map message_of item.answer }
 
 -- the message that a row tells, if it tells one
 abbrev pub message_in : RowValue → Option RowMessageValue
@@ -67,15 +77,16 @@ item_value item =
     if is_request_role item.begin.role then exchange item.begin.bytes (option_map (λ (reply : RowMessageValue). reply.bytes) item.answer)
     else stray item.begin.dir item.begin.bytes
 
--- What two sessions have of one number: an item each, or one of them has none.
-pub data ItemPairValue : Type 0 where
-  both : PlacedItemValue → PlacedItemValue → ItemPairValue
-  only_left : PlacedItemValue → ItemPairValue
-  only_right : PlacedItemValue → ItemPairValue
+-- an item begins with the row
+abbrev pub begins : RowValue → Bool
+begins (message is d place bytes) = begins_item is
+begins (no_answer number silent) = false
+begins (dropped place d linked why) = false
+begins (ended place end) = false
+begins (unfinished d line len) = false
 
--- the items of two sessions, number by number
-abbrev pub pairs_of : List PlacedItemValue → List PlacedItemValue → List ItemPairValue
-pairs_of [] [] = []
-pairs_of (a ∷ left) [] = only_left a ∷ pairs_of left []
-pairs_of [] (b ∷ right) = only_right b ∷ pairs_of [] right
-pairs_of (a ∷ left) (b ∷ right) = both a b ∷ pairs_of left right
+-- how many rows stand before the one with which the item of this place begins, counted from 0; all, where there is none
+abbrev pub rows_before : ℕ → List RowValue → ℕ
+rows_before item [] = 0
+rows_before item (row ∷ rows) =
+    if begins row then (if item == 0 then 0 else 1 + rows_before (item - 1) rows) else 1 + rows_before item rows

@@ -1,18 +1,14 @@
 -- What is answered of two logs that are kept: what each of them says, or why one of them can't be read.
-use Rattle.std.specs.Prelude.{◌≡◌, ℕ, ⊤, List, Option, Some, None, Result, Ok, Err}
+use Rattle.std.specs.Prelude.{◌≡◌, ℕ, ⊤, List, Option, Result, Ok, Err}
 use Rattle.can_log.specs.declared.frame.Stamped.{Stamped}
 use Rattle.trace_log.specs.Needing.{HasFrame}
 use Rattle.trace_log.specs.Settings.{Settings}
 use Rattle.trace_log.specs.Summing.{summary_of}
 use Rattle.trace_run.specs.Ran.{IsReadToEnd, IsUnreadFor, when_lenient}
 use Rattle.trace_log.specs.Trace.{trace}
-use Rattle.trace_canon.specs.declared.comparing.Comparison.{Comparison}
-use Rattle.trace_canon.specs.declared.comparing.Comparison.TheVariants.{Same, Different}
 use Rattle.trace_log.specs.declared.fault.CompareFault.{CompareFault}
 use Rattle.trace_log.specs.declared.fault.CompareFault.TheVariants.{Left, Right}
 use Rattle.trace_log.specs.declared.fault.Fault.{Fault}
-use Rattle.trace_report.specs.Contrast.{FirstContrast, first_contrast}
-use Rattle.trace_report.specs.Items.{ItemPairValue, items_in, pairs_of}
 use Rattle.trace_report.specs.Session.{SessionValue, session_of}
 
 -- What two logs say, which are kept.
@@ -39,16 +35,3 @@ KeepsTwo limit settings one other (Err (Right fault)) =
 -- the log has a frame of one of the two sides
 abbrev pub HasOwnFrame : Settings → List ℕ → Type 0
 HasOwnFrame = HasFrame (λ T e. ⊤)
-
--- the items of the two sessions, number by number
-abbrev pub pairs_in : TwoValue → List ItemPairValue
-pairs_in two = pairs_of (items_in two.left.rows) (items_in two.right.rows)
-
--- what two sessions are to each other, by their first difference, if they have one
-abbrev pub comparison_by : Option FirstContrast → Comparison
-comparison_by None = Same
-comparison_by (Some first) = Different first.before
-
--- what the two sessions are to each other
-abbrev pub comparison_in : TwoValue → Comparison
-comparison_in two = comparison_by (first_contrast (pairs_in two))

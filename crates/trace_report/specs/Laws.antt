@@ -1,39 +1,27 @@
 -- What holds of a page, whatever log it is of.
 use Prim.Native.Char.{code}
-use Rattle.std.specs.Prelude.{◌≡◌, ◌≢◌, ◌↔◌, ℕ, ◌==◌, ◌<◌, ◌^◌, ◌&&◌, not, ◌||◌, Bool, true, ⊤, List, [], ◌∷◌, codes, drop, false, length, map, nat_le, ◌++◌, Option, Some, None, Ok}
-use Rattle.std.specs.List.{AllByRecursion, find, list_any}
+use Rattle.std.specs.Prelude.{◌≡◌, ◌≢◌, ◌↔◌, ℕ, ◌==◌, ◌<◌, ◌^◌, ◌&&◌, not, ◌||◌, Bool, true, ⊤, List, [], ◌∷◌, codes, false, length, map, nat_le, ◌++◌, Option, None}
+use Rattle.std.specs.List.{AllByRecursion, list_any}
 use Rattle.can_log.specs.declared.frame.Stamped.{Stamped}
 use Rattle.direction.specs.declared.Dir.{Dir}
 use Rattle.isotp_receive.specs.declared.TheConstants.{MESSAGE_LIMIT}
 use Rattle.isotp_receive.specs.Trace.{Entry}
 use Rattle.isotp_receive.specs.Verdict.{messages}
-use Rattle.uds_exchange.specs.Difference.{IsFirstDifference}
 use Rattle.uds_exchange.specs.Meaning.{meaning}
 use Rattle.uds_exchange.specs.declared.step.Step.TheVariants as becomes
 use Rattle.uds_message.specs.Message.{is_negative_response}
-use Rattle.trace_canon.specs.Compared.{Compares, difference}
 use Rattle.trace_log.specs.Settings.{Settings}
 use Rattle.trace_log.specs.Trace.{trace}
-use Rattle.trace_canon.specs.declared.comparing.Compared.{Compared}
-use Rattle.trace_report.specs.Blocks.{begins_exchange}
-use Rattle.trace_report.specs.Contrast.{contrast_of_answers, first_contrast}
-use Rattle.trace_report.specs.Difference.{begins_number, rows_around}
 use Rattle.trace_report.specs.Events.{asked_in, completes_request, rows_of}
-use Rattle.trace_report.specs.Roles.{role_of_step}
+use Rattle.trace_report.specs.Roles.{role_of_step, asked_at}
 use Rattle.trace_report.specs.Front.{name_text}
-use Rattle.trace_report.specs.Kept.{KeepsTwo, TwoValue, comparison_by, comparison_in}
-use Rattle.trace_report.specs.Items.{RowMessageValue, PlacedItemValue, item_value, items_in, pairs_of}
+use Rattle.trace_report.specs.Items.{item_value, items_in}
 use Rattle.trace_report.specs.Linked.{HasEachTarget, identifiers_in}
-use Rattle.trace_report.specs.Looks.{begins}
+use Rattle.trace_report.specs.Looks.{has_front}
 use Rattle.trace_report.specs.Page.{all_rows}
-use Rattle.trace_report.specs.Rows.{RowValue}
-use Rattle.trace_report.specs.Roles.{asked_at}
 use Rattle.trace_report.specs.MessageRows.{message_row, note_text}
 use Rattle.trace_report.specs.Style.{page_style}
 use Rattle.trace_report.specs.Letters.{letters}
-use Rattle.trace_report.specs.declared.contrast.Contrast.TheVariants as contrast
-use Rattle.trace_report.specs.declared.contrast.LogName.{LogName}
-use Rattle.trace_report.specs.declared.contrast.LogName.TheVariants.{A, B}
 use Rattle.trace_report.specs.declared.row.MessagePlace.{MessagePlace}
 use Rattle.trace_report.specs.declared.roles.MessageRole.{MessageRole}
 use Rattle.trace_report.specs.declared.roles.MessageRole.TheVariants as message_role
@@ -46,8 +34,8 @@ is_harmless b =
 -- the text begins with what HTML has behind the & of one of the five signs
 abbrev pub begins_sign : List ℕ → Bool
 begins_sign text =
-    begins text (codes "amp;") || begins text (codes "lt;") || begins text (codes "gt;")
-    || begins text (codes "quot;") || begins text (codes "#39;")
+    has_front text (codes "amp;") || has_front text (codes "lt;") || has_front text (codes "gt;")
+    || has_front text (codes "quot;") || has_front text (codes "#39;")
 
 -- each & of the text begins one of these names of signs
 abbrev pub is_escaped : List ℕ → Bool
@@ -86,43 +74,13 @@ abbrev pub LinksHaveTargets : Type 0
 LinksHaveTargets = (settings : Settings) (meanings : List (Option Stamped))
     → HasEachTarget (all_rows MESSAGE_LIMIT (trace settings meanings)) × HasEachTarget (rows_of MESSAGE_LIMIT (trace settings meanings))
 
--- what the page of two sessions says of their items is so: they are the same exactly if their values are, and else
--- differ first where these do
-abbrev pub ComparisonIsOfItems : Type 0
-ComparisonIsOfItems = (left right : List PlacedItemValue)
-    → IsFirstDifference (map item_value left) (map item_value right) (difference (comparison_by (first_contrast (pairs_of left right))))
-
 -- the items that the rows of a session tell are what its messages mean, and so those that `list` and `compare` have
 abbrev pub ItemsAreTheMeaning : Type 0
 ItemsAreTheMeaning = (T : List Entry) → map item_value (items_in (all_rows MESSAGE_LIMIT T)) ≡ meaning (messages MESSAGE_LIMIT T)
 
--- what a page says of two logs is what `compare` answers, where that accepts both
-abbrev pub AgreesWithCompare : Type 0
-AgreesWithCompare = (settings : Settings) (one other : List ℕ) (held : TwoValue) (compared : Compared)
-    → KeepsTwo MESSAGE_LIMIT settings one other (Ok held) → Compares MESSAGE_LIMIT settings one other (Ok compared)
-    → comparison_in held ≡ compared.comparison
-
--- the rows around an item, which the page of two logs shows of each, are where it is: the row that begins it is among them, if
--- the log has one; they are one piece of the log's rows; and behind the first of them no other exchange begins
-abbrev pub RowsAroundHaveTheItem : Type 0
-RowsAroundHaveTheItem = (number : ℕ) (rows : List RowValue)
-    → (find (begins_number number) (rows_around number rows) ≡ find (begins_number number) rows)
-    × ((front more : List RowValue) × (rows ≡ front ++ (rows_around number rows ++ more)))
-    × (list_any begins_exchange (drop 1 (rows_around number rows)) ≡ false)
-
 -- an answer is told as negative exactly where it is a negative response
 abbrev pub NegativeIsNegative : Type 0
 NegativeIsNegative = (asked : ℕ) (d : Dir) (bytes : List ℕ) → (role_of_step asked becomes.Answer d bytes ≡ message_role.Negative asked) ↔ (is_negative_response bytes ≡ true)
-
--- the answer to an exchange in this one of two logs
-abbrev pub answer_of : LogName → Option RowMessageValue → Option RowMessageValue → Option RowMessageValue
-answer_of A left right = left
-answer_of B left right = right
-
--- the log that is said to have no answer to an exchange has none
-abbrev pub UnansweredHasNone : Type 0
-UnansweredHasNone = (left right : Option RowMessageValue) (log : LogName)
-    → contrast_of_answers left right ≡ Some (contrast.Unanswered log) → answer_of log left right ≡ None
 
 -- a message in its place, but that its first frame came at this time
 abbrev pub begun_at : ℕ → MessagePlace → MessagePlace

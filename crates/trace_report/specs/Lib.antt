@@ -22,13 +22,8 @@ pub mod Help
 pub mod Page
 pub mod Linked
 pub mod Items
-pub mod Contrast
-pub mod Marks
-pub mod ItemRows
-pub mod Difference
 pub mod Session
 pub mod Kept
-pub mod PairPage
 pub mod InMemory
 pub mod Numbers
 pub mod Laws

@@ -7,11 +7,11 @@ use Rattle.trace_report.specs.Rows.{RowValue, message, no_answer, dropped, ended
 use Rattle.trace_report.specs.Roles.{begins_item}
 use Rattle.trace_report.specs.Sorts.{first_targets}
 use Rattle.trace_report.specs.Targets.{identifier}
-use Rattle.trace_report.specs.declared.targets.Target.{Target}
-use Rattle.trace_report.specs.declared.targets.Target.TheVariants as target
+use Rattle.trace_report.specs.declared.targets.LinkTarget.{LinkTarget}
+use Rattle.trace_report.specs.declared.targets.LinkTarget.TheVariants as target
 
 -- the place that a row is, if links lead to it
-abbrev pub target_at : RowValue → Option Target
+abbrev pub target_at : RowValue → Option LinkTarget
 target_at (message is d place bytes) = if begins_item is then Some (target.Item place.item) else None
 target_at (no_answer number silent) = None
 target_at (dropped place d linked why) = if linked then Some (target.Line place.line) else None
@@ -19,7 +19,7 @@ target_at (ended place end) = Some (target.Line place.line)
 target_at (unfinished d begun len) = Some (target.Side d)
 
 -- the places that these rows are, in order
-abbrev pub targets_in : List RowValue → List Target
+abbrev pub targets_in : List RowValue → List LinkTarget
 targets_in rows = filter_map target_at rows
 
 -- the identifiers of all pages of one log
@@ -37,8 +37,8 @@ abbrev pub IsAmong : {X : Type 0} → X → List X → Type 0
 IsAmong x xs = (place : ℕ) × (slice_get xs place ≡ Some x)
 
 -- links to these places lead to rows among these
-abbrev pub LeadTo : List RowValue → ArrayVec Target → Type 0
-LeadTo rows targets = AllByRecursion (λ (place : Target). IsAmong place (targets_in rows)) targets.items
+abbrev pub LeadTo : List RowValue → ArrayVec LinkTarget → Type 0
+LeadTo rows targets = AllByRecursion (λ (place : LinkTarget). IsAmong place (targets_in rows)) targets.items
 
 -- each link of a verdict on these rows leads to one of them
 pub record HasEachTarget (rows : List RowValue) : Type 0 where

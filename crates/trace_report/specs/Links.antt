@@ -7,26 +7,26 @@ use Rattle.trace_report.specs.Sorts.{most_links}
 use Rattle.trace_report.specs.Targets.{identifier}
 use Rattle.trace_report.specs.declared.counts.SortCounts.{SortCounts}
 use Rattle.trace_report.specs.declared.tally.Tally.{Tally}
-use Rattle.trace_report.specs.declared.targets.Target.{Target}
-use Rattle.trace_report.specs.declared.targets.Target.TheVariants as target
+use Rattle.trace_report.specs.declared.targets.LinkTarget.{LinkTarget}
+use Rattle.trace_report.specs.declared.targets.LinkTarget.TheVariants as target
 
 -- a link to a place: where it leads, and how it is called
-abbrev pub link_text : Target → List ℕ
+abbrev pub link_text : LinkTarget → List ℕ
 link_text (target.Item number) = codes "<a href=\"#" ++ identifier (target.Item number) ++ codes "\">item " ++ decimal number ++ codes "</a>"
 link_text (target.Line number) = codes "<a href=\"#" ++ identifier (target.Line number) ++ codes "\">line " ++ decimal number ++ codes "</a>"
 link_text (target.Side dir.Tester) = codes "<a href=\"#" ++ identifier (target.Side dir.Tester) ++ codes "\">of the tester</a>"
 link_text (target.Side dir.Unit) = codes "<a href=\"#" ++ identifier (target.Side dir.Unit) ++ codes "\">of the unit</a>"
 
 -- a link to a place behind another link
-abbrev pub link_behind : Target → List ℕ
+abbrev pub link_behind : LinkTarget → List ℕ
 link_behind place = codes ", " ++ link_text place
 
 -- links to these places, each behind another link
-abbrev pub links_behind : List Target → List ℕ
+abbrev pub links_behind : List LinkTarget → List ℕ
 links_behind places = flat_map link_behind places
 
 -- links to these places, with commas between
-abbrev pub links_text : List Target → List ℕ
+abbrev pub links_text : List LinkTarget → List ℕ
 links_text [] = []
 links_text (place ∷ rest) = link_text place ++ links_behind rest
 
@@ -39,12 +39,12 @@ abbrev pub more_text : ℕ → List ℕ
 more_text count = if nat_lt most_links count then others_text (count - most_links) else []
 
 -- what needs attention for one reason: how many rows, and links to the first
-abbrev pub attention_entry : List ℕ → ℕ → List Target → List ℕ
+abbrev pub attention_entry : List ℕ → ℕ → List LinkTarget → List ℕ
 attention_entry words count first =
     codes "<li>" ++ words ++ codes " <b>" ++ decimal count ++ codes "</b>: " ++ links_text first ++ more_text count ++ codes "\n"
 
 -- what needs attention for one reason, if a row does
-abbrev pub attention_line : List ℕ → ℕ → List Target → List ℕ
+abbrev pub attention_line : List ℕ → ℕ → List LinkTarget → List ℕ
 attention_line words count first = if count == 0 then [] else attention_entry words count first
 
 -- what needs attention, a line for each reason

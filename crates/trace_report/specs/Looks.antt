@@ -7,8 +7,8 @@ use Rattle.trace_report.specs.declared.looks.Look.TheVariants as look
 use Rattle.trace_report.specs.declared.looks.TheConstants.{TOLD}
 
 -- the bytes begin with these
-abbrev pub begins : List ℕ → List ℕ → Bool
-begins bytes front = starts_with (λ one other. one == other) bytes front
+abbrev pub has_front : List ℕ → List ℕ → Bool
+has_front bytes front = starts_with (λ one other. one == other) bytes front
 
 -- this byte stands at this place, from 0 on
 abbrev pub has_at : List ℕ → ℕ → ℕ → Bool
@@ -74,7 +74,7 @@ signs = flat_map signs_of TOLD
 
 -- the first bytes tell this look
 abbrev pub is_told : List ℕ → Look → Bool
-is_told bytes look = list_any (begins bytes) (look_row look).first
+is_told bytes look = list_any (has_front bytes) (look_row look).first
 
 -- the first of two looks that is one
 abbrev pub or_else : Option Look → Option Look → Option Look
@@ -109,7 +109,7 @@ has_more_decimals first column = nat_le 10 column && has_at first (column - 8) (
 -- A line that begins with no stamp where one is due: behind legal lines, or as the first where candump -d tells in it
 -- of lost frames.
 abbrev pub lacks_stamp : List ℕ → ℕ → ℕ → Bool
-lacks_stamp first line column = (column == 1) && (nat_lt 1 line || begins first (codes "DROPCOUNT"))
+lacks_stamp first line column = (column == 1) && (nat_lt 1 line || has_front first (codes "DROPCOUNT"))
 
 -- What a log looks like that is refused at this place, by its first bytes.
 abbrev pub look_of : List ℕ → ℕ → ℕ → Option Look

@@ -1,5 +1,5 @@
 -- The rows of what is missing: answers, frames that were dropped, and messages that are not whole.
-use Rattle.std.specs.Prelude.{ℕ, Bool, List, [], ◌++◌, codes, if◌then◌else◌}
+use Rattle.std.specs.Prelude.{ℕ, Bool, ◌&&◌, List, [], ◌++◌, codes, if◌then◌else◌}
 use Rattle.std.specs.Fmt.{decimal}
 use Rattle.direction.specs.declared.Dir.{Dir}
 use Rattle.isotp_pdu.specs.declared.PduFault.{PduFault}
@@ -10,7 +10,7 @@ use Rattle.isotp_receive.specs.declared.event.Reason.{Reason}
 use Rattle.trace_canon.specs.declared.reception_starts.FramePlace.{FramePlace}
 use Rattle.trace_text.specs.RemarkLines.{cause_text, reason_text}
 use Rattle.trace_report.specs.Targets.{identifier}
-use Rattle.trace_report.specs.declared.targets.Target.TheVariants as target
+use Rattle.trace_report.specs.declared.targets.LinkTarget.TheVariants as target
 use Rattle.trace_report.specs.Durations.{seconds_between}
 use Rattle.trace_text.specs.Words.{direction_text}
 use Rattle.trace_report.specs.Rows.{cell_front, cell_end}
@@ -19,6 +19,8 @@ use Rattle.isotp_pdu.specs.declared.PduFault.TheVariants as pdu
 use Rattle.isotp_receive.specs.declared.event.Cause.TheVariants as cause
 use Rattle.isotp_receive.specs.declared.event.Reason.TheVariants as reason
 use Rattle.trace_report.specs.declared.row.Arrow.TheVariants as arrow
+use Rattle.trace_report.specs.declared.row.Missing.{Missing}
+use Rattle.trace_report.specs.declared.row.Missing.TheVariants as missing
 
 -- the row of an item without an answer that asked for no positive one
 abbrev pub silent_row : ℕ → List ℕ
@@ -78,28 +80,45 @@ cause_words cause.Late = codes "its next frame came after more than 1 s"
 cause_words cause.Sequence = codes "a frame is missing, came twice or out of order"
 cause_words cause.Length = codes "a frame has another length than its first one"
 
+-- a frame of this side that was dropped, in words
+abbrev pub dropped_words : Dir → Reason → List ℕ
+dropped_words d why = codes "<b>dropped</b> <i>" ++ direction_text d ++ codes " frame:</i> <em>" ++ reason_text why ++ codes "</em>" ++ reason_words why
+
 -- the row of a frame that was dropped, to which links lead or not
 abbrev pub dropped_row : Bool → ℕ → FramePlace → Dir → Reason → List ℕ
-dropped_row linked origin place d why =
-    frame_front linked origin place ++ cell_front d ++ codes "<b>dropped</b> <i>" ++ direction_text d ++ codes " frame:</i> <em>" ++ reason_text why
-    ++ codes "</em>" ++ reason_words why ++ cell_end d arrow.Crossed
+dropped_row linked origin place d why = frame_front linked origin place ++ cell_front d ++ dropped_words d why ++ cell_end d arrow.Crossed
 
 -- a message of this direction that is not whole: where it began, and how many bytes were announced
 abbrev pub partial_text : Dir → ℕ → ℕ → List ℕ
 partial_text d line len = direction_text d ++ codes " message from line " ++ decimal line ++ codes ", " ++ decimal len ++ codes " bytes announced:"
 
+-- a reception that ended, in words
+abbrev pub ended_words : Ended → List ℕ
+ended_words end =
+    codes "<b>ended</b> <i>" ++ partial_text end.dir end.begun_line end.len ++ codes "</i> <em>" ++ cause_text end.cause ++ codes "</em> <i>"
+    ++ cause_words end.cause ++ codes "</i>"
+
 -- the row of a frame that ended a reception, to which links lead or not
 abbrev pub ended_row : Bool → ℕ → FramePlace → Ended → List ℕ
 ended_row linked origin place end =
-    frame_front linked origin place ++ cell_front end.dir ++ codes "<b>ended</b> <i>" ++ partial_text end.dir end.begun_line end.len
-    ++ codes "</i> <em>" ++ cause_text end.cause ++ codes "</em> <i>" ++ cause_words end.cause ++ codes "</i>" ++ cell_end end.dir arrow.Barred
+    frame_front linked origin place ++ cell_front end.dir ++ ended_words end ++ cell_end end.dir arrow.Barred
 
 -- the identifier of what stands of a side at the end of the log, where links lead to this row
 abbrev pub side_target : Bool → Dir → List ℕ
 side_target linked d = if linked then codes " id=\"" ++ identifier (target.Side d) ++ codes "\"" else []
 
+-- a reception that stands at the end of the log, in words
+abbrev pub unfinished_words : Dir → ℕ → ℕ → List ℕ
+unfinished_words d line len = codes "<b>unfinished</b> <i>" ++ partial_text d line len ++ codes " the log ends before its last frame</i>"
+
 -- the row of a reception that stands at the end of the log, to which links lead or not
 abbrev pub unfinished_row : Bool → Dir → ℕ → ℕ → List ℕ
 unfinished_row linked d line len =
-    codes "<tr class=\"x\"" ++ side_target linked d ++ codes "><td><td><td>" ++ cell_front d ++ codes "<b>unfinished</b> <i>" ++ partial_text d line len
-    ++ codes " the log ends before its last frame</i>" ++ cell_end d arrow.Barred
+    codes "<tr class=\"x\"" ++ side_target linked d ++ codes "><td><td><td>" ++ cell_front d ++ unfinished_words d line len ++ cell_end d arrow.Barred
+
+-- the row of what is missing, to which links lead or not; to that of a dropped frame they lead only where it says so
+abbrev pub missing_row : Bool → ℕ → Missing → List ℕ
+missing_row linked origin (missing.NoAnswer number silent) = no_answer_row number silent
+missing_row linked origin (missing.Dropped place d own why) = dropped_row (linked && own) origin place d why
+missing_row linked origin (missing.Ended place end) = ended_row linked origin place end
+missing_row linked origin (missing.Unfinished d line len) = unfinished_row linked d line len

@@ -6,7 +6,7 @@ use Rattle.uds_message.specs.Message.{sid, response_code}
 use Rattle.trace_report.specs.declared.row.MessagePlace.{MessagePlace}
 use Rattle.trace_report.specs.declared.roles.MessageRole.{MessageRole}
 use Rattle.trace_report.specs.Targets.{identifier}
-use Rattle.trace_report.specs.declared.targets.Target.TheVariants as target
+use Rattle.trace_report.specs.declared.targets.LinkTarget.TheVariants as target
 use Rattle.trace_report.specs.Data.{data_text}
 use Rattle.trace_report.specs.Durations.{milliseconds_between, seconds_between}
 use Rattle.trace_text.specs.Words.{direction_text, service_text, code_text}
@@ -47,7 +47,7 @@ lines_text first last = if first == last then decimal first else several_lines f
 
 -- the lines of the log from one to another, behind the word line or lines
 abbrev pub named_lines : ℕ → ℕ → List ℕ
-named_lines first last = if first == last then codes "line " ++ decimal first else codes "lines " ++ several_lines first last
+named_lines first last = (if first == last then codes "line " else codes "lines ") ++ lines_text first last
 
 -- where a message stands: its item, its lines, and the time of its last frame since the time `origin`
 abbrev pub message_front : Bool → ℕ → MessageRole → MessagePlace → List ℕ

@@ -10,7 +10,7 @@ use Rattle.uds_exchange.specs.Meaning.{ItemValue, exchange, stray_of, is_pending
 use Rattle.uds_exchange.specs.declared.step.Step.{Step}
 use Rattle.uds_exchange.specs.declared.step.Step.TheVariants as becomes
 use Rattle.uds_message.specs.Message.{is_suppressing}
-use Rattle.trace_canon.specs.MessageLines.{placed_behind}
+use Rattle.trace_canon.specs.MessagesScript.{placed_behind}
 use Rattle.trace_report.specs.Page.{all_rows}
 use Rattle.trace_report.specs.Rows.{RowValue, message, no_answer, dropped, ended, unfinished}
 use Rattle.trace_report.specs.declared.roles.MessageRole.{MessageRole}

@@ -8,9 +8,13 @@ use Rattle.isotp_receive.specs.declared.event.Reason.{Reason}
 use Rattle.trace_canon.specs.declared.reception_starts.FramePlace.{FramePlace}
 use Rattle.trace_report.specs.declared.row.Arrow.{Arrow}
 use Rattle.trace_report.specs.declared.row.MessagePlace.{MessagePlace}
+use Rattle.trace_report.specs.declared.row.Missing.{Missing}
+use Rattle.trace_report.specs.declared.row.SessionRow.{SessionRow}
 use Rattle.trace_report.specs.declared.roles.MessageRole.{MessageRole}
 use Rattle.trace_report.specs.Targets.{side_text}
 use Rattle.trace_report.specs.declared.row.Arrow.TheVariants as arrow
+use Rattle.trace_report.specs.declared.row.Missing.TheVariants as missing
+use Rattle.trace_report.specs.declared.row.SessionRow.TheVariants as row
 
 -- What a row tells.
 pub data RowValue : Type 0 where
@@ -25,6 +29,18 @@ pub data RowValue : Type 0 where
   ended : FramePlace → Ended → RowValue
   -- at the end of the log a reception stands: its direction, the line of its first frame, and the bytes that this announced
   unfinished : Dir → ℕ → ℕ → RowValue
+
+-- what a row tells that is missing, as a row
+abbrev pub missing_of : Missing → RowValue
+missing_of (missing.NoAnswer number silent) = no_answer number silent
+missing_of (missing.Dropped place d linked why) = dropped place d linked why
+missing_of (missing.Ended place end) = ended place end
+missing_of (missing.Unfinished d line len) = unfinished d line len
+
+-- what a row tells that is lent, as it is
+abbrev pub row_of : SessionRow → RowValue
+row_of (row.Message sent lent) = message sent.role sent.dir sent.place lent.now
+row_of (row.Missing what) = missing_of what
 
 -- the end of an arrow: a head, a cross, or a bar
 abbrev pub arrow_text : Arrow → List ℕ

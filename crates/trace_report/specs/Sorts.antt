@@ -10,8 +10,8 @@ use Rattle.trace_report.specs.declared.sorts.Sort.{Sort}
 use Rattle.trace_report.specs.declared.sorts.Sort.TheVariants as sort
 use Rattle.trace_report.specs.declared.tally.FirstTargets.{FirstTargets}
 use Rattle.trace_report.specs.declared.tally.Tally.{Tally}
-use Rattle.trace_report.specs.declared.targets.Target.{Target}
-use Rattle.trace_report.specs.declared.targets.Target.TheVariants as target
+use Rattle.trace_report.specs.declared.targets.LinkTarget.{LinkTarget}
+use Rattle.trace_report.specs.declared.targets.LinkTarget.TheVariants as target
 
 -- the sort of the row of a message of this role
 abbrev pub sort_of_role : MessageRole → Sort
@@ -48,7 +48,7 @@ sort_of_silence false = sort.Unanswered
 -- the sort of a row
 abbrev pub sort_of : RowValue → Sort
 sort_of (message is d place bytes) = sort_of_role is
-sort_of (no_answer number asked) = sort_of_silence asked
+sort_of (no_answer number silent) = sort_of_silence silent
 sort_of (dropped place d linked why) = sort.Dropped
 sort_of (ended place end) = sort.Ended
 sort_of (unfinished d line len) = sort.Unfinished
@@ -72,15 +72,15 @@ abbrev pub is_of : Sort → RowValue → Bool
 is_of kind row = rank kind == rank (sort_of row)
 
 -- where a link to a row leads: to its item or to its line, or to what stands of its side
-abbrev pub target_of : RowValue → Target
+abbrev pub target_of : RowValue → LinkTarget
 target_of (message is d place bytes) = target.Item place.item
-target_of (no_answer number asked) = target.Item number
+target_of (no_answer number silent) = target.Item number
 target_of (dropped place d linked why) = target.Line place.line
 target_of (ended place end) = target.Line place.line
 target_of (unfinished d line len) = target.Side d
 
 -- the places to which links to the rows of a sort lead, in order
-abbrev pub targets_of : Sort → List RowValue → List Target
+abbrev pub targets_of : Sort → List RowValue → List LinkTarget
 targets_of kind rows = flat_map (λ row. if is_of kind row then target_of row ∷ [] else []) rows
 
 -- how many of these rows are of this sort
@@ -92,7 +92,7 @@ abbrev pub most_links : ℕ
 most_links = 10
 
 -- the places to which links lead to the first rows of a sort
-abbrev pub first_of : Sort → List RowValue → ArrayVec Target
+abbrev pub first_of : Sort → List RowValue → ArrayVec LinkTarget
 first_of kind rows = record { items = take most_links (targets_of kind rows) }
 
 -- how many rows there are of each sort

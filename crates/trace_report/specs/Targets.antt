@@ -3,8 +3,8 @@ use Rattle.std.specs.Prelude.{ℕ, List, ◌++◌, codes}
 use Rattle.std.specs.Fmt.{decimal}
 use Rattle.direction.specs.declared.Dir.{Dir}
 use Rattle.direction.specs.declared.Dir.TheVariants as dir
-use Rattle.trace_report.specs.declared.targets.Target.{Target}
-use Rattle.trace_report.specs.declared.targets.Target.TheVariants as target
+use Rattle.trace_report.specs.declared.targets.LinkTarget.{LinkTarget}
+use Rattle.trace_report.specs.declared.targets.LinkTarget.TheVariants as target
 
 -- the letter of a side, in identifiers and in classes of the style
 abbrev pub side_text : Dir → List ℕ
@@ -12,7 +12,7 @@ side_text dir.Tester = codes "t"
 side_text dir.Unit = codes "u"
 
 -- the identifier of a place on the page
-abbrev pub identifier : Target → List ℕ
+abbrev pub identifier : LinkTarget → List ℕ
 identifier (target.Item number) = codes "i" ++ decimal number
 identifier (target.Line number) = codes "l" ++ decimal number
 identifier (target.Side d) = codes "e" ++ side_text d

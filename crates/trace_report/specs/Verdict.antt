@@ -29,28 +29,15 @@ span_text first last =
 abbrev pub span_of : ℕ → ℕ → ℕ → List ℕ
 span_of frames first last = if frames == 0 then [] else span_text first last
 
+-- the head of a verdict, up to its words: the class of the style that colours it, and the sign before its words
+abbrev pub verdict_head : List ℕ → List ℕ → List ℕ
+verdict_head class sign = codes "<section id=\"verdict\" class=\"" ++ class ++ codes "\">\n<h2><span aria-hidden=\"true\">" ++ sign ++ codes "</span> "
+
 -- the heading of a clean recording: nothing of the two sides is known to be missing
 abbrev pub clean_verdict : List ℕ
 clean_verdict =
-    codes "<section id=\"verdict\" class=\"good\">\n<h2><span aria-hidden=\"true\">&#10003;</span> The recording is clean</h2>\n"
+    verdict_head (codes "good") (codes "&#10003;") ++ codes "The recording is clean</h2>\n"
     ++ codes "<p>No frame of the two identifiers was dropped, and no message is in part."
-
--- the heading of a recording of which something is known to be missing
-abbrev pub unclean_start : List ℕ
-unclean_start = codes "<section id=\"verdict\" class=\"warn\">\n<h2><span aria-hidden=\"true\">!</span> The recording is not clean</h2>\n<p>"
-
--- the heading of a log in which no frame is of the two sides
-abbrev pub empty_start : List ℕ
-empty_start = codes "<section id=\"verdict\" class=\"warn\">\n<h2><span aria-hidden=\"true\">!</span> No frame of the tester or the unit</h2>\n<p>"
-
--- the heading of a clean recording of which tester and unit look exchanged
-abbrev pub exchanged_start : List ℕ
-exchanged_start = codes "<section id=\"verdict\" class=\"warn\">\n<h2><span aria-hidden=\"true\">!</span> Tester and unit look exchanged</h2>\n<p>"
-
--- the heading of a recording that is not clean, and of which tester and unit look exchanged
-abbrev pub unclean_exchanged_start : List ℕ
-unclean_exchanged_start =
-    codes "<section id=\"verdict\" class=\"warn\">\n<h2><span aria-hidden=\"true\">!</span> The recording is not clean, and tester and unit look exchanged</h2>\n<p>"
 
 -- a page calls the recording clean: it is clean, and its sides don't look exchanged
 abbrev pub is_called_clean : Summary → Bool
@@ -100,11 +87,17 @@ meaning_words summary =
 abbrev pub unclean_reasons : Summary → List ℕ
 unclean_reasons summary = clause (not (is_clean summary)) (strict_words summary) ++ meaning_words summary
 
--- the heading of a log that has no frame of the two sides, or whose sides look exchanged, or that is not clean
+-- the words of the heading of a log that has no frame of the two sides, or whose sides look exchanged, or that is not clean
+abbrev pub start_words : Summary → List ℕ
+start_words summary =
+    if summary.frames == 0 then codes "No frame of the tester or the unit"
+    else if summary.looks_exchanged
+    then (if is_clean summary then codes "Tester and unit look exchanged" else codes "The recording is not clean, and tester and unit look exchanged")
+    else codes "The recording is not clean"
+
+-- that heading
 abbrev pub start_by : Summary → List ℕ
-start_by summary =
-    if summary.frames == 0 then empty_start
-    else if summary.looks_exchanged then (if is_clean summary then exchanged_start else unclean_exchanged_start) else unclean_start
+start_by summary = verdict_head (codes "warn") (codes "!") ++ start_words summary ++ codes "</h2>\n<p>"
 
 -- the heading of a recording that is not called clean, and each reason
 abbrev pub unclean_verdict : Summary → List ℕ
@@ -157,7 +150,7 @@ stop_line why = codes "<p class=\"stop\"><b>Refused here:</b> " ++ refusal_words
 -- the heading of the verdict of a log that is refused, its sentences, and the cause, where there is one
 abbrev pub refused_heading : Fault → Option RefusalCause → List ℕ
 refused_heading why cause =
-    codes "<section id=\"verdict\" class=\"bad\">\n<h2><span aria-hidden=\"true\">&#10005;</span> The log is refused</h2>\n<p><em>"
+    verdict_head (codes "bad") (codes "&#10005;") ++ codes "The log is refused</h2>\n<p><em>"
     ++ refusal_words why
     ++ codes ".</em> Below is what the lines before that say; what comes after it is not read, and the counts are of the lines before.</p>\n"
     ++ cause_line cause

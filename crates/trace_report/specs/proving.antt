@@ -4,6 +4,4 @@ pub mod Following
 pub mod Tallying
 pub mod Lending
 pub mod Keeping
-pub mod Rowing
 pub mod Heard
-pub mod Charting

@@ -1,24 +1,19 @@
 //! The blocks in which the rows of a report stand.
 ghost use Rattle.std.specs.Prelude.{◌≡◌, ◌^◌, ◌-◌, ◌<◌, ◌||◌};
 ghost use Rattle.trace_report.specs.Blocks as Spec;
-ghost use Rattle.trace_report.specs.proving.Pages.{row_of};
+ghost use Rattle.trace_report.specs.Rows.{row_of};
 
-use crate::durations::Seconds;
 use crate::roles::is_request_role;
-use crate::row::{MessagePlace, Row};
-use text_parts::{Either, Part, When, say};
-use trace_canon::reception_starts::FramePlace;
-use trace_io::TextSink;
-use trace_text::Number;
+use crate::row::SessionRow;
 
 /// A block of so many rows ends before the next request.
-pub(crate) const FULL_BLOCK: u64 = 200;
+const FULL_BLOCK: u64 = 200;
 
 /// A block of so many rows ends before any row.
 const LARGEST_BLOCK: u64 = 1000;
 
 /// So many blocks, the first ones, are written open.
-const OPEN_BLOCKS: u64 = 10;
+pub(crate) const OPEN_BLOCKS: u64 = 10;
 
 /// How many blocks stand, and how many rows the last of them has.
 #[derive(Clone, Copy, Debug)]
@@ -35,25 +30,24 @@ pub(crate) fn no_blocks() -> Blocks
 }
 
 /// Whether a row begins an exchange.
-pub(crate) fn begins_exchange(row: Row<'_>) -> bool
+pub(crate) fn begins_exchange(row: SessionRow<'_>) -> bool
     ensures { result ≡ Spec.begins_exchange (row_of row.entry) }
 {
     match row {
-        Row::Message { role, .. } => is_request_role(role),
-        Row::NoAnswer { .. } | Row::Dropped { .. } | Row::Ended { .. } | Row::Unfinished { .. } =>
-            false,
+        SessionRow::Message { sent, .. } => is_request_role(sent.role),
+        SessionRow::Missing(_) => false,
     }
 }
 
 /// Whether a block begins before a row, which begins an exchange or does not.
-fn begins_block(exchange: bool, blocks: Blocks) -> bool
+pub(crate) fn begins_block(exchange: bool, blocks: Blocks) -> bool
     ensures { result ≡ Spec.begins_block exchange blocks }
 {
     blocks.count == 0 || blocks.rows >= LARGEST_BLOCK || (exchange && blocks.rows >= FULL_BLOCK)
 }
 
 /// Whether a body of the table begins before a row: each exchange has one, and each block.
-fn begins_body(block: bool, exchange: bool) -> bool
+pub(crate) fn begins_body(block: bool, exchange: bool) -> bool
     ensures { result ≡ (block || exchange) }
 {
     block || exchange
@@ -81,183 +75,4 @@ pub(crate) fn is_brief(blocks: Blocks) -> bool
     ensures { result ≡ Spec.is_brief blocks }
 {
     blocks.count > OPEN_BLOCKS
-}
-
-/// What begins before a row, where these blocks stand: a block, and a body of the table with each exchange.
-#[derive(Clone, Copy)]
-pub(crate) struct Opening<'a> {
-    pub origin: u64,
-    pub blocks: Blocks,
-    pub row: Row<'a>,
-}
-
-impl<'a> Part for Opening<'a> {
-    ghost use Rattle.trace_report.specs.Blocks.{opening_text};
-    ghost use Rattle.trace_report.specs.proving.Pages.{row_of};
-
-    ghost text = { λ opening. opening_text opening.origin opening.blocks (row_of opening.row) };
-
-    fn say<S: TextSink>(self, out: &mut S) {
-        let Opening {
-            origin,
-            blocks,
-            row,
-        } = self;
-        let exchange = begins_exchange(row);
-        let block = begins_block(exchange, blocks);
-        let front = BlockFront {
-            origin,
-            before: blocks.count,
-            row,
-        };
-        say(
-            out,
-            (
-                When(block, front),
-                When(begins_body(block, exchange), "<tbody>\n"),
-            ),
-        );
-    }
-}
-
-/// What stands before a row that begins a block, where so many blocks stand before it.
-#[derive(Clone, Copy)]
-struct BlockFront<'a> {
-    origin: u64,
-    before: u64,
-    row: Row<'a>,
-}
-
-impl<'a> Part for BlockFront<'a> {
-    ghost use Rattle.trace_report.specs.Blocks.{block_front};
-    ghost use Rattle.trace_report.specs.proving.Pages.{row_of};
-
-    ghost text = { λ front. block_front front.origin front.before (row_of front.row) };
-
-    fn say<S: TextSink>(self, out: &mut S) {
-        let BlockFront {
-            origin,
-            before,
-            row,
-        } = self;
-        say(
-            out,
-            (
-                BlockEnd(before),
-                Either(
-                    before < OPEN_BLOCKS,
-                    "<details class=\"b\" open>\n<summary>",
-                    "<details class=\"b\">\n<summary>",
-                ),
-                BlockTitle(origin, row),
-                ("</summary>\n", ChartHead),
-            ),
-        );
-    }
-}
-
-/// The end of the last block, if one stands.
-#[derive(Clone, Copy)]
-pub(crate) struct BlockEnd(pub u64);
-
-impl Part for BlockEnd {
-    ghost use Rattle.trace_report.specs.Blocks.{block_end};
-
-    ghost text = { λ end. block_end end.0 };
-
-    fn say<S: TextSink>(self, out: &mut S) {
-        if self.0 > 0 {
-            say(out, "</table>\n</details>\n");
-        }
-    }
-}
-
-/// The head of a table of rows: the names of its columns.
-#[derive(Clone, Copy)]
-pub(crate) struct ChartHead;
-
-impl Part for ChartHead {
-    ghost use Rattle.trace_report.specs.Blocks.{chart_head};
-
-    ghost text = { λ head. chart_head };
-
-    fn say<S: TextSink>(self, out: &mut S) {
-        say(
-            out,
-            "<table>\n<thead><tr><th scope=\"col\">Item<th scope=\"col\">Lines<th scope=\"col\">Time<th scope=\"col\"><span class=\"T\">Tester</span><span class=\"U\">Unit</span></thead>\n",
-        );
-    }
-}
-
-/// Where a row stands, in the title of the block that begins with it.
-#[derive(Clone, Copy)]
-struct BlockTitle<'a>(u64, Row<'a>);
-
-impl<'a> Part for BlockTitle<'a> {
-    ghost use Rattle.trace_report.specs.Blocks.{block_title};
-    ghost use Rattle.trace_report.specs.proving.Pages.{row_of};
-
-    ghost text = { λ title. block_title title.0 (row_of title.1) };
-
-    fn say<S: TextSink>(self, out: &mut S) {
-        let BlockTitle(origin, row) = self;
-        match row {
-            Row::Message { place, .. } => say(out, MessageTitle(origin, place)),
-            Row::NoAnswer { number, .. } => say(out, ("From item ", Number(number))),
-            Row::Dropped { place, .. } | Row::Ended { place, .. } => say(
-                out,
-                FromPlace(origin, place),
-            ),
-            Row::Unfinished { .. } => say(out, "At the end of the log"),
-        }
-    }
-}
-
-/// The title of a block that begins with the row of a message.
-#[derive(Clone, Copy)]
-struct MessageTitle(u64, MessagePlace);
-
-impl Part for MessageTitle {
-    ghost use Rattle.trace_report.specs.Blocks.{message_title};
-
-    ghost text = { λ title. message_title title.0 title.1 };
-
-    fn say<S: TextSink>(self, out: &mut S) {
-        let MessageTitle(origin, place) = self;
-        say(
-            out,
-            (
-                ("From item ", Number(place.item)),
-                ", line ",
-                Number(place.first.line),
-                ", ",
-                Seconds(origin, place.first.micros),
-                " s",
-            ),
-        );
-    }
-}
-
-/// The title of a block that begins with the row of a frame.
-#[derive(Clone, Copy)]
-struct FromPlace(u64, FramePlace);
-
-impl Part for FromPlace {
-    ghost use Rattle.trace_report.specs.Blocks.{from_place};
-
-    ghost text = { λ title. from_place title.0 title.1 };
-
-    fn say<S: TextSink>(self, out: &mut S) {
-        let FromPlace(origin, place) = self;
-        say(
-            out,
-            (
-                "From line ",
-                Number(place.line),
-                ", ",
-                Seconds(origin, place.micros),
-                " s",
-            ),
-        );
-    }
 }

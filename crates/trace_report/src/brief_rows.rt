@@ -3,29 +3,28 @@ ghost use Rattle.trace_report.specs.BriefRows.{brief_message};
 
 use crate::cells::Side;
 use crate::data::BriefData;
-use crate::message_rows::{After, MessageFront, say_message_row};
+use crate::message_rows::{MessageFront, say_message_row};
+use crate::message_words::After;
 use crate::roles::MessageRole;
-use crate::row::MessagePlace;
+use crate::row::SentMessage;
 use crate::sorts::message_needs_attention;
-use direction::Dir;
 use text_parts::{Part, say};
 use trace_io::TextSink;
-use trace_text::Service;
+use trace_text::ServiceName;
 use uds_message::sid;
 
 /// Says the row of a message in a block of brief rows: what needs attention has its full row there, too.
 pub(crate) fn say_brief_message<S: TextSink>(
     origin: u64,
-    role: MessageRole,
-    dir: Dir,
-    place: MessagePlace,
+    sent: SentMessage,
     message: &[u8],
     out: &mut S,
 )
-    ensures { S.says out.old (brief_message origin role dir place message.now) out.new }
+    ensures { S.says out.old (brief_message origin sent.role sent.dir sent.place message.now) out.new }
 {
+    let SentMessage { role, dir, place } = sent;
     if message_needs_attention(role) {
-        say_message_row(origin, role, dir, place, message, out);
+        say_message_row(origin, sent, message, out);
     } else {
         let words = BriefWords {
             role,
@@ -74,7 +73,7 @@ impl<'a> Part for BriefWords<'a> {
         match role {
             MessageRole::Request => say(
                 out,
-                (Service(sid(message)), " request ", data, " &#8594;"),
+                (ServiceName(sid(message)), " request ", data, " &#8594;"),
             ),
             MessageRole::Positive { asked } => say(
                 out,

@@ -4,7 +4,8 @@ ghost use Rattle.trace_report.specs.Causes.{row_value};
 ghost use Rattle.trace_report.specs.Causes as Spec;
 ghost use Rattle.trace_run.specs.Script.{glimpse_value};
 
-use crate::looks::{Look, lacks_stamp, look_of, look_row};
+use crate::first_bytes::{lacks_stamp, look_of};
+use crate::looks::{Look, look_row};
 use text_parts::{Part, When, say};
 use trace_io::TextSink;
 use trace_log::{Fault, LARGEST_LIMIT};
@@ -130,7 +131,7 @@ fn row_of_look(look: Look) -> CauseRow
 
 /// The line of the cause of a refusal, where one is known.
 #[derive(Clone, Copy)]
-pub(crate) struct CauseLine(pub Option<RefusalCause>);
+pub struct CauseLine(pub Option<RefusalCause>);
 
 impl Part for CauseLine {
     ghost use Rattle.trace_report.specs.Causes.{cause_line};
@@ -168,9 +169,9 @@ impl<N: Part> Part for CauseOf<N> {
 struct RowOf<N>(CauseRow, N);
 
 impl<N: Part> Part for RowOf<N> {
-    ghost use Rattle.trace_report.specs.Causes.{row_text, row_value};
+    ghost use Rattle.trace_report.specs.Causes.{cause_row_text, row_value};
 
-    ghost text = { λ row. row_text (row_value row.0) (N.text row.1) };
+    ghost text = { λ row. cause_row_text (row_value row.0) (N.text row.1) };
 
     fn say<S: TextSink>(self, out: &mut S) {
         let RowOf(row, name) = self;

@@ -6,7 +6,7 @@ use trace_io::TextSink;
 
 /// A cell of the chart, up to its words.
 #[derive(Clone, Copy)]
-pub(crate) struct CellFront(pub Dir);
+pub struct CellFront(pub Dir);
 
 impl Part for CellFront {
     ghost use Rattle.trace_report.specs.Rows.{cell_front};
@@ -20,7 +20,7 @@ impl Part for CellFront {
 
 /// The arrow, and the end of the row.
 #[derive(Clone, Copy)]
-pub(crate) struct CellEnd(pub Dir, pub Arrow);
+pub struct CellEnd(pub Dir, pub Arrow);
 
 impl Part for CellEnd {
     ghost use Rattle.trace_report.specs.Rows.{cell_end};

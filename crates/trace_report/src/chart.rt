@@ -2,19 +2,17 @@
 ghost use Rattle.std.specs.Prelude.{◌≡◌, ◌^◌, ◌<◌, ◌-◌, List, [], ◌∷◌, ◌++◌, length};
 ghost use Rattle.trace_report.specs.Blocks.{blocks_behind, blocks_of};
 ghost use Rattle.trace_report.specs.Chart.{message_text, row_text, rows_text};
-ghost use Rattle.trace_report.specs.Rows.{RowValue};
+ghost use Rattle.trace_report.specs.Rows.{RowValue, row_of};
 ghost use Rattle.trace_report.specs.proving.Following.{IsChartOf, row_if, rows_in};
-ghost use Rattle.trace_report.specs.proving.Pages.{row_of};
 
-use crate::blocks::{Blocks, Opening, begins_exchange, is_brief, no_blocks, one_more_row};
+use crate::block_fronts::Opening;
+use crate::blocks::{Blocks, begins_exchange, is_brief, no_blocks, one_more_row};
 use crate::brief_rows::say_brief_message;
 use crate::follower::NewRows;
-use crate::lost_rows::{say_dropped_row, say_ended_row, say_no_answer_row, say_unfinished_row};
+use crate::lost_rows::say_missing_row;
 use crate::message_rows::say_message_row;
-use crate::roles::MessageRole;
-use crate::row::{MessagePlace, Row};
+use crate::row::{SentMessage, SessionRow};
 use crate::tally::Tally;
-use direction::Dir;
 use text_parts::say;
 use trace_io::TextSink;
 
@@ -50,7 +48,7 @@ impl Chart {
 
     /// Says a row, if there is one.
     #[inline(always)]
-    fn say_row_if<S: TextSink>(&mut self, origin: u64, row: Option<Row<'_>>, out: &mut S)
+    fn say_row_if<S: TextSink>(&mut self, origin: u64, row: Option<SessionRow<'_>>, out: &mut S)
         ensures stands { (before : List RowValue) → length before < 2 ^ 64 - 1 → IsChartOf before self.old → IsChartOf (before ++ row_if row.entry) self.new }
         ensures says { (before : List RowValue) → length before < 2 ^ 64 - 1 → IsChartOf before self.old
             → S.says out.old (rows_text origin (blocks_of before) (row_if row.entry)) out.new }
@@ -63,7 +61,12 @@ impl Chart {
 }
 
 /// Says a row behind those before, and what begins before it.
-pub(crate) fn say_next_row<S: TextSink>(origin: u64, blocks: &mut Blocks, row: Row<'_>, out: &mut S)
+pub(crate) fn say_next_row<S: TextSink>(
+    origin: u64,
+    blocks: &mut Blocks,
+    row: SessionRow<'_>,
+    out: &mut S,
+)
     ensures says { blocks.old.count < 2 ^ 64 - 1 → blocks.old.rows < 2 ^ 64 - 1 → S.says out.old (rows_text origin blocks.old (row_of row.entry ∷ [])) out.new }
     ensures stands { blocks.old.count < 2 ^ 64 - 1 → blocks.old.rows < 2 ^ 64 - 1 → blocks.new ≡ blocks_behind blocks.old (row_of row.entry ∷ []) }
 {
@@ -78,25 +81,12 @@ pub(crate) fn say_next_row<S: TextSink>(origin: u64, blocks: &mut Blocks, row: R
 }
 
 /// Says a row, in a page whose first frame has the time `origin`, in a block of brief rows or in another.
-fn say_row<S: TextSink>(brief: bool, origin: u64, row: Row<'_>, out: &mut S)
+fn say_row<S: TextSink>(brief: bool, origin: u64, row: SessionRow<'_>, out: &mut S)
     ensures { S.says out.old (row_text brief origin (row_of row.entry)) out.new }
 {
     match row {
-        Row::Message {
-            role,
-            dir,
-            place,
-            message,
-        } => { say_message(brief, origin, role, dir, place, message, out) }
-        Row::NoAnswer { number, silent } => say_no_answer_row(number, silent, out),
-        Row::Dropped {
-            place,
-            dir,
-            linked,
-            reason,
-        } => { say_dropped_row(linked, origin, place, dir, reason, out) }
-        Row::Ended { place, ended } => say_ended_row(true, origin, place, ended, out),
-        Row::Unfinished { dir, line, len } => say_unfinished_row(true, dir, line, len, out),
+        SessionRow::Message { sent, message } => say_message(brief, origin, sent, message, out),
+        SessionRow::Missing(missing) => say_missing_row(true, origin, missing, out),
     }
 }
 
@@ -104,17 +94,15 @@ fn say_row<S: TextSink>(brief: bool, origin: u64, row: Row<'_>, out: &mut S)
 fn say_message<S: TextSink>(
     brief: bool,
     origin: u64,
-    role: MessageRole,
-    dir: Dir,
-    place: MessagePlace,
+    sent: SentMessage,
     message: &[u8],
     out: &mut S,
 )
-    ensures { S.says out.old (message_text brief origin role dir place message.now) out.new }
+    ensures { S.says out.old (message_text brief origin sent.role sent.dir sent.place message.now) out.new }
 {
     if brief {
-        say_brief_message(origin, role, dir, place, message, out);
+        say_brief_message(origin, sent, message, out);
     } else {
-        say_message_row(origin, role, dir, place, message, out);
+        say_message_row(origin, sent, message, out);
     }
 }

@@ -11,7 +11,7 @@ use trace_text::Number;
 
 /// How many rows there are of each sort.
 #[derive(Clone, Copy, Debug)]
-pub(crate) struct SortCounts {
+pub struct SortCounts {
     pub requests: u64,
     pub positives: u64,
     pub negatives: u64,
@@ -89,7 +89,7 @@ impl<'a> Part for AnswersOf<'a> {
 
 /// All counts: of the log, of its requests and answers, of its other messages, and of what is missing.
 #[derive(Clone, Copy)]
-pub(crate) struct Counts<'a>(pub &'a SortCounts, pub &'a Summary);
+pub struct Counts<'a>(pub &'a SortCounts, pub &'a Summary);
 
 impl<'a> Part for Counts<'a> {
     ghost use Rattle.trace_report.specs.Counts.{counts_text};

@@ -10,16 +10,16 @@ use trace_io::TextSink;
 use trace_text::{Byte, Number};
 
 /// All bytes of a message are shown where these are not more.
-pub(crate) const MOST_SHOWN: usize = 64;
+const MOST_SHOWN: usize = 64;
 
 /// The bytes of a message behind the first ones are folded where it has not more than so many, and else not shown.
 const MOST_FOLDED: usize = 512;
 
 /// So many bytes of a message are its first ones.
-pub(crate) const SHOWN_FIRST: usize = 32;
+const SHOWN_FIRST: usize = 32;
 
 /// Says a blank and two digits for each byte: of eight bytes at once, as long as there are eight.
-pub(crate) fn say_bytes_behind<S: TextSink>(bytes: &[u8], out: &mut S)
+fn say_bytes_behind<S: TextSink>(bytes: &[u8], out: &mut S)
     ensures { S.says out.old (bytes_behind bytes.now) out.new }
 {
     let mut rest = bytes;
@@ -78,7 +78,7 @@ fn eight_behind(bytes: &[u8; 8]) -> [u8; 24]
 
 /// Two digits for each byte, and a blank between.
 #[derive(Clone, Copy)]
-struct BytesApart<'a>(&'a [u8]);
+pub struct BytesApart<'a>(pub &'a [u8]);
 
 impl<'a> Part for BytesApart<'a> {
     ghost use Rattle.trace_report.specs.Data.{bytes_apart};
@@ -95,7 +95,7 @@ impl<'a> Part for BytesApart<'a> {
 
 /// The bytes of a message, as far as its row shows them.
 #[derive(Clone, Copy)]
-pub(crate) struct Data<'a>(pub &'a [u8]);
+pub struct Data<'a>(pub &'a [u8]);
 
 impl<'a> Part for Data<'a> {
     ghost use Rattle.trace_report.specs.Data.{data_text};
@@ -161,13 +161,22 @@ impl<'a> Part for BriefData<'a> {
             let more = rest.len() as u64;
             say(
                 out,
-                (
-                    BytesApart(front),
-                    " and ",
-                    Number(more),
-                    Either(more == 1, " byte more", " bytes more"),
-                ),
+                (BytesApart(front), " and ", Number(more), MoreWords(more)),
             );
         }
+    }
+}
+
+/// So many bytes more, in words behind their number.
+#[derive(Clone, Copy)]
+pub struct MoreWords(pub u64);
+
+impl Part for MoreWords {
+    ghost use Rattle.trace_report.specs.Data.{more_words};
+
+    ghost text = { λ more. more_words more.0 };
+
+    fn say<S: TextSink>(self, out: &mut S) {
+        say(out, Either(self.0 == 1, " byte more", " bytes more"));
     }
 }

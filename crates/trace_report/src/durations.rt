@@ -5,7 +5,7 @@ use trace_text::{Number, Stamp, ThreeDecimals};
 
 /// The seconds from one time to another: a minus, where one is before another.
 #[derive(Clone, Copy)]
-pub(crate) struct Seconds(pub u64, pub u64);
+pub struct Seconds(pub u64, pub u64);
 
 impl Part for Seconds {
     ghost use Rattle.trace_report.specs.Durations.{seconds_between};

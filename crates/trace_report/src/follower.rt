@@ -8,16 +8,15 @@ ghost use Rattle.isotp_receive.specs.Trace.{Entry};
 ghost use Rattle.isotp_receive.specs.Verdict.{verdict};
 ghost use Rattle.trace_run.specs.Seen.{IsSeen};
 ghost use Rattle.uds_exchange.specs.Judging.{IsJudgedAfter, number_after, sent, step_after};
-ghost use Rattle.trace_canon.specs.MessageLines.{place_of};
-ghost use Rattle.trace_report.specs.Events.{closing_rows, end_rows, ended_rows, frame_rows, rows_before};
+ghost use Rattle.trace_canon.specs.FirstFrames.{place_of};
+ghost use Rattle.trace_report.specs.Events.{closing_before, closing_rows, end_rows, ended_rows, frame_rows};
 ghost use Rattle.trace_report.specs.Roles.{role_of_step as role_by};
-ghost use Rattle.trace_report.specs.Rows.{message as tells_message};
+ghost use Rattle.trace_report.specs.Rows.{message as tells_message, row_of};
 ghost use Rattle.trace_report.specs.proving.Following.{Follows, IsSilent, IsWaiting, MeetsMessage, dropped_rows, row_if, rows_in, unfinished_if};
-ghost use Rattle.trace_report.specs.proving.Pages.{row_of};
 
 use crate::places::{MessageExtent, Places};
 use crate::roles::role_of_step;
-use crate::row::{MessagePlace, Row};
+use crate::row::{MessagePlace, Missing, SentMessage, SessionRow};
 use direction::Dir;
 use isotp_receive::{Ended, Event, Pair, Verdict};
 use trace_canon::reception_starts::FramePlace;
@@ -28,9 +27,9 @@ use uds_message::is_suppressing;
 /// The rows that a frame adds, or the end of a log: three at the most, in this order.
 #[derive(Clone, Copy, Debug)]
 pub(crate) struct NewRows<'a> {
-    pub first: Option<Row<'a>>,
-    pub second: Option<Row<'a>>,
-    pub third: Option<Row<'a>>,
+    pub first: Option<SessionRow<'a>>,
+    pub second: Option<SessionRow<'a>>,
+    pub third: Option<SessionRow<'a>>,
 }
 
 /// What the rows of the frames to come depend on.
@@ -93,19 +92,19 @@ impl Follower {
         here: FramePlace,
         message: Judged<'a>,
         extent: MessageExtent,
-    ) -> (Option<Row<'a>>, Row<'a>)
+    ) -> (Option<SessionRow<'a>>, SessionRow<'a>)
         ensures places { self.new.places ≡ self.old.places }
         ensures next { (M : List Message) → IsJudgedAfter M message.entry → message.entry.item_number ≡ number_after M (sent message.entry)
             → IsWaiting M self.old.waits → IsSilent M self.old.silent
             → MeetsMessage M (sent message.entry) here self.old.asked self.new }
         ensures closing { (M : List Message) → IsJudgedAfter M message.entry → IsWaiting M self.old.waits → IsSilent M self.old.silent
-            → row_if result.0 ≡ rows_before M (step_after M (sent message.entry)) }
+            → row_if result.0 ≡ closing_before M (step_after M (sent message.entry)) }
         ensures row { (M : List Message) → IsJudgedAfter M message.entry → message.entry.item_number ≡ number_after M (sent message.entry)
             → row_of result.1 ≡ tells_message (role_by self.old.asked (step_after M (sent message.entry)) message.entry.dir message.entry.bytes.now) message.entry.dir
             (record { item = number_after M (sent message.entry); first = extent.first; last = here; frames = extent.frames }) message.entry.bytes.now }
     {
         let waiting = closing_row_of(self.waits, self.silent);
-        let row = Row::Message {
+        let sent = SentMessage {
             role: role_of_step(self.asked, message.step, message.dir, message.bytes),
             dir: message.dir,
             place: MessagePlace {
@@ -114,6 +113,9 @@ impl Follower {
                 last: here,
                 frames: extent.frames,
             },
+        };
+        let row = SessionRow::Message {
+            sent,
             message: message.bytes,
         };
         match message.step {
@@ -144,11 +146,11 @@ impl Follower {
 }
 
 /// The row that tells that the request of the open exchange has no answer, if one is open.
-fn closing_row_of<'a>(waits: Option<u64>, silent: bool) -> Option<Row<'a>>
+fn closing_row_of<'a>(waits: Option<u64>, silent: bool) -> Option<SessionRow<'a>>
     ensures { (M : List Message) → IsWaiting M waits → IsSilent M silent → row_if result ≡ closing_rows M }
 {
     let number = waits?;
-    Some(Row::NoAnswer { number, silent })
+    Some(SessionRow::Missing(Missing::NoAnswer { number, silent }))
 }
 
 /// Where a frame stands.
@@ -164,33 +166,33 @@ fn here_of(seen: Seen<'_>) -> FramePlace
 
 /// The row of a frame here, if it was dropped.
 #[inline(always)]
-fn dropped_row_of<'a>(here: FramePlace, dir: Dir, event: Event<'_>) -> Option<Row<'a>>
+fn dropped_row_of<'a>(here: FramePlace, dir: Dir, event: Event<'_>) -> Option<SessionRow<'a>>
     ensures { row_if result ≡ dropped_rows here dir (seen_event event.entry) }
 {
     match event.verdict {
-        Verdict::Dropped(reason) => Some(Row::Dropped {
+        Verdict::Dropped(reason) => Some(SessionRow::Missing(Missing::Dropped {
             place: here,
             dir,
             linked: event.ended.is_none(),
             reason,
-        }),
+        })),
         Verdict::Message(_) | Verdict::Began | Verdict::Stored | Verdict::Flow => None,
     }
 }
 
 /// The row of what a frame here ended, if it ended something.
-fn ended_row_of<'a>(here: FramePlace, ended: Option<Ended>) -> Option<Row<'a>>
+fn ended_row_of<'a>(here: FramePlace, ended: Option<Ended>) -> Option<SessionRow<'a>>
     ensures { (e : Entry) → here ≡ place_of e → row_if result ≡ ended_rows e ended }
 {
     let ended = ended?;
-    Some(Row::Ended { place: here, ended })
+    Some(SessionRow::Missing(Missing::Ended { place: here, ended }))
 }
 
 /// The row of a reception that stands at the end, if one does: the line of its first frame, and the bytes that this
 /// announced.
-fn unfinished_row_of<'a>(dir: Dir, begun: Option<(u64, u32)>) -> Option<Row<'a>>
+fn unfinished_row_of<'a>(dir: Dir, begun: Option<(u64, u32)>) -> Option<SessionRow<'a>>
     ensures { row_if result ≡ unfinished_if dir begun }
 {
     let (line, len) = begun?;
-    Some(Row::Unfinished { dir, line, len })
+    Some(SessionRow::Missing(Missing::Unfinished { dir, line, len }))
 }

@@ -30,7 +30,7 @@ impl<'a> Part for Front<'a> {
         say(
             out,
             (
-                Head(title),
+                PageHead(title),
                 Shapes,
                 Header(title),
                 (
@@ -44,9 +44,9 @@ impl<'a> Part for Front<'a> {
 
 /// The head of the page.
 #[derive(Clone, Copy)]
-struct Head<'a>(PageTitle<'a>);
+struct PageHead<'a>(PageTitle<'a>);
 
-impl<'a> Part for Head<'a> {
+impl<'a> Part for PageHead<'a> {
     ghost use Rattle.trace_report.specs.Front.{head_text};
     ghost use Rattle.trace_report.specs.proving.Pages.{title_of};
 
@@ -70,7 +70,7 @@ impl<'a> Part for Head<'a> {
 
 /// The start of a page: nothing may be fetched and nothing may run.
 #[derive(Clone, Copy)]
-pub(crate) struct PageStart;
+pub struct PageStart;
 
 impl Part for PageStart {
     ghost use Rattle.trace_report.specs.Front.{page_start};
@@ -92,7 +92,7 @@ impl Part for PageStart {
 
 /// The shapes of the arrows.
 #[derive(Clone, Copy)]
-pub(crate) struct Shapes;
+pub struct Shapes;
 
 impl Part for Shapes {
     ghost use Rattle.trace_report.specs.Front.{shapes_text};
@@ -135,10 +135,8 @@ impl<'a> Part for Header<'a> {
                 Name(title.name),
                 "</h1>\n",
                 Identifiers(title.tester, title.unit),
-                Notice(
-                    "Verdict<span class=\"plain\">, at the end of this page</span>",
-                    "Session",
-                ),
+                "<p class=\"skip\"><a href=\"#verdict\">Verdict<span class=\"plain\">, at the end of this page</span></a> <a href=\"#session\">Session</a> <a href=\"#help\">How to read this page</a></p>\n",
+                CutNotice,
             ),
         );
     }
@@ -146,7 +144,7 @@ impl<'a> Part for Header<'a> {
 
 /// The two identifiers.
 #[derive(Clone, Copy)]
-pub(crate) struct Identifiers(pub Id, pub Id);
+pub struct Identifiers(pub Id, pub Id);
 
 impl Part for Identifiers {
     ghost use Rattle.trace_report.specs.Front.{identifiers_text};
@@ -168,28 +166,20 @@ impl Part for Identifiers {
     }
 }
 
-/// The links of the page, with what the first one and the one in the middle are called, and the notice of a page that breaks off.
+/// The notice of a page that breaks off, which the style shows where the end of the page is missing; and the end of the
+/// header.
 #[derive(Clone, Copy)]
-pub(crate) struct Notice(pub &'static str, pub &'static str);
+pub struct CutNotice;
 
-impl Part for Notice {
-    ghost use Rattle.trace_report.specs.Front.{notice_with};
+impl Part for CutNotice {
+    ghost use Rattle.trace_report.specs.Front.{cut_notice};
 
-    ghost text = { λ notice. notice_with notice.0.now notice.1.now };
+    ghost text = { λ notice. cut_notice };
 
     fn say<S: TextSink>(self, out: &mut S) {
-        let Notice(verdict, middle) = self;
         say(
             out,
-            (
-                "<p class=\"skip\"><a href=\"#verdict\">",
-                verdict,
-                "</a> <a href=\"#session\">",
-                middle,
-                "</a> <a href=\"#help\">How to read this page</a></p>\n",
-                "<p id=\"cut\" role=\"status\" hidden>This page has no end. What wrote it was stopped, or the file was cut, or the page is still loading: it tells nothing of the rest of the session.</p>\n",
-                "</header>\n",
-            ),
+            "<p id=\"cut\" role=\"status\" hidden>This page has no end. What wrote it was stopped, or the file was cut, or the page is still loading: it tells nothing of the rest of the session.</p>\n</header>\n",
         );
     }
 }

@@ -25,20 +25,6 @@ impl Part for Help {
     }
 }
 
-/// The end of a page of two logs.
-#[derive(Clone, Copy)]
-pub(crate) struct PairHelp;
-
-impl Part for PairHelp {
-    ghost use Rattle.trace_report.specs.Help.{pair_help_text};
-
-    ghost text = { λ help. pair_help_text };
-
-    fn say<S: TextSink>(self, out: &mut S) {
-        say(out, (PairHelpStart, Legend, Limits, Tail));
-    }
-}
-
 /// What a page shows.
 #[derive(Clone, Copy)]
 struct HelpStart;
@@ -60,31 +46,9 @@ impl Part for HelpStart {
     }
 }
 
-/// What a page of two logs shows.
-#[derive(Clone, Copy)]
-struct PairHelpStart;
-
-impl Part for PairHelpStart {
-    ghost use Rattle.trace_report.specs.Help.{pair_help_start};
-
-    ghost text = { λ start. pair_help_start };
-
-    fn say<S: TextSink>(self, out: &mut S) {
-        say(
-            out,
-            (
-                HelpHeading,
-                "<p>A and B are the two logs. Items of one number stand side by side, or once where they are the same. Two charts show each message and each dropped frame around the first items that differ; where the difference is a byte or the end of a message, it has a mark. All other items are folded, but for the first ones behind those.</p>\n",
-                "<p>In a chart the left line is the tester, the right line the unit, and an arrow from one to the other is a message, however many frames carried it, in the order in which the messages were complete. An item has the time of its first message. ",
-                TimesWords,
-            ),
-        );
-    }
-}
-
 /// The heading.
 #[derive(Clone, Copy)]
-struct HelpHeading;
+pub struct HelpHeading;
 
 impl Part for HelpHeading {
     ghost use Rattle.trace_report.specs.Help.{help_heading};
@@ -101,7 +65,7 @@ impl Part for HelpHeading {
 
 /// Which times are told.
 #[derive(Clone, Copy)]
-struct TimesWords;
+pub struct TimesWords;
 
 impl Part for TimesWords {
     ghost use Rattle.trace_report.specs.Help.{times_words};
@@ -118,7 +82,7 @@ impl Part for TimesWords {
 
 /// What each row is.
 #[derive(Clone, Copy)]
-struct Legend;
+pub struct Legend;
 
 impl Part for Legend {
     ghost use Rattle.trace_report.specs.Help.{legend_text};
@@ -186,7 +150,7 @@ impl Part for OthersLegend {
 
 /// What a page does not show.
 #[derive(Clone, Copy)]
-struct Limits;
+pub struct Limits;
 
 impl Part for Limits {
     ghost use Rattle.trace_report.specs.Help.{limits_text};
@@ -206,7 +170,7 @@ impl Part for Limits {
 
 /// The sign that the page is whole.
 #[derive(Clone, Copy)]
-struct Tail;
+pub struct Tail;
 
 impl Part for Tail {
     ghost use Rattle.trace_report.specs.Help.{tail_text};

@@ -1,12 +1,12 @@
 //! Where the items of a session stand among its rows, noted as these come.
 ghost use Rattle.std.specs.Prelude.{◌≡◌, ◌<◌, ◌∷◌, ◌++◌, [], None, IfSome, length};
 ghost use Rattle.std.specs.Vec.{vec_capacity, vec_len};
+ghost use Rattle.trace_report.specs.Rows.{row_of};
 ghost use Rattle.trace_report.specs.proving.Keeping.{places_answered, places_by, places_next, waiting_by, waiting_next};
 ghost use Rattle.trace_report.specs.proving.Keeping as Keeping;
-ghost use Rattle.trace_report.specs.proving.Pages.{row_of};
 
 use crate::roles::MessageRole;
-use crate::row::Row;
+use crate::row::SessionRow;
 
 /// Where an item stands among the rows: the message that begins it, and its answer, if it has one.
 #[derive(Clone, Copy)]
@@ -21,7 +21,7 @@ pub(crate) fn note_row(
     items: &mut Vec<ItemPlace>,
     waiting: &mut Option<usize>,
     at: usize,
-    row: Row<'_>,
+    row: SessionRow<'_>,
 )
     requires room { vec_len items.old < vec_capacity items.old }
     requires there { IfSome waiting.old (λ number. number < length items.old.items) }
@@ -29,9 +29,8 @@ pub(crate) fn note_row(
     ensures waiting { waiting.new ≡ waiting_next (row_of row.entry) items.old.items waiting.old }
 {
     match row {
-        Row::Message { role, .. } => note_message(items, waiting, at, role),
-        Row::NoAnswer { .. } | Row::Dropped { .. } | Row::Ended { .. } | Row::Unfinished { .. } =>
-            {}
+        SessionRow::Message { sent, .. } => note_message(items, waiting, at, sent.role),
+        SessionRow::Missing(_) => {}
     }
 }
 

@@ -15,8 +15,8 @@ ghost use Rattle.trace_log.specs.declared.summary.Summary.{Summary as SummaryVal
 
 use crate::follower::{Follower, NewRows};
 use crate::kept_rows::KeptRows;
-use crate::row::Row;
-use crate::session::Session;
+use crate::row::SessionRow;
+use crate::session::KeptSession;
 use crate::times::{Times, times_with};
 use crate::two::Two;
 use isotp_receive::Pair;
@@ -74,7 +74,7 @@ pub fn keep_two<A: Source, B: Source>(
 }
 
 /// Reads a log, and answers what it says.
-fn keep<R: Source>(alloc: Global, config: &Config, reader: &mut R) -> Result<Session, Fault>
+fn keep<R: Source>(alloc: Global, config: &Config, reader: &mut R) -> Result<KeptSession, Fault>
     requires reader { HasLowCounts R.Source reader.old }
     ensures answer { (log : List ℕ) → AgreesWith R.Source reader.old reader.new log → KeepsOne MESSAGE_LIMIT config.now log result }
     ensures near { (log : List ℕ) → AgreesWith R.Source reader.old reader.new log
@@ -108,7 +108,7 @@ pub(crate) struct Heard {
 }
 
 /// What a log says of which this was heard.
-fn finished(heard: Heard) -> Result<Session, AllocError>
+fn finished(heard: Heard) -> Result<KeptSession, AllocError>
     ensures session { IfOk result (λ session. (T : List Entry) (summary : SummaryValue) → IsHeardOf T summary heard → session ≡ session_of MESSAGE_LIMIT T summary) }
     ensures refused { IfErr result (λ refused. rows_in heard.last ≢ []) }
 {
@@ -119,7 +119,7 @@ fn finished(heard: Heard) -> Result<Session, AllocError>
         times,
     } = heard;
     keep_rows(&mut rows, last)?;
-    Ok(Session::of(rows, summary, times))
+    Ok(KeptSession::of(rows, summary, times))
 }
 
 /// Keeps new rows behind those before.
@@ -135,7 +135,7 @@ fn keep_rows(rows: &mut KeptRows, new: NewRows<'_>) -> Result<(), AllocError>
 
 /// Keeps a row, if there is one.
 #[inline(always)]
-fn keep_row_if(rows: &mut KeptRows, row: Option<Row<'_>>) -> Result<(), AllocError>
+fn keep_row_if(rows: &mut KeptRows, row: Option<SessionRow<'_>>) -> Result<(), AllocError>
     ensures kept { OnOk result (rows.new ≡ rows.old ++ row_if row.entry) }
     ensures refused { IfErr result (λ refused. row_if row.entry ≢ []) }
 {

@@ -1,65 +1,33 @@
 //! The rows of a session, kept as they come, and where its items stand among them.
 ghost use Rattle.std.specs.Prelude.{◌≡◌, ◌<◌, ◌^◌, ◌∷◌, ◌++◌, [], IfOk, OnErr, OnOk, length, option_map, slice_get};
 ghost use Rattle.uds_exchange.specs.Blocks.{GoesOn};
-ghost use Rattle.trace_report.specs.Items.{items_in, message_in};
+ghost use Rattle.trace_report.specs.Items.{items_in, rows_before, item_of};
+ghost use Rattle.trace_report.specs.Rows.{row_of};
 ghost use Rattle.trace_report.specs.Sorts.{counts_in};
-ghost use Rattle.trace_report.specs.proving.Keeping.{AreLaid, IsLaid, rows_at};
+ghost use Rattle.trace_report.specs.proving.Keeping.{IsLaid, rows_at};
 ghost use Rattle.trace_report.specs.proving.Keeping as Keeping;
-ghost use Rattle.trace_report.specs.proving.Lending.{item_of, message_of};
-ghost use Rattle.trace_report.specs.proving.Pages.{row_of};
 
 use crate::counts::SortCounts;
 use crate::item_places::{ItemPlace, note_row};
-use crate::items::{PlacedItem, RowMessage};
-use crate::roles::MessageRole;
-use crate::row::{MessagePlace, Row};
+use crate::items::{PlacedItem, item_at};
+use crate::row::{Missing, SentMessage, SessionRow};
 use crate::sorts::sort_of;
-use direction::Dir;
-use isotp_receive::{Ended, Reason};
 use std::alloc::{AllocError, Global};
 use std::fmt::{self, Debug, Formatter, Write};
 use std::marker::Model;
-use trace_canon::reception_starts::FramePlace;
-use uds_exchange::Messages;
+use uds_exchange::{Messages, Span};
 
-/// A message that is kept: what a row tells of it, and where its bytes lie.
-#[derive(Clone, Copy)]
-pub(crate) struct KeptMessage {
-    pub role: MessageRole,
-    pub dir: Dir,
-    pub place: MessagePlace,
-    pub bytes: uds_exchange::Span,
-}
-
-/// A row that is kept. The variants are those of a row that is lent.
+/// A row that is kept: with the bytes of its message where they lie.
 #[derive(Clone, Copy)]
 pub(crate) enum KeptRow {
-    Message(KeptMessage),
-    NoAnswer {
-        number: u64,
-        silent: bool,
-    },
-    Dropped {
-        place: FramePlace,
-        dir: Dir,
-        linked: bool,
-        reason: Reason,
-    },
-    Ended {
-        place: FramePlace,
-        ended: Ended,
-    },
-    Unfinished {
-        dir: Dir,
-        line: u64,
-        len: u32,
-    },
+    Message { sent: SentMessage, bytes: Span },
+    Missing(Missing),
 }
 
 /// The rows of a session, seen as their list. What they tell of items and of sorts is kept as they come, and not looked
 /// for.
 #[derive(Drop)]
-pub(crate) struct KeptRows {
+pub struct KeptRows {
     messages: Messages,
     rows: Vec<KeptRow>,
     items: Vec<ItemPlace>,
@@ -96,7 +64,7 @@ impl KeptRows {
 
     /// Keeps one row more. After an `Err` they are as before.
     #[inline(always)]
-    pub(crate) fn keep(&mut self, row: Row<'_>) -> Result<(), AllocError>
+    pub(crate) fn keep(&mut self, row: SessionRow<'_>) -> Result<(), AllocError>
         ensures kept { OnOk result (self.new ≡ self.old ++ row_of row.entry ∷ []) }
         ensures refused { OnErr result (self.new ≡ self.old) }
     {
@@ -110,16 +78,26 @@ impl KeptRows {
     }
 
     /// How many rows there are.
-    pub(crate) fn len(&self) -> usize
+    pub fn len(&self) -> usize
         ensures value { result ≡ length self.now }
         ensures small { result < 2 ^ 63 }
     {
         self.rows.len()
     }
 
+    /// How many rows stand before the one with which the item of a place begins, counted from 0; all, where there is none.
+    pub fn rows_before(&self, item: usize) -> usize
+        ensures { result ≡ rows_before item self.now }
+    {
+        match self.items.get(item) {
+            Some(item) => item.begin,
+            None => self.rows.len(),
+        }
+    }
+
     /// The row at a place, counted from 0, if there is one.
     #[inline(always)]
-    pub(crate) fn row(&self, at: usize) -> Option<Row<'_>>
+    pub fn row(&self, at: usize) -> Option<SessionRow<'_>>
         ensures { option_map row_of result ≡ slice_get self.now at }
     {
         match self.rows.get(at) {
@@ -129,7 +107,7 @@ impl KeptRows {
     }
 
     /// How many items the rows tell.
-    pub(crate) fn items(&self) -> usize
+    pub fn items(&self) -> usize
         ensures value { result ≡ length (items_in self.now) }
         ensures small { result < 2 ^ 63 }
     {
@@ -138,7 +116,7 @@ impl KeptRows {
 
     /// The item at a place, counted from 0, if there is one.
     #[inline(always)]
-    pub(crate) fn item(&self, at: usize) -> Option<PlacedItem<'_>>
+    pub fn item(&self, at: usize) -> Option<PlacedItem<'_>>
         ensures { option_map item_of result ≡ slice_get (items_in self.now) at }
     {
         match self.items.get(at) {
@@ -148,7 +126,7 @@ impl KeptRows {
     }
 
     /// How many rows there are of each sort.
-    pub(crate) fn counts(&self) -> SortCounts
+    pub fn counts(&self) -> SortCounts
         ensures { result ≡ counts_in self.now }
     {
         self.counts
@@ -158,141 +136,33 @@ impl KeptRows {
 /// Lays the bytes of a row behind those that are kept, if it has bytes, and answers the row to keep. After an `Err` the
 /// bytes are as before.
 #[inline(always)]
-fn laid(messages: &mut Messages, row: Row<'_>) -> Result<KeptRow, AllocError>
+fn laid(messages: &mut Messages, row: SessionRow<'_>) -> Result<KeptRow, AllocError>
     ensures on { OnOk result (GoesOn messages.old messages.new) }
     ensures laid { IfOk result (λ kept. IsLaid messages.new kept) }
     ensures row { IfOk result (λ kept. Keeping.row_at messages.new kept ≡ row_of row.entry) }
     ensures err { OnErr result (messages.new ≡ messages.old) }
 {
     match row {
-        Row::Message {
-            role,
-            dir,
-            place,
-            message,
-        } => {
+        SessionRow::Message { sent, message } => {
             let bytes = messages.append(message)?;
-            Ok(KeptRow::Message(KeptMessage {
-                role,
-                dir,
-                place,
-                bytes,
-            }))
+            Ok(KeptRow::Message { sent, bytes })
         }
-        Row::NoAnswer { number, silent } => Ok(KeptRow::NoAnswer { number, silent }),
-        Row::Dropped {
-            place,
-            dir,
-            linked,
-            reason,
-        } => Ok(KeptRow::Dropped {
-            place,
-            dir,
-            linked,
-            reason,
-        }),
-        Row::Ended { place, ended } => Ok(KeptRow::Ended { place, ended }),
-        Row::Unfinished { dir, line, len } => Ok(KeptRow::Unfinished { dir, line, len }),
+        SessionRow::Missing(missing) => Ok(KeptRow::Missing(missing)),
     }
 }
 
 /// A row that is kept, lent.
 #[inline(always)]
-fn row_at<'a>(messages: &'a Messages, row: KeptRow) -> Row<'a>
+fn row_at<'a>(messages: &'a Messages, row: KeptRow) -> SessionRow<'a>
     requires { IsLaid messages.now row }
     ensures { row_of result ≡ Keeping.row_at messages.now row }
 {
     match row {
-        KeptRow::Message(sent) => Row::Message {
-            role: sent.role,
-            dir: sent.dir,
-            place: sent.place,
-            message: messages.message(sent.bytes),
-        },
-        KeptRow::NoAnswer { number, silent } => Row::NoAnswer { number, silent },
-        KeptRow::Dropped {
-            place,
-            dir,
-            linked,
-            reason,
-        } => Row::Dropped {
-            place,
-            dir,
-            linked,
-            reason,
-        },
-        KeptRow::Ended { place, ended } => Row::Ended { place, ended },
-        KeptRow::Unfinished { dir, line, len } => Row::Unfinished { dir, line, len },
-    }
-}
-
-/// The item that stands there among the rows, lent.
-#[inline(always)]
-fn item_at<'a>(
-    messages: &'a Messages,
-    rows: &'a [KeptRow],
-    item: ItemPlace,
-) -> Option<PlacedItem<'a>>
-    requires { AreLaid messages.now rows.now }
-    ensures { option_map item_of result ≡ Keeping.placed_at (rows_at messages.now rows.now) item }
-{
-    let begin = message_at(messages, rows, item.begin)?;
-    item_with(messages, rows, begin, item.answer)
-}
-
-/// The item that begins with this message, and whose answer stands there, if it has one.
-#[inline(always)]
-fn item_with<'a>(
-    messages: &'a Messages,
-    rows: &'a [KeptRow],
-    begin: RowMessage<'a>,
-    answer: Option<usize>,
-) -> Option<PlacedItem<'a>>
-    requires { AreLaid messages.now rows.now }
-    ensures { option_map item_of result ≡ Keeping.item_with (rows_at messages.now rows.now) (message_of begin.entry) answer }
-{
-    match answer {
-        None => Some(PlacedItem {
-            begin,
-            answer: None,
-        }),
-        Some(at) => {
-            let reply = message_at(messages, rows, at)?;
-            Some(PlacedItem {
-                begin,
-                answer: Some(reply),
-            })
-        }
-    }
-}
-
-/// The message of the row at a place, lent, if there is one.
-#[inline(always)]
-fn message_at<'a>(messages: &'a Messages, rows: &'a [KeptRow], at: usize) -> Option<RowMessage<'a>>
-    requires { AreLaid messages.now rows.now }
-    ensures { option_map message_of result ≡ Keeping.message_at (rows_at messages.now rows.now) at }
-{
-    match rows.get(at) {
-        Some(row) => message_of_row(messages, row),
-        None => None,
-    }
-}
-
-/// The message of a row, lent, if it has one.
-#[inline(always)]
-fn message_of_row<'a>(messages: &'a Messages, row: &'a KeptRow) -> Option<RowMessage<'a>>
-    requires { IsLaid messages.now row.now }
-    ensures { option_map message_of result ≡ message_in (Keeping.row_at messages.now row.now) }
-{
-    match row {
-        KeptRow::Message(sent) => Some(RowMessage {
+        KeptRow::Message { sent, bytes } => SessionRow::Message {
             sent,
-            bytes: messages.message(sent.bytes),
-        }),
-        KeptRow::NoAnswer { .. }
-        | KeptRow::Dropped { .. }
-        | KeptRow::Ended { .. }
-        | KeptRow::Unfinished { .. } => None,
+            message: messages.message(bytes),
+        },
+        KeptRow::Missing(missing) => SessionRow::Missing(missing),
     }
 }
 

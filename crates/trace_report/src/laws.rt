@@ -1,6 +1,6 @@
 //! What holds of a page, whatever log it is of. A law is its contract; a call does nothing.
 
-ghost use Rattle.trace_report.specs.Laws.{AfterIsFromTheLastFrame, AfterIsToTheFirstFrame, AgreesWithCompare, ComparisonIsOfItems, IdentifiersStandOnce, ItemsAreTheMeaning, LettersAreHarmless, LinksHaveTargets, NameIsHarmless, NegativeIsNegative, RowsAroundHaveTheItem, StyleHoldsNoTag, TimeIsOfTheLastFrame, UnansweredHasNone};
+ghost use Rattle.trace_report.specs.Laws.{AfterIsFromTheLastFrame, AfterIsToTheFirstFrame, IdentifiersStandOnce, ItemsAreTheMeaning, LettersAreHarmless, LinksHaveTargets, NameIsHarmless, NegativeIsNegative, StyleHoldsNoTag, TimeIsOfTheLastFrame};
 ghost use Rattle.trace_report.specs.Numbers.{LineNumbersArePlaces, RowNumbersArePlaces};
 
 /// The name of a log opens and closes nothing on its page.
@@ -28,11 +28,6 @@ pub fn links_have_targets()
     ensures { LinksHaveTargets }
 {}
 
-/// What the page of two sessions says of their items is so.
-pub fn comparison_is_of_items()
-    ensures { ComparisonIsOfItems }
-{}
-
 /// The items of a page are those of `list` and `compare`.
 pub fn items_are_the_meaning()
     ensures { ItemsAreTheMeaning }
@@ -44,21 +39,9 @@ pub fn numbers_are_places()
     ensures lines { LineNumbersArePlaces }
 {}
 
-/// A page says of two logs what `compare` answers.
-pub fn agrees_with_compare()
-    ensures { AgreesWithCompare }
-{}
-
-/// The chart of the first difference shows the item that differs.
-pub fn rows_around_have_the_item()
-    ensures { RowsAroundHaveTheItem }
-{}
-
-/// What a page says of answers is so: one is negative exactly where it is a negative response (ISO 14229-1), and the log
-/// that is said to have none has none.
+/// What a page says of answers is so: one is negative exactly where it is a negative response (ISO 14229-1).
 pub fn answers_are_as_told()
     ensures negative { NegativeIsNegative }
-    ensures unanswered { UnansweredHasNone }
 {}
 
 /// The time of a message is that of its last frame; how long after its request a reply came goes from the last frame of

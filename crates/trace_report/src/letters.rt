@@ -63,7 +63,7 @@ fn is_mark(byte: u8) -> bool
 }
 
 /// Whether four bytes in a row are shown as they are, without a blank.
-fn has_word(bytes: &[u8]) -> bool
+pub fn has_word(bytes: &[u8]) -> bool
     ensures { result ≡ Spec.has_word bytes.now }
 {
     let mut rest = bytes;
@@ -85,7 +85,7 @@ fn has_word(bytes: &[u8]) -> bool
 }
 
 /// What is shown for a byte among others that may be text.
-fn shown_byte(byte: u8) -> u8
+pub fn shown_byte(byte: u8) -> u8
     ensures { result ≡ Spec.shown_byte byte }
 {
     if is_mark(byte) || byte == b' ' {

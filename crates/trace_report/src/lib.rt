@@ -8,10 +8,10 @@
 //! ```
 //!
 //! [`report`] is a machine over the driver of `trace_run`. Of two logs a page says first whether they are the same: so
-//! [`keep_two`] keeps the rows of both, and [`write_pair_page`] writes the page.
+//! [`keep_two`] keeps the rows of both, for `trace_pair`, which sets them side by side and writes their page.
 //!
 //! ```text
-//! event -> Follower -> rows -> Keeper -> Session -> Two -> page
+//! event -> Follower -> rows -> Keeper -> Session -> Two
 //! ```
 //!
 //! | Part | Files | Definitions |
@@ -19,40 +19,35 @@
 //! | times and bytes, as rows show them | `durations`, `letters`, `data` | `Durations`, `Letters`, `Data` |
 //! | what a row tells | `targets`, `roles`, `row` | `Targets`, `Roles`, `Rows` |
 //! | what is counted, and where links lead | `sorts`, `tally` | `Sorts`, `Linked` |
-//! | the text of a row | `cells`, `message_rows`, `brief_rows`, `lost_rows` | `Rows`, `MessageRows`, `BriefRows`, `LostRows` |
-//! | the chart: rows one after another, in blocks that fold | `blocks`, `chart` | `Blocks`, `Chart` |
+//! | the text of a row | `cells`, `message_rows`, `message_words`, `brief_rows`, `lost_rows`, `loss_words` | `Rows`, `MessageRows`, `BriefRows`, `LostRows` |
+//! | the chart: rows one after another, in blocks that fold | `blocks`, `block_fronts`, `chart` | `Blocks`, `Chart` |
 //! | the rows of a frame, by what the frames before it were | `follower`, `places`, `frames`, `times` | `Events` |
-//! | the verdict of a log | `verdict`, `links`, `counts`, `reasons` | `Links`, `Counts`, `Verdict` |
-//! | why a log is refused | `looks`, `cause`, `refusal` | `Looks`, `Causes`, `Verdict` |
+//! | the verdict of a log | `verdict_head`, `verdict`, `links`, `counts`, `reasons` | `Links`, `Counts`, `Verdict` |
+//! | why a log is refused | `looks`, `first_bytes`, `cause`, `refusal` | `Looks`, `Causes`, `Verdict` |
 //! | what stands before the rows and behind them | `style`, `front`, `log_names`, `help` | `Style`, `Front`, `Help` |
 //! | [`report`] | `reporter` | `Page` |
 //! | the items of a session, by its rows | `kept_rows`, `item_places`, `items` | `Items` |
-//! | how two items differ | `contrast`, `marks` | `Contrast`, `Marks` |
-//! | the items of two sessions, a row for each number | `item_rows`, `pair_items` | `ItemRows`, `PairPage` |
-//! | the chart of the first difference | `difference` | `Difference` |
-//! | [`keep_two`], [`Session`], [`Two`] | `keeper`, `session`, `two` | `Session`, `Kept` |
-//! | [`write_pair_page`] | `pair_page`, `pair_verdict` | `PairPage` |
-//! | pages of logs in memory, with the counts | [`in_memory`] | `InMemory` |
+//! | [`keep_two`], [`KeptSession`], [`Two`] | `keeper`, `session`, `two` | `Session`, `Kept` |
+//! | the page of a log in memory, with the counts | [`in_memory`] | `InMemory` |
 //! | what holds of each page | [`laws`] | `Numbers`, `Laws` |
 #![tactic(auto)]
 
+mod block_fronts;
 mod blocks;
 mod brief_rows;
 mod cause;
 mod cells;
 mod chart;
-mod contrast;
 mod counts;
 mod data;
-mod difference;
 mod durations;
+mod first_bytes;
 mod follower;
 mod frames;
 mod front;
 mod help;
 pub mod in_memory;
 mod item_places;
-mod item_rows;
 mod items;
 mod keeper;
 mod kept_rows;
@@ -61,12 +56,10 @@ mod letters;
 mod links;
 mod log_names;
 mod looks;
+mod loss_words;
 mod lost_rows;
-mod marks;
 mod message_rows;
-mod pair_items;
-mod pair_page;
-mod pair_verdict;
+mod message_words;
 mod places;
 mod reasons;
 mod refusal;
@@ -81,12 +74,34 @@ mod targets;
 mod times;
 mod two;
 mod verdict;
+mod verdict_head;
 
-pub use cause::{CauseOf, CauseRow, RefusalCause, cause_of, row_of_cause};
+pub use block_fronts::ChartHead;
+pub use cause::{CauseLine, CauseOf, CauseRow, RefusalCause, cause_of, row_of_cause};
+pub use cells::{CellEnd, CellFront};
+pub use counts::{Counts, SortCounts};
+pub use data::{BytesApart, Data, MoreWords};
+pub use durations::Seconds;
+pub use first_bytes::look_told;
+pub use front::{CutNotice, Identifiers, PageStart, Shapes};
+pub use help::{HelpHeading, Legend, Limits, Tail, TimesWords};
+pub use items::{PlacedItem, RowMessage};
 pub use keeper::keep_two;
-pub use looks::{Look, look_told};
-pub use pair_page::{PairTitle, write_pair_page};
+pub use kept_rows::KeptRows;
+pub use letters::{has_word, shown_byte};
+pub use log_names::Name;
+pub use looks::Look;
+pub use loss_words::{DroppedWords, EndedWords, UnfinishedWords};
+pub use lost_rows::say_missing_row;
+pub use message_rows::{MessageFront, NamedLines};
+pub use message_words::{FurtherNote, Note, RoleWords};
+pub use reasons::UncleanReasons;
+pub use refusal::Refusal;
 pub use reporter::report;
-pub use session::Session;
+pub use roles::{MessageRole, asked_at, begins_item, is_answer_role, is_request_role};
+pub use row::{Arrow, MessagePlace, Missing, SentMessage, SessionRow};
+pub use session::KeptSession;
 pub use style::report_style;
 pub use two::Two;
+pub use verdict::{SpanOf, is_called_clean};
+pub use verdict_head::VerdictHead;

@@ -1,14 +1,63 @@
-//! The links of a report to what needs attention.
-use crate::tally::{MOST_LINKS, Targets};
-use crate::targets::Target;
+//! What needs attention, with links to it.
+ghost use Rattle.std.specs.Prelude.{◌≡◌};
+ghost use Rattle.trace_report.specs.Links as Spec;
+
+use crate::counts::SortCounts;
+use crate::tally::{MOST_LINKS, Tally, Targets};
+use crate::targets::LinkTarget;
 use direction::Dir;
 use text_parts::{Part, say};
 use trace_io::TextSink;
 use trace_text::Number;
 
+/// What needs attention, where something does, by its sort.
+#[derive(Clone, Copy)]
+pub(crate) struct Attention<'a>(pub &'a Tally);
+
+impl<'a> Part for Attention<'a> {
+    ghost use Rattle.trace_report.specs.Links.{attention_text};
+
+    ghost text = { λ attention. attention_text attention.0.now };
+
+    fn say<S: TextSink>(self, out: &mut S) {
+        let counts = &self.0.counts;
+        let first = &self.0.first;
+        if needs_no_attention(counts) {
+            return;
+        }
+        say(
+            out,
+            (
+                "<ul class=\"look\">\n",
+                (
+                    AttentionLine("dropped frames", counts.dropped, &first.dropped),
+                    AttentionLine("ended early", counts.ended, &first.ended),
+                    AttentionLine("unfinished", counts.unfinished, &first.unfinished),
+                    AttentionLine("negative answers", counts.negatives, &first.negatives),
+                    AttentionLine("without an answer", counts.unanswered, &first.unanswered),
+                    AttentionLine("strays", counts.strays, &first.strays),
+                ),
+                "</ul>\n",
+            ),
+        );
+    }
+}
+
+/// Whether nothing needs attention.
+fn needs_no_attention(counts: &SortCounts) -> bool
+    ensures { result ≡ Spec.needs_no_attention counts.now }
+{
+    counts.dropped == 0
+        && counts.ended == 0
+        && counts.unfinished == 0
+        && counts.negatives == 0
+        && counts.unanswered == 0
+        && counts.strays == 0
+}
+
 /// What needs attention for one reason, in these words, where something does: how many rows do, and links to the first.
 #[derive(Clone, Copy)]
-pub(crate) struct AttentionLine<'a>(pub &'static str, pub u64, pub &'a Targets);
+struct AttentionLine<'a>(&'static str, u64, &'a Targets);
 
 impl<'a> Part for AttentionLine<'a> {
     ghost use Rattle.trace_report.specs.Links.{attention_line};
@@ -38,7 +87,7 @@ impl<'a> Part for AttentionLine<'a> {
 
 /// Links to these places, with commas between.
 #[derive(Clone, Copy)]
-struct Links<'a>(&'a [Target]);
+struct Links<'a>(&'a [LinkTarget]);
 
 impl<'a> Part for Links<'a> {
     ghost use Rattle.trace_report.specs.Links.{links_text};
@@ -54,7 +103,7 @@ impl<'a> Part for Links<'a> {
 
 /// Links to these places, each behind another link.
 #[derive(Clone, Copy)]
-struct LinksBehind<'a>(&'a [Target]);
+struct LinksBehind<'a>(&'a [LinkTarget]);
 
 impl<'a> Part for LinksBehind<'a> {
     ghost use Rattle.trace_report.specs.Links.{links_behind};
@@ -70,7 +119,7 @@ impl<'a> Part for LinksBehind<'a> {
 
 /// A link to a place: where it leads, and how it is called.
 #[derive(Clone, Copy)]
-struct LinkTo(Target);
+struct LinkTo(LinkTarget);
 
 impl Part for LinkTo {
     ghost use Rattle.trace_report.specs.Links.{link_text};
@@ -79,16 +128,16 @@ impl Part for LinkTo {
 
     fn say<S: TextSink>(self, out: &mut S) {
         match self.0 {
-            Target::Item(number) => {
+            LinkTarget::Item(number) => {
                 let number = Number(number);
                 say(out, ("<a href=\"#i", number, "\">item ", number, "</a>"));
             }
-            Target::Line(number) => {
+            LinkTarget::Line(number) => {
                 let number = Number(number);
                 say(out, ("<a href=\"#l", number, "\">line ", number, "</a>"));
             }
-            Target::Side(Dir::Tester) => say(out, "<a href=\"#et\">of the tester</a>"),
-            Target::Side(Dir::Unit) => say(out, "<a href=\"#eu\">of the unit</a>"),
+            LinkTarget::Side(Dir::Tester) => say(out, "<a href=\"#et\">of the tester</a>"),
+            LinkTarget::Side(Dir::Unit) => say(out, "<a href=\"#eu\">of the unit</a>"),
         }
     }
 }

@@ -5,7 +5,7 @@ use trace_text::Byte;
 
 /// The name of a log.
 #[derive(Clone, Copy)]
-pub(crate) struct Name<'a>(pub &'a [u8]);
+pub struct Name<'a>(pub &'a [u8]);
 
 impl<'a> Part for Name<'a> {
     ghost use Rattle.trace_report.specs.Front.{name_text};

@@ -1,19 +1,50 @@
 //! The rows of a report that tell what is missing: answers, frames, and messages that are not whole.
-ghost use Rattle.trace_report.specs.LostRows.{dropped_row, ended_row, layout_fault_words, no_answer_row, unfinished_row};
+ghost use Rattle.trace_report.specs.LostRows.{dropped_row, ended_row, missing_row, no_answer_row, unfinished_row};
 
 use crate::cells::{CellEnd, CellFront, Side};
 use crate::durations::Seconds;
-use crate::row::Arrow;
+use crate::loss_words::{DroppedWords, EndedWords, UnfinishedWords};
+use crate::row::{Arrow, Missing};
 use direction::Dir;
-use isotp_pdu::PduFault;
-use isotp_receive::{Cause, Ended, MESSAGE_LIMIT, Reason};
+use isotp_receive::{Ended, Reason};
 use text_parts::{Part, When, say};
 use trace_canon::reception_starts::FramePlace;
 use trace_io::TextSink;
-use trace_text::{DropReason, EndCause, Length, Number, Sender};
+use trace_text::Number;
+
+/// Says the row of what is missing, to which links lead or not. To that of a dropped frame they lead only where it says so.
+pub fn say_missing_row<S: TextSink>(linked: bool, origin: u64, missing: Missing, out: &mut S)
+    ensures { S.says out.old (missing_row linked origin missing) out.new }
+{
+    match missing {
+        Missing::NoAnswer { number, silent } => say_no_answer_row(number, silent, out),
+        Missing::Dropped {
+            place,
+            dir,
+            linked: own,
+            reason,
+        } => {
+            let front = FrameFront {
+                linked: linked && own,
+                origin,
+                place,
+            };
+            say_dropped_row(front, dir, reason, out);
+        }
+        Missing::Ended { place, ended } => {
+            let front = FrameFront {
+                linked,
+                origin,
+                place,
+            };
+            say_ended_row(front, ended, out);
+        }
+        Missing::Unfinished { dir, line, len } => say_unfinished_row(linked, dir, line, len, out),
+    }
+}
 
 /// Says the row of an item without an answer: it asked for no positive one, or did not.
-pub(crate) fn say_no_answer_row<S: TextSink>(number: u64, silent: bool, out: &mut S)
+fn say_no_answer_row<S: TextSink>(number: u64, silent: bool, out: &mut S)
     ensures { S.says out.old (no_answer_row number silent) out.new }
 {
     let number = Number(number);
@@ -82,194 +113,38 @@ impl Part for FrameFront {
     }
 }
 
-/// Says the row of a frame that was dropped, to which links lead or not.
-pub(crate) fn say_dropped_row<S: TextSink>(
-    linked: bool,
-    origin: u64,
-    place: FramePlace,
-    dir: Dir,
-    reason: Reason,
-    out: &mut S,
-)
-    ensures { S.says out.old (dropped_row linked origin place dir reason) out.new }
+/// Says the row of a frame that was dropped.
+fn say_dropped_row<S: TextSink>(front: FrameFront, dir: Dir, reason: Reason, out: &mut S)
+    ensures { S.says out.old (dropped_row front.linked front.origin front.place dir reason) out.new }
 {
     say(
         out,
         (
-            FrameFront {
-                linked,
-                origin,
-                place,
-            },
+            front,
             CellFront(dir),
-            "<b>dropped</b> <i>",
-            Sender(dir),
-            " frame:</i> <em>",
-            DropReason(reason),
-            "</em>",
-            WhyDroppedInWords(reason),
+            DroppedWords(dir, reason),
             CellEnd(dir, Arrow::Crossed),
         ),
     );
 }
 
-/// Why a frame was dropped, for a reader who knows no ISO 15765-2.
-#[derive(Clone, Copy)]
-struct WhyDroppedInWords(Reason);
-
-impl Part for WhyDroppedInWords {
-    ghost use Rattle.trace_report.specs.LostRows.{reason_words};
-
-    ghost text = { λ why. reason_words why.0 };
-
-    fn say<S: TextSink>(self, out: &mut S) {
-        match self.0 {
-            Reason::Pdu(fault) => say_layout_fault_words(fault, out),
-            Reason::FlowUnexpected => say(
-                out,
-                " <i>the other side was sending nothing that it could be for</i>",
-            ),
-            Reason::NextUnexpected => say(
-                out,
-                " <i>no message was under way that it goes on with</i>",
-            ),
-            Reason::NextLate | Reason::NextSequence { .. } | Reason::NextLength => {}
-            Reason::TooLong { .. } => say(
-                out,
-                (" <i>more than the limit of ", Length(MESSAGE_LIMIT), "</i>"),
-            ),
-        }
-    }
-}
-
-/// Says why a frame has no layout, for a reader who knows no ISO 15765-2.
-fn say_layout_fault_words<S: TextSink>(fault: PduFault, out: &mut S)
-    ensures { S.says out.old (layout_fault_words fault) out.new }
+/// Says the row of a frame that ended a reception.
+fn say_ended_row<S: TextSink>(front: FrameFront, ended: Ended, out: &mut S)
+    ensures { S.says out.old (ended_row front.linked front.origin front.place ended) out.new }
 {
-    match fault {
-        PduFault::Remote => say(out, " <i>it carries no data</i>"),
-        PduFault::FrameLength => say(out, " <i>no CAN frame has this many bytes</i>"),
-        PduFault::Empty => say(out, " <i>it has no byte</i>"),
-        PduFault::UnknownKind => {
-            say(out, " <i>its first byte is of no kind of ISO-TP frame</i>");
-        }
-        PduFault::SingleLength => {
-            say(
-                out,
-                " <i>its length does not fit the length that it tells</i>",
-            );
-        }
-        PduFault::FirstLength => {
-            say(
-                out,
-                " <i>its length, or the one that it announces, is that of no first frame</i>",
-            );
-        }
-        PduFault::FlowShort => say(out, " <i>it has fewer than 3 bytes</i>"),
-        PduFault::FlowStatus => {
-            say(
-                out,
-                " <i>its status is none of continue, wait and overflow</i>",
-            );
-        }
-    }
-}
-
-/// A message that is not whole: where it began, and how many bytes were announced.
-#[derive(Clone, Copy)]
-struct PartOfMessage {
-    dir: Dir,
-    line: u64,
-    len: u32,
-}
-
-impl Part for PartOfMessage {
-    ghost use Rattle.trace_report.specs.LostRows.{partial_text};
-
-    ghost text = { λ part. partial_text part.dir part.line part.len };
-
-    fn say<S: TextSink>(self, out: &mut S) {
-        say(
-            out,
-            (
-                Sender(self.dir),
-                " message from line ",
-                Number(self.line),
-                ", ",
-                Length(self.len),
-                " bytes announced:",
-            ),
-        );
-    }
-}
-
-/// Says the row of a frame that ended a reception, to which links lead or not.
-pub(crate) fn say_ended_row<S: TextSink>(
-    linked: bool,
-    origin: u64,
-    place: FramePlace,
-    ended: Ended,
-    out: &mut S,
-)
-    ensures { S.says out.old (ended_row linked origin place ended) out.new }
-{
-    let part = PartOfMessage {
-        dir: ended.dir,
-        line: ended.begun_line,
-        len: ended.len,
-    };
     say(
         out,
         (
-            FrameFront {
-                linked,
-                origin,
-                place,
-            },
+            front,
             CellFront(ended.dir),
-            "<b>ended</b> <i>",
-            part,
-            "</i> <em>",
-            EndCause(ended.cause),
-            "</em> <i>",
-            WhyEndedInWords(ended.cause),
-            "</i>",
+            EndedWords(ended),
             CellEnd(ended.dir, Arrow::Barred),
         ),
     );
 }
 
-/// Why a reception ended, for a reader who knows no ISO 15765-2.
-#[derive(Clone, Copy)]
-struct WhyEndedInWords(Cause);
-
-impl Part for WhyEndedInWords {
-    ghost use Rattle.trace_report.specs.LostRows.{cause_words};
-
-    ghost text = { λ why. cause_words why.0 };
-
-    fn say<S: TextSink>(self, out: &mut S) {
-        match self.0 {
-            Cause::NewStart => say(
-                out,
-                "another message of this side began before its last frame",
-            ),
-            Cause::Overflow => say(out, "the other side said that it has no room"),
-            Cause::Late => say(out, "its next frame came after more than 1 s"),
-            Cause::Sequence => say(out, "a frame is missing, came twice or out of order"),
-            Cause::Length => say(out, "a frame has another length than its first one"),
-        }
-    }
-}
-
 /// Says the row of a reception that stands at the end, to which links lead or not.
-pub(crate) fn say_unfinished_row<S: TextSink>(
-    linked: bool,
-    dir: Dir,
-    line: u64,
-    len: u32,
-    out: &mut S,
-)
+fn say_unfinished_row<S: TextSink>(linked: bool, dir: Dir, line: u64, len: u32, out: &mut S)
     ensures { S.says out.old (unfinished_row linked dir line len) out.new }
 {
     say(
@@ -279,9 +154,7 @@ pub(crate) fn say_unfinished_row<S: TextSink>(
             When(linked, (" id=\"e", Side(dir), "\"")),
             "><td><td><td>",
             CellFront(dir),
-            "<b>unfinished</b> <i>",
-            PartOfMessage { dir, line, len },
-            " the log ends before its last frame</i>",
+            UnfinishedWords(dir, line, len),
             CellEnd(dir, Arrow::Barred),
         ),
     );

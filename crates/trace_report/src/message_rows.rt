@@ -3,26 +3,24 @@ ghost use Rattle.trace_report.specs.MessageRows.{message_row};
 
 use crate::cells::{CellEnd, CellFront};
 use crate::data::Data;
-use crate::durations::{Milliseconds, Seconds};
-use crate::roles::{MessageRole, asked_at, begins_item};
-use crate::row::{Arrow, MessagePlace};
-use direction::Dir;
+use crate::durations::Seconds;
+use crate::message_words::{Note, RoleWords};
+use crate::roles::{MessageRole, begins_item};
+use crate::row::{Arrow, MessagePlace, SentMessage};
 use text_parts::{Either, Part, say};
 use trace_io::TextSink;
-use trace_text::{Number, ResponseCode, Sender, Service};
-use uds_message::{response_code, sid};
+use trace_text::Number;
 
 /// Says the row of a message, in a page whose first frame has the time `origin`.
 pub(crate) fn say_message_row<S: TextSink>(
     origin: u64,
-    role: MessageRole,
-    dir: Dir,
-    place: MessagePlace,
+    sent: SentMessage,
     message: &[u8],
     out: &mut S,
 )
-    ensures { S.says out.old (message_row origin role dir place message.now) out.new }
+    ensures { S.says out.old (message_row origin sent.role sent.dir sent.place message.now) out.new }
 {
+    let SentMessage { role, dir, place } = sent;
     say(
         out,
         (
@@ -43,7 +41,7 @@ pub(crate) fn say_message_row<S: TextSink>(
 
 /// Where a message stands, as a row to which links lead or not.
 #[derive(Clone, Copy)]
-pub(crate) struct MessageFront {
+pub struct MessageFront {
     pub linked: bool,
     pub origin: u64,
     pub role: MessageRole,
@@ -155,7 +153,7 @@ impl Part for Lines {
 
 /// The lines of the log from one to another, behind the word line or lines.
 #[derive(Clone, Copy)]
-pub(crate) struct NamedLines(pub u64, pub u64);
+pub struct NamedLines(pub u64, pub u64);
 
 impl Part for NamedLines {
     ghost use Rattle.trace_report.specs.MessageRows.{named_lines};
@@ -164,108 +162,7 @@ impl Part for NamedLines {
 
     fn say<S: TextSink>(self, out: &mut S) {
         let NamedLines(first, last) = self;
-        let several = (Number(first), "&#8211;", Number(last));
-        if first == last {
-            say(out, ("line ", Number(first)));
-        } else {
-            say(out, ("lines ", several));
-        }
-    }
-}
-
-/// What a message is to its item.
-#[derive(Clone, Copy)]
-pub(crate) struct RoleWords<'a>(pub MessageRole, pub Dir, pub &'a [u8]);
-
-impl<'a> Part for RoleWords<'a> {
-    ghost use Rattle.trace_report.specs.MessageRows.{role_words};
-
-    ghost text = { λ words. role_words words.0 words.1 words.2.now };
-
-    fn say<S: TextSink>(self, out: &mut S) {
-        let RoleWords(role, dir, message) = self;
-        match role {
-            MessageRole::Request => say(
-                out,
-                ("<b>", Service(sid(message)), "</b> <i>request</i> "),
-            ),
-            MessageRole::Positive { .. } => say(out, "<b>positive</b> "),
-            MessageRole::Negative { .. } => say(
-                out,
-                (
-                    "<b>negative</b> <em>",
-                    ResponseCode(response_code(message)),
-                    "</em> ",
-                ),
-            ),
-            MessageRole::Pending { .. } => say(out, "<b>pending</b> "),
-            MessageRole::KeepAlive => say(out, "<b>keep-alive</b> "),
-            MessageRole::Stray => say(out, ("<b>stray</b> <i>from the ", Sender(dir), "</i> ")),
-        }
-    }
-}
-
-/// The note on a message of so many bytes: how many frames carry them, and how long after its request the first of them
-/// came, if it replies to one.
-#[derive(Clone, Copy)]
-pub(crate) struct Note(pub MessageRole, pub MessagePlace, pub u64);
-
-impl Part for Note {
-    ghost use Rattle.trace_report.specs.MessageRows.{note_text};
-
-    ghost text = { λ note. note_text note.0 note.1 note.2 };
-
-    fn say<S: TextSink>(self, out: &mut S) {
-        let Note(role, place, count) = self;
-        let asked = asked_at(role);
-        let first = place.first.micros;
-        if place.frames > 1 {
-            say(
-                out,
-                (
-                    "<br><i>",
-                    Number(count),
-                    " bytes in ",
-                    Number(place.frames),
-                    " frames",
-                    FurtherNote(asked, first),
-                    "</i>",
-                ),
-            );
-        } else if let Some(asked) = asked {
-            say(out, (" <i>", After(asked, first), "</i>"));
-        }
-    }
-}
-
-/// How long after its request a message began, behind another note, if it replies to one.
-#[derive(Clone, Copy)]
-pub(crate) struct FurtherNote(pub Option<u64>, pub u64);
-
-impl Part for FurtherNote {
-    ghost use Rattle.trace_report.specs.MessageRows.{further_note};
-
-    ghost text = { λ note. further_note note.0 note.1 };
-
-    fn say<S: TextSink>(self, out: &mut S) {
-        let FurtherNote(asked, first) = self;
-        if let Some(asked) = asked {
-            say(out, (", ", After(asked, first)));
-        }
-    }
-}
-
-/// How long after a request a frame came.
-#[derive(Clone, Copy)]
-pub(crate) struct After(pub u64, pub u64);
-
-impl Part for After {
-    ghost use Rattle.trace_report.specs.MessageRows.{after_text};
-
-    ghost text = { λ after. after_text after.0 after.1 };
-
-    fn say<S: TextSink>(self, out: &mut S) {
-        let After(asked, first) = self;
-        say(out, ("after ", Milliseconds(asked, first)));
+        let word = Either(first == last, "line ", "lines ");
+        say(out, (word, Lines(first, last)));
     }
 }

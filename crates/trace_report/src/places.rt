@@ -4,8 +4,7 @@ ghost use Rattle.isotp_receive.specs.declared.TheConstants.{MESSAGE_LIMIT};
 ghost use Rattle.isotp_receive.specs.StandingReception.{stands};
 ghost use Rattle.isotp_receive.specs.Trace.{Entry, role};
 ghost use Rattle.trace_run.specs.Seen.{IsEventOf};
-ghost use Rattle.trace_canon.specs.MemoryNeeded.{CompletesMessage};
-ghost use Rattle.trace_canon.specs.MessageLines.{first_frame, place_of};
+ghost use Rattle.trace_canon.specs.FirstFrames.{CompletesMessage, first_frame, place_of};
 ghost use Rattle.trace_report.specs.Events.{frames_by};
 ghost use Rattle.trace_report.specs.proving.Following.{KnowsPlaces};
 

@@ -10,7 +10,7 @@ use trace_text::Number;
 /// Each reason why a recording is not called clean: of one that is not clean what `--strict` tells of it; and what that means for
 /// the messages.
 #[derive(Clone, Copy)]
-pub(crate) struct UncleanReasons<'a>(pub &'a Summary);
+pub struct UncleanReasons<'a>(pub &'a Summary);
 
 impl<'a> Part for UncleanReasons<'a> {
     ghost use Rattle.trace_report.specs.Verdict.{unclean_reasons};
@@ -31,7 +31,7 @@ impl<'a> Part for UncleanReasons<'a> {
 
 /// What was lost of the frames of a recording, and what it lacks, in the words that `--strict` tells it.
 #[derive(Clone, Copy)]
-struct StrictWords<'a>(&'a Summary);
+struct StrictWords<'a>(pub &'a Summary);
 
 impl<'a> Part for StrictWords<'a> {
     ghost use Rattle.trace_report.specs.Verdict.{strict_words};

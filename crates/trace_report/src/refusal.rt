@@ -1,5 +1,6 @@
 //! Why a log is refused.
 use crate::cause::{CauseLine, RefusalCause};
+use crate::verdict_head::VerdictHead;
 use text_parts::{Part, say};
 use trace_io::TextSink;
 use trace_log::Fault;
@@ -39,7 +40,8 @@ impl Part for RefusedHeading {
         say(
             out,
             (
-                "<section id=\"verdict\" class=\"bad\">\n<h2><span aria-hidden=\"true\">&#10005;</span> The log is refused</h2>\n<p><em>",
+                VerdictHead("bad", "&#10005;"),
+                "The log is refused</h2>\n<p><em>",
                 Refusal(self.0),
                 ".</em> Below is what the lines before that say; what comes after it is not read, and the counts are of the lines before.</p>\n",
                 CauseLine(self.1),
@@ -50,7 +52,7 @@ impl Part for RefusedHeading {
 
 /// Why a log is refused, as the program tells it.
 #[derive(Clone, Copy)]
-pub(crate) struct Refusal(pub Fault);
+pub struct Refusal(pub Fault);
 
 impl Part for Refusal {
     ghost use Rattle.trace_report.specs.Verdict.{refusal_words};

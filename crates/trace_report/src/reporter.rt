@@ -1,24 +1,25 @@
 //! `report`: a machine that says a session as a page, each row as its frame comes.
-ghost use Rattle.std.specs.Prelude.{◌≡◌, List, [], ◌∷◌, ◌++◌, Option};
+ghost use Rattle.std.specs.Prelude.{◌≡◌, List};
 ghost use Rattle.isotp_receive.specs.declared.TheConstants.{MESSAGE_LIMIT};
 ghost use Rattle.isotp_receive.specs.Trace.{Entry};
 ghost use Rattle.trace_run.specs.Script.{answers_counts, command, glimpse_of, needs_none};
 ghost use Rattle.trace_run.specs.Ran.{RanLenient};
 ghost use Rattle.trace_io.specs.Counted.{IsLowCount};
 ghost use Rattle.trace_report.specs.Front.{page_title};
-ghost use Rattle.trace_report.specs.Page.{first_time, front_before, refused_text, report_script};
+ghost use Rattle.trace_report.specs.Page.{front_before, refused_text, report_script};
 ghost use Rattle.trace_report.specs.proving.Following.{times_of};
 ghost use Rattle.trace_report.specs.proving.Pages.{title_of};
 ghost use Rattle.trace_log.specs.Devices.{HasLowCounts};
 
-use crate::blocks::{BlockEnd, Blocks};
+use crate::block_fronts::BlockEnd;
+use crate::blocks::Blocks;
 use crate::cause::{RefusalCause, cause_of};
 use crate::chart::Chart;
 use crate::follower::Follower;
 use crate::front::{Front, PageTitle};
 use crate::help::Help;
 use crate::refusal::StopLine;
-use crate::times::Times;
+use crate::times::{Times, first_of, times_with};
 use crate::verdict::{Findings, RefusedVerdict, VerdictSection};
 use isotp_receive::Pair;
 use std::alloc::{AllocError, Global};
@@ -100,13 +101,11 @@ impl<'a> Machine for Reporter<'a> {
 
     #[inline(always)]
     fn event<S: TextSink>(&mut self, seen: Seen<'_>, out: &mut S) -> Result<(), AllocError> {
-        let origin = say_front_before(&self.title, self.times, seen.micros, out);
-        self.times = Some(Times {
-            first: origin,
-            last: seen.micros,
-        });
+        say_front_before(&self.title, self.times, out);
+        let times = times_with(self.times, seen.micros);
+        self.times = Some(times);
         let rows = self.follower.take(seen);
-        self.chart.say_rows(origin, rows, out);
+        self.chart.say_rows(times.first, rows, out);
         Ok(())
     }
 
@@ -122,8 +121,8 @@ impl<'a> Machine for Reporter<'a> {
             follower,
             mut chart,
         } = self;
-        let origin = say_front_before(&title, times, 0, out);
-        chart.say_rows(origin, follower.end(pair), out);
+        say_front_before(&title, times, out);
+        chart.say_rows(first_of(times), follower.end(pair), out);
         let closing = PageEnd {
             blocks: chart.blocks,
             found: Findings {
@@ -149,7 +148,7 @@ impl<'a> Machine for Reporter<'a> {
             follower: _,
             chart,
         } = self;
-        say_front_before(&title, times, 0, out);
+        say_front_before(&title, times, out);
         let closing = RefusedEnd {
             why,
             cause: cause_of(why, title.most, glimpse),
@@ -164,23 +163,12 @@ impl<'a> Machine for Reporter<'a> {
     }
 }
 
-/// Says the front of the page, where no frame came before. Answers the time of the first frame, which is this where none did.
-fn say_front_before<S: TextSink>(
-    title: &PageTitle<'_>,
-    times: Option<Times>,
-    micros: u64,
-    out: &mut S,
-) -> u64
-    ensures says { (T : List Entry) → times ≡ times_of T → S.says out.old (front_before (title_of title.now) T) out.new }
-    ensures origin { (T : List Entry) (e : Entry) → times ≡ times_of T → e.micros ≡ micros → result ≡ first_time (T ++ e ∷ []) }
-    ensures first { (T : List Entry) → times ≡ times_of T → micros ≡ 0 → result ≡ first_time T }
+/// Says the front of the page, where no frame came before.
+fn say_front_before<S: TextSink>(title: &PageTitle<'_>, times: Option<Times>, out: &mut S)
+    ensures { (T : List Entry) → times ≡ times_of T → S.says out.old (front_before (title_of title.now) T) out.new }
 {
-    match times {
-        Some(times) => times.first,
-        None => {
-            say(out, Front(*title));
-            micros
-        }
+    if times.is_none() {
+        say(out, Front(*title));
     }
 }
 

@@ -8,7 +8,7 @@ use uds_message::{TesterKind, is_negative_response, tester_kind};
 
 /// What a message is to its item. A reply has the time of the last frame of its request.
 #[derive(Clone, Copy, Debug)]
-pub(crate) enum MessageRole {
+pub enum MessageRole {
     Request,
     Positive { asked: u64 },
     Negative { asked: u64 },
@@ -61,7 +61,7 @@ fn other_tester_role(message: &[u8]) -> MessageRole
 }
 
 /// Whether a message is a request, with which an exchange begins.
-pub(crate) fn is_request_role(role: MessageRole) -> bool
+pub fn is_request_role(role: MessageRole) -> bool
     ensures { result ≡ Spec.is_request_role role }
 {
     match role {
@@ -75,7 +75,7 @@ pub(crate) fn is_request_role(role: MessageRole) -> bool
 }
 
 /// Whether a message answers a request.
-pub(crate) fn is_answer_role(role: MessageRole) -> bool
+pub fn is_answer_role(role: MessageRole) -> bool
     ensures { result ≡ Spec.is_answer_role role }
 {
     match role {
@@ -88,7 +88,7 @@ pub(crate) fn is_answer_role(role: MessageRole) -> bool
 }
 
 /// Whether a message begins an item.
-pub(crate) fn begins_item(role: MessageRole) -> bool
+pub fn begins_item(role: MessageRole) -> bool
     ensures { result ≡ Spec.begins_item role }
 {
     match role {
@@ -99,7 +99,7 @@ pub(crate) fn begins_item(role: MessageRole) -> bool
 }
 
 /// When the last frame of the request came to which a message replies, if it replies to one.
-pub(crate) fn asked_at(role: MessageRole) -> Option<u64>
+pub fn asked_at(role: MessageRole) -> Option<u64>
     ensures { result ≡ Spec.asked_at role }
 {
     match role {

@@ -7,7 +7,7 @@ use trace_canon::reception_starts::FramePlace;
 
 /// Where a message stands: its item, its first frame and its last one, and how many carry its bytes.
 #[derive(Clone, Copy, Debug)]
-pub(crate) struct MessagePlace {
+pub struct MessagePlace {
     pub item: u64,
     pub first: FramePlace,
     pub last: FramePlace,
@@ -16,7 +16,7 @@ pub(crate) struct MessagePlace {
 
 /// How an arrow of the chart ends.
 #[derive(Clone, Copy, Debug)]
-pub(crate) enum Arrow {
+pub enum Arrow {
     /// In a head: a message.
     Headed,
     /// In a cross: a frame that was dropped.
@@ -25,16 +25,29 @@ pub(crate) enum Arrow {
     Barred,
 }
 
+/// What a row tells of a message, beside its bytes: what it is to its item, which side sent it, and where it stands.
+#[derive(Clone, Copy, Debug)]
+pub struct SentMessage {
+    pub role: MessageRole,
+    pub dir: Dir,
+    pub place: MessagePlace,
+}
+
 /// What a row tells.
 #[derive(Clone, Copy, Debug)]
-pub(crate) enum Row<'a> {
-    /// A message, which this side sent.
+pub enum SessionRow<'a> {
+    /// A message with these bytes.
     Message {
-        role: MessageRole,
-        dir: Dir,
-        place: MessagePlace,
+        sent: SentMessage,
         message: &'a [u8],
     },
+    /// What is missing.
+    Missing(Missing),
+}
+
+/// What a row tells that is missing: an answer, a frame, or the rest of a message.
+#[derive(Clone, Copy, Debug)]
+pub enum Missing {
     /// The item of this number has no answer. Its request asked for no positive one, or did not.
     NoAnswer {
         number: u64,

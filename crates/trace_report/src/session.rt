@@ -9,13 +9,13 @@ use trace_log::Summary;
 
 /// What a log says, kept. Contracts see its rows, its counts, and the times of its first frame and its last one.
 #[derive(Debug, Drop)]
-pub struct Session {
+pub struct KeptSession {
     rows: KeptRows,
     summary: Summary,
     times: Option<Times>,
 }
 
-impl Model for Session {
+impl Model for KeptSession {
     ghost use Rattle.trace_report.specs.Session.{SessionValue};
     ghost use Rattle.trace_report.specs.proving.Lending.{first_of_times, last_of_times};
 
@@ -24,15 +24,15 @@ impl Model for Session {
     ghost view = { λ s. record { rows = s.rows; summary = s.summary; first = first_of_times s.times; last = last_of_times s.times } };
 }
 
-impl Session {
+impl KeptSession {
     /// What is kept of a log: its rows, its counts, and the times of its first frame and its last one, if it has frames.
-    pub(crate) fn of(rows: KeptRows, summary: Summary, times: Option<Times>) -> Session
+    pub(crate) fn of(rows: KeptRows, summary: Summary, times: Option<Times>) -> KeptSession
         ensures rows { result.rows ≡ rows }
         ensures summary { result.summary ≡ summary }
         ensures first { result.first ≡ first_of_times times }
         ensures last { result.last ≡ last_of_times times }
     {
-        Session {
+        KeptSession {
             rows,
             summary,
             times,
@@ -40,7 +40,7 @@ impl Session {
     }
 
     /// The rows of the session.
-    pub(crate) fn rows(&self) -> &KeptRows
+    pub fn rows(&self) -> &KeptRows
         ensures { result.now ≡ self.now.rows }
     {
         &self.rows
@@ -54,14 +54,14 @@ impl Session {
     }
 
     /// The time of its first frame; 0 where it has none.
-    pub(crate) fn first(&self) -> u64
+    pub fn first(&self) -> u64
         ensures { result ≡ self.now.first }
     {
         first_of(self.times)
     }
 
     /// The time of its last frame; 0 where it has none.
-    pub(crate) fn last(&self) -> u64
+    pub fn last(&self) -> u64
         ensures { result ≡ self.now.last }
     {
         last_of(self.times)

@@ -1,11 +1,11 @@
 //! The sorts of a report's rows: what is counted, and where links lead.
 ghost use Rattle.std.specs.Prelude.{◌≡◌};
 ghost use Rattle.trace_report.specs.Sorts as Spec;
-ghost use Rattle.trace_report.specs.proving.Pages.{row_of};
+ghost use Rattle.trace_report.specs.Rows.{missing_of, row_of};
 
 use crate::roles::MessageRole;
-use crate::row::Row;
-use crate::targets::Target;
+use crate::row::{Missing, SessionRow};
+use crate::targets::LinkTarget;
 
 /// What needs attention, and what else is counted.
 #[derive(Clone, Copy, Debug)]
@@ -24,15 +24,24 @@ pub(crate) enum Sort {
 }
 
 /// The sort of a row.
-pub(crate) fn sort_of(row: Row<'_>) -> Sort
+pub(crate) fn sort_of(row: SessionRow<'_>) -> Sort
     ensures { result ≡ Spec.sort_of (row_of row.entry) }
 {
     match row {
-        Row::Message { role, .. } => sort_of_role(role),
-        Row::NoAnswer { silent, .. } => sort_of_silence(silent),
-        Row::Dropped { .. } => Sort::Dropped,
-        Row::Ended { .. } => Sort::Ended,
-        Row::Unfinished { .. } => Sort::Unfinished,
+        SessionRow::Message { sent, .. } => sort_of_role(sent.role),
+        SessionRow::Missing(missing) => sort_of_missing(missing),
+    }
+}
+
+/// The sort of the row of what is missing.
+fn sort_of_missing(missing: Missing) -> Sort
+    ensures { result ≡ Spec.sort_of (missing_of missing) }
+{
+    match missing {
+        Missing::NoAnswer { silent, .. } => sort_of_silence(silent),
+        Missing::Dropped { .. } => Sort::Dropped,
+        Missing::Ended { .. } => Sort::Ended,
+        Missing::Unfinished { .. } => Sort::Unfinished,
     }
 }
 
@@ -87,14 +96,23 @@ fn sort_of_silence(silent: bool) -> Sort
 }
 
 /// Where a link to a row leads: to its item or to its line, or to what stands of its side.
-pub(crate) fn target_of(row: Row<'_>) -> Target
+pub(crate) fn target_of(row: SessionRow<'_>) -> LinkTarget
     ensures { result ≡ Spec.target_of (row_of row.entry) }
 {
     match row {
-        Row::Message { place, .. } => Target::Item(place.item),
-        Row::NoAnswer { number, .. } => Target::Item(number),
-        Row::Dropped { place, .. } => Target::Line(place.line),
-        Row::Ended { place, .. } => Target::Line(place.line),
-        Row::Unfinished { dir, .. } => Target::Side(dir),
+        SessionRow::Message { sent, .. } => LinkTarget::Item(sent.place.item),
+        SessionRow::Missing(missing) => target_of_missing(missing),
+    }
+}
+
+/// Where links to the row of what is missing lead.
+fn target_of_missing(missing: Missing) -> LinkTarget
+    ensures { result ≡ Spec.target_of (missing_of missing) }
+{
+    match missing {
+        Missing::NoAnswer { number, .. } => LinkTarget::Item(number),
+        Missing::Dropped { place, .. } => LinkTarget::Line(place.line),
+        Missing::Ended { place, .. } => LinkTarget::Line(place.line),
+        Missing::Unfinished { dir, .. } => LinkTarget::Side(dir),
     }
 }

@@ -2,7 +2,7 @@
 ghost use Rattle.std.specs.Prelude.{◌≡◌};
 ghost use Rattle.trace_report.specs.Style.{page_style};
 
-/// The style of all pages.
+/// The rules of the style.
 const STYLE: &str = "\
 :root { color-scheme: light dark; --bg: #fff; --soft: #f4f6f8; --ink: #181b20; --dim: #59616d; --rule: #d8dde3; --t: #1757b0; --u: #0d6a3a; --bad: #b3231b; --warn: #8a5700; --badbg: #fdecea; --warnbg: #fdf3df; --goodbg: #e6f5ec; }
 @media (prefers-color-scheme: dark) { :root { --bg: #15181d; --soft: #1e2228; --ink: #e7e9ec; --dim: #a3abb6; --rule: #373e48; --t: #7fb3ff; --u: #6ed29b; --bad: #ff9b92; --warn: #f2bd60; --badbg: #3a1f1d; --warnbg: #372a12; --goodbg: #173025; } }
@@ -19,7 +19,6 @@ h1 { font-size: 1.5rem; line-height: 1.2; margin: 0; overflow-wrap: anywhere; } 
 a { color: inherit; text-underline-offset: .15em; } a:focus-visible, summary:focus-visible, input:focus-visible { outline: 2px solid var(--t); outline-offset: 2px; }
 code, samp { font: .8125rem/1.5 ui-monospace, \"DejaVu Sans Mono\", Menlo, Consolas, monospace; } samp { color: var(--dim); overflow-wrap: anywhere; }
 i { font-style: normal; color: var(--dim); font-size: .8125rem; } em { font-style: normal; font-weight: 600; overflow-wrap: anywhere; }
-mark { background: #ffd84d; color: #181b20; outline: 2px solid var(--ink); font-weight: 700; }
 #cut { margin: .8rem 0 0; padding: .6rem .9rem; border: 2px solid var(--bad); background: var(--badbg); color: var(--ink); }
 @supports selector(:has(a)) { body:not(:has(#end)) #cut { display: block; } }
 #end { max-width: 72rem; margin: 0 auto; padding: 0 1.25rem 2rem; color: var(--dim); font-size: .8rem; }
@@ -55,17 +54,10 @@ footer { margin-top: 2rem; border-top: 1px solid var(--rule); font-size: .9rem; 
 .legend .q dt { color: var(--t); } .legend .ok dt { color: var(--u); } .legend .n dt, .legend .x dt, .legend .m dt { color: var(--bad); } .legend .s dt { color: var(--warn); } .legend .p dt { color: var(--dim); }
 @supports selector(:has(a)) { main:has(#only:checked) tbody:not(:has(.n, .x, .m, .s)) { display: none; } main:has(#only:checked) .b:not(:has(.n, .x, .m, .s)) { display: none; } main:has(#only:checked) .b::details-content { content-visibility: visible; block-size: auto; } }
 @media (max-width: 40rem) { body { font-size: 14px; } .page { padding: 0 .6rem 1.5rem; } #end { padding: 0 .6rem 1.5rem; } thead th:nth-child(1) { font-size: .62rem; } #verdict { padding: .7rem .8rem; } thead th { font-size: .7rem; } thead th:nth-child(1) { width: 1.9rem; } thead th:nth-child(2) { width: 2.75rem; } thead th:nth-child(3) { width: 4.35rem; } td, tbody th { font-size: .72rem; padding-right: .25rem; } td:nth-child(2) { overflow-wrap: anywhere; } td:nth-child(3), thead th:nth-child(3) { padding-right: .4rem; } td:nth-child(4) { font-size: .85rem; } td > div { gap: .3rem; } td > div.t { padding-left: .4rem; } td > div.u { padding-right: .4rem; } td > div > div { max-width: 90%; } code, i, samp, em, td details summary { font-size: .75rem; } td code { max-width: 24ch; } div > svg { min-width: 1rem; } .counts { grid-template-columns: repeat(auto-fill, minmax(4.6rem, 1fr)); gap: .4rem .5rem; } }
-.who { display: inline-block; min-width: 1.5em; padding: 0 .3em; border: 1.5px solid; border-radius: 3px; text-align: center; font-weight: 700; font-size: .85em; margin-right: .3em; } h1 .who { margin-bottom: .2rem; } h3 { font-size: .95rem; margin: .8rem 0 .3rem; overflow-wrap: anywhere; }
-.two { display: grid; grid-template-columns: repeat(auto-fit, minmax(min(30rem, 100%), 1fr)); gap: 0 1.5rem; } .two > section { min-width: 0; } .two thead th { position: static; }
-.two thead th:nth-child(1) { width: 1.75rem; font-size: 0; } .two thead th:nth-child(2) { width: 3.4rem; } .two thead th:nth-child(3) { width: 5.2rem; } .two td, .two tbody th { font-size: .78rem; } .two td:nth-child(4) { font-size: .85rem; } .two td code { max-width: 24ch; } .two td:nth-child(3) { padding-right: .4rem; }
-#verdict a { white-space: nowrap; } #verdict .two { margin-top: .6rem; } #difference { border: 2px solid var(--warn); border-radius: 4px; padding: 0 1rem 1rem; margin: 1.25rem 0 .5rem; } #difference h2 { margin-top: .8rem; }
-table.pair thead th:nth-child(n) { width: auto; text-align: left; padding-right: .8rem; color: var(--ink); } table.pair thead th:nth-child(1) { width: 4.2rem; color: var(--dim); }
-table.pair td:nth-child(n) { border: 0; border-top: 1px solid var(--rule); padding: .35rem .8rem .35rem 0; text-align: left; color: var(--ink); font-size: .88rem; overflow-wrap: anywhere; } table.pair tbody th { border-top: 1px solid var(--rule); padding: .35rem .3rem .35rem 0; } table.pair th i { display: block; font-weight: 400; line-height: 1rem; }
-table.pair b { font-weight: 600; } .no { color: var(--bad); } .ab { display: grid; grid-template-columns: 1fr 1fr; gap: 0 .8rem; padding: 0; align-items: start; } td > div.ab { display: grid; } .d td { background: var(--warnbg); } .d td:nth-child(2) { border-right: 4px solid var(--bg) !important; padding-left: .5rem !important; } .d td:nth-child(3) { padding-left: .5rem !important; } .d th i { color: var(--warn); font-weight: 700 !important; }
+#verdict a { white-space: nowrap; }
 td > div > div { overflow-wrap: anywhere; }
-@media (max-width: 40rem) { .two thead th:nth-child(1) { width: 1.5rem; } .two thead th:nth-child(2) { width: 2.4rem; } .two thead th:nth-child(3) { width: 4.2rem; } .two td, .two tbody th { font-size: .72rem; } table.pair thead th:nth-child(1) { width: 3.4rem; } .ab i, .pair td > i { line-height: 1.15rem; } table.pair td:nth-child(n) { font-size: .8rem; } #difference { padding: 0 .5rem .6rem; } }
 @media print { :root { color-scheme: light; --bg: #fff; --ink: #000; --dim: #444; --rule: #999; --t: #0b3f86; --u: #064d28; --bad: #8c1610; --warn: #6b4300; --badbg: #fff; --warnbg: #fff; --goodbg: #fff; } html { font-size: 12px; } body { font-size: 12px; } .page { max-width: none; padding: 0; } .skip, .filter { display: none !important; } .b + .b { content-visibility: visible; } details::details-content { content-visibility: visible; block-size: auto; }
- td, tbody th, td code { line-height: 1.2rem; padding-top: .15rem; padding-bottom: .15rem; } td code { padding: 0; } thead th { position: static; } thead th:nth-child(1) { width: 2.6rem; } thead th:nth-child(2) { width: 4.4rem; } thead th:nth-child(3) { width: 5.6rem; } tr { break-inside: avoid; } tr.q { break-after: avoid; } #verdict, #difference, .two > section, footer { break-inside: avoid; } @page { margin: 14mm; } }
+ td, tbody th, td code { line-height: 1.2rem; padding-top: .15rem; padding-bottom: .15rem; } td code { padding: 0; } thead th { position: static; } thead th:nth-child(1) { width: 2.6rem; } thead th:nth-child(2) { width: 4.4rem; } thead th:nth-child(3) { width: 5.6rem; } tr { break-inside: avoid; } tr.q { break-after: avoid; } #verdict, footer { break-inside: avoid; } @page { margin: 14mm; } }
 ";
 
 /// The style of a report: one for all logs. Only the proof of a law opens it.

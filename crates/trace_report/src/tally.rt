@@ -1,21 +1,20 @@
 //! What a report keeps of its rows for the verdict.
 ghost use Rattle.std.specs.Prelude.{◌≡◌, ◌<◌, ◌^◌, ◌-◌, List, [], ◌∷◌, ◌++◌, length, take};
-ghost use Rattle.trace_report.specs.Rows.{RowValue};
+ghost use Rattle.trace_report.specs.Rows.{RowValue, row_of};
 ghost use Rattle.trace_report.specs.Sorts.{first_targets, most_links, tally_of};
-ghost use Rattle.trace_report.specs.proving.Pages.{row_of};
 ghost use Rattle.trace_report.specs.proving.Tallying.{first_with};
 
 use crate::counts::SortCounts;
-use crate::row::Row;
+use crate::row::SessionRow;
 use crate::sorts::{Sort, sort_of, target_of};
-use crate::targets::Target;
+use crate::targets::LinkTarget;
 use arrayvec::ArrayVec;
 
 /// So many rows of a sort are linked to at the most.
 pub(crate) const MOST_LINKS: u64 = 10;
 
 /// Where links to rows of a sort lead: to the first [`MOST_LINKS`] of them.
-pub(crate) type Targets = ArrayVec<Target, 10>;
+pub(crate) type Targets = ArrayVec<LinkTarget, 10>;
 
 /// Where links to the first rows lead of each sort that needs attention.
 #[derive(Debug, Drop)]
@@ -44,7 +43,7 @@ impl FirstTargets {
     }
 
     /// Takes a row of this sort, to which a link leads there.
-    fn take(&mut self, sort: Sort, target: Target)
+    fn take(&mut self, sort: Sort, target: LinkTarget)
         ensures { self.new ≡ first_with sort target self.old }
     {
         match sort {
@@ -61,7 +60,7 @@ impl FirstTargets {
 }
 
 /// Keeps a target behind those before it, if there is room.
-fn keep(first: &mut Targets, target: Target)
+fn keep(first: &mut Targets, target: LinkTarget)
     ensures { first.new.items ≡ take most_links (first.old.items ++ target ∷ []) }
 {
     if !first.is_full() {
@@ -88,7 +87,7 @@ impl Tally {
     }
 
     /// Takes one more row.
-    pub(crate) fn take(&mut self, row: Row<'_>)
+    pub(crate) fn take(&mut self, row: SessionRow<'_>)
         ensures { (rows : List RowValue) → length rows < 2 ^ 64 - 1 → self.old ≡ tally_of rows → self.new ≡ tally_of (rows ++ row_of row.entry ∷ []) }
     {
         let sort = sort_of(row);

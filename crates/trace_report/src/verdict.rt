@@ -1,17 +1,17 @@
 //! The verdict of a report: its heading, whether each answer is positive, what needs attention, the counts, and the time
 //! that the log spans.
 ghost use Rattle.std.specs.Prelude.{◌≡◌};
-ghost use Rattle.trace_report.specs.Links as Links;
 ghost use Rattle.trace_report.specs.Verdict as Spec;
 
 use crate::cause::RefusalCause;
-use crate::counts::{AnswersOf, Counts, SortCounts};
+use crate::counts::{AnswersOf, Counts};
 use crate::durations::Seconds;
-use crate::links::AttentionLine;
+use crate::links::Attention;
 use crate::reasons::UncleanReasons;
 use crate::refusal::RefusedHeading;
 use crate::tally::Tally;
 use crate::times::{Times, first_of, last_of};
+use crate::verdict_head::VerdictHead;
 use text_parts::{Either, Part, say};
 use trace_io::TextSink;
 use trace_log::{Fault, Summary};
@@ -96,51 +96,6 @@ impl<'a> Part for Findings<'a> {
     }
 }
 
-/// What needs attention, where something does, by its sort.
-#[derive(Clone, Copy)]
-struct Attention<'a>(&'a Tally);
-
-impl<'a> Part for Attention<'a> {
-    ghost use Rattle.trace_report.specs.Links.{attention_text};
-
-    ghost text = { λ attention. attention_text attention.0.now };
-
-    fn say<S: TextSink>(self, out: &mut S) {
-        let counts = &self.0.counts;
-        let first = &self.0.first;
-        if needs_no_attention(counts) {
-            return;
-        }
-        say(
-            out,
-            (
-                "<ul class=\"look\">\n",
-                (
-                    AttentionLine("dropped frames", counts.dropped, &first.dropped),
-                    AttentionLine("ended early", counts.ended, &first.ended),
-                    AttentionLine("unfinished", counts.unfinished, &first.unfinished),
-                    AttentionLine("negative answers", counts.negatives, &first.negatives),
-                    AttentionLine("without an answer", counts.unanswered, &first.unanswered),
-                    AttentionLine("strays", counts.strays, &first.strays),
-                ),
-                "</ul>\n",
-            ),
-        );
-    }
-}
-
-/// Whether nothing needs attention.
-fn needs_no_attention(counts: &SortCounts) -> bool
-    ensures { result ≡ Links.needs_no_attention counts.now }
-{
-    counts.dropped == 0
-        && counts.ended == 0
-        && counts.unfinished == 0
-        && counts.negatives == 0
-        && counts.unanswered == 0
-        && counts.strays == 0
-}
-
 /// The heading of a log that is read to its end, and its sentence.
 #[derive(Clone, Copy)]
 struct Heading<'a>(&'a Summary);
@@ -156,7 +111,8 @@ impl<'a> Part for Heading<'a> {
             say(
                 out,
                 (
-                    "<section id=\"verdict\" class=\"good\">\n<h2><span aria-hidden=\"true\">&#10003;</span> The recording is clean</h2>\n",
+                    VerdictHead("good", "&#10003;"),
+                    "The recording is clean</h2>\n",
                     "<p>No frame of the two identifiers was dropped, and no message is in part.",
                 ),
             );
@@ -167,7 +123,7 @@ impl<'a> Part for Heading<'a> {
 }
 
 /// Whether a page calls the recording clean: it is, and tester and unit don't look exchanged.
-pub(crate) fn is_called_clean(summary: &Summary) -> bool
+pub fn is_called_clean(summary: &Summary) -> bool
     ensures { result ≡ Spec.is_called_clean summary.now }
 {
     summary.is_clean() && !summary.looks_exchanged
@@ -186,17 +142,35 @@ impl<'a> Part for StartOf<'a> {
         let summary = self.0;
         say(
             out,
+            (VerdictHead("warn", "!"), StartWords(summary), "</h2>\n<p>"),
+        );
+    }
+}
+
+/// The words of that heading.
+#[derive(Clone, Copy)]
+struct StartWords<'a>(&'a Summary);
+
+impl<'a> Part for StartWords<'a> {
+    ghost use Rattle.trace_report.specs.Verdict.{start_words};
+
+    ghost text = { λ words. start_words words.0.now };
+
+    fn say<S: TextSink>(self, out: &mut S) {
+        let summary = self.0;
+        say(
+            out,
             Either(
                 summary.frames == 0,
-                "<section id=\"verdict\" class=\"warn\">\n<h2><span aria-hidden=\"true\">!</span> No frame of the tester or the unit</h2>\n<p>",
+                "No frame of the tester or the unit",
                 Either(
                     summary.looks_exchanged,
                     Either(
                         summary.is_clean(),
-                        "<section id=\"verdict\" class=\"warn\">\n<h2><span aria-hidden=\"true\">!</span> Tester and unit look exchanged</h2>\n<p>",
-                        "<section id=\"verdict\" class=\"warn\">\n<h2><span aria-hidden=\"true\">!</span> The recording is not clean, and tester and unit look exchanged</h2>\n<p>",
+                        "Tester and unit look exchanged",
+                        "The recording is not clean, and tester and unit look exchanged",
                     ),
-                    "<section id=\"verdict\" class=\"warn\">\n<h2><span aria-hidden=\"true\">!</span> The recording is not clean</h2>\n<p>",
+                    "The recording is not clean",
                 ),
             ),
         );
@@ -205,7 +179,7 @@ impl<'a> Part for StartOf<'a> {
 
 /// From when to when a log of so many frames goes, where it has some.
 #[derive(Clone, Copy)]
-pub(crate) struct SpanOf {
+pub struct SpanOf {
     pub frames: u64,
     pub first: u64,
     pub last: u64,

@@ -8,7 +8,8 @@ use Rattle.trace_run.specs.proving.Carrying.{Carries, HasCarried, blank_page}
 use Rattle.trace_run.proofs.WrittenFronts.{written_all, front_longer}
 
 -- a text that was said, and found room behind what is held
-carried_more : (failed : Bool) (old said text held new : List ℕ) → HasCarried failed old said held new → HasCarried failed old (said ++ text) (held ++ text) new
+carried_more : (failed : Bool) (old said text held new : List ℕ) → HasCarried failed old said held new
+    → HasCarried failed old (said ++ text) (held ++ text) new
 carried_more false old said text held new is = record {
   front = is.front;
   parts = ap (λ x. x ++ text) is.parts ∙ append_assoc is.front held text;
@@ -17,7 +18,8 @@ carried_more false old said text held new is = record {
 carried_more true old said text held new is = front_longer old said text new is
 
 -- where something is held with it, all that was said is something
-some_more : (said text held : List ℕ) → (0 < length held → 0 < length said) → 0 < length (held ++ text) → 0 < length (said ++ text)
+some_more : (said text held : List ℕ) → (0 < length held → 0 < length said) → 0 < length (held ++ text)
+    → 0 < length (said ++ text)
 some_more said text [] is some = omega (arith, length-append said text)
 some_more said text (byte ∷ held) is some = omega (arith, is (omega arith), length-append said text)
 
@@ -27,12 +29,13 @@ is_blank page well blank = λ i. record { held = sym blank i; failed = sym well 
 
 module _ {W : Type 0} (target : Ghosts W) where
   -- nothing was said to a page with nothing on it
-  pub nothing_said : (start : W) (page : Page) → target.failures start ≤ 2 ^ 62 → page.failed ≡ false → page.held ≡ [] → Carries target start [] page start
-  nothing_said start page low well blank =
+  pub carries_at_start : (start : W) (page : Page) → target.failures start ≤ 2 ^ 62 → page.failed ≡ false → page.held ≡ []
+      → Carries target start [] page start
+  carries_at_start start page low well blank =
       subst (λ p. Carries target start [] p start) (is_blank page well blank) (record {
         low = low;
         held_some = λ some. absurd (omega arith);
-        spoke = λ is. absurd (cc is);
+        failed_some = λ is. absurd (cc is);
         still = λ none. refl;
         failures = refl;
         no_empty_write = refl;
@@ -42,7 +45,8 @@ module _ {W : Type 0} (target : Ghosts W) where
       })
 
   -- what was said was written
-  pub wrote_all : (start now : W) (said : List ℕ) → Carries target start said (blank_page false) now → target.taken now ≡ target.taken start ++ said
+  pub wrote_all : (start now : W) (said : List ℕ) → Carries target start said (blank_page false) now
+      → target.taken now ≡ target.taken start ++ said
   wrote_all start now said carries = written_all (target.taken start) said (target.taken now) [] carries.written refl
 
   -- a front of what was said was written, whether writing failed or not
@@ -53,13 +57,14 @@ module _ {W : Type 0} (target : Ghosts W) where
       record { front = said; rest = []; parts = sym (append-nil said); wrote = wrote_all start now said carries }
 
   -- a text more was said, and is held behind what was
-  pub held_more : (start now : W) (said text : List ℕ) (page : Page) (held_now : List ℕ) → held_now ≡ page.held ++ text → Carries target start said page now
+  pub held_more : (start now : W) (said text : List ℕ) (page : Page) (held_now : List ℕ) → held_now ≡ page.held ++ text
+      → Carries target start said page now
       → Carries target start (said ++ text) (record page { held = held_now }) now
   held_more start now said text page held_now is so_far =
       subst (λ held. Carries target start (said ++ text) (record page { held = held }) now) (sym is) (record {
         low = so_far.low;
         held_some = some_more said text page.held so_far.held_some;
-        spoke = λ has. omega (arith, so_far.spoke has, length-append said text);
+        failed_some = λ has. omega (arith, so_far.failed_some has, length-append said text);
         still = λ none. so_far.still (omega (arith, none, length-append said text));
         failures = so_far.failures;
         no_empty_write = so_far.no_empty_write;
@@ -69,14 +74,16 @@ module _ {W : Type 0} (target : Ghosts W) where
       })
 
   -- a text more was said, and nothing of it is held, where writing had failed
-  pub said_in_vain : (start now : W) (said text : List ℕ) (page : Page) → page.failed ≡ true → Carries target start said page now
+  pub said_in_vain : (start now : W) (said text : List ℕ) (page : Page) → page.failed ≡ true
+      → Carries target start said page now
       → Carries target start (said ++ text) page now
   said_in_vain start now said text page wrong carries =
-      let so_far : Carries target start said (record page { failed = true }) now = subst (λ b. Carries target start said (record page { failed = b }) now) wrong carries in
+      let so_far : Carries target start said (record page { failed = true }) now =
+      subst (λ b. Carries target start said (record page { failed = b }) now) wrong carries in
       subst (λ b. Carries target start (said ++ text) (record page { failed = b }) now) (sym wrong) (record {
         low = so_far.low;
         held_some = λ some. omega (arith, so_far.held_some some, length-append said text);
-        spoke = λ is. omega (arith, so_far.spoke refl, length-append said text);
+        failed_some = λ is. omega (arith, so_far.failed_some refl, length-append said text);
         still = λ none. so_far.still (omega (arith, none, length-append said text));
         failures = so_far.failures;
         no_empty_write = so_far.no_empty_write;
@@ -86,13 +93,15 @@ module _ {W : Type 0} (target : Ghosts W) where
       })
 
   -- what is held is let go, where writing had failed
-  pub let_go : (start now : W) (said : List ℕ) (page : Page) → page.failed ≡ true → Carries target start said page now → Carries target start said (blank_page true) now
+  pub let_go : (start now : W) (said : List ℕ) (page : Page) → page.failed ≡ true → Carries target start said page now
+      → Carries target start said (blank_page true) now
   let_go start now said page wrong carries =
-      let so_far : Carries target start said (record page { failed = true }) now = subst (λ b. Carries target start said (record page { failed = b }) now) wrong carries in
+      let so_far : Carries target start said (record page { failed = true }) now =
+      subst (λ b. Carries target start said (record page { failed = b }) now) wrong carries in
       record {
         low = so_far.low;
         held_some = λ some. absurd (omega arith);
-        spoke = so_far.spoke;
+        failed_some = so_far.failed_some;
         still = so_far.still;
         failures = so_far.failures;
         no_empty_write = so_far.no_empty_write;

@@ -24,17 +24,22 @@ module _ {A : Type 0} (of : Command A) (is_lenient : of.script.strict ≡ false)
   -- where a fault tells why the log can't be read, that is so
   pub unread_for : (limit : ℕ) (settings : Settings) (log : List ℕ) (given : ℕ) (fault : Fault) (old new : List ℕ)
       → AnswersAndWrites of limit settings log given (Err fault) old new → IsUnreadFor when_lenient limit settings log fault
-  unread_for limit settings log given (BadLine line column) old new (is, wrote) = subst (λ strict. IsUnreadFor strict limit settings log (BadLine line column)) is_lenient is
-  unread_for limit settings log given (Oversize line announced) old new (is, wrote) = subst (λ strict. IsUnreadFor strict limit settings log (Oversize line announced)) is_lenient is
-  unread_for limit settings log given LogLimit old new (is, wrote) = subst (λ strict. IsUnreadFor strict limit settings log LogLimit) is_lenient is
-  unread_for limit settings log given OutputLimit old new (whole, meanings, read, answered, wrote) = absurd (has_answer (trace settings meanings) (summary_of limit settings log meanings) answered)
+  unread_for limit settings log given (BadLine line column) old new (is, wrote) =
+      subst (λ strict. IsUnreadFor strict limit settings log (BadLine line column)) is_lenient is
+  unread_for limit settings log given (Oversize line announced) old new (is, wrote) =
+      subst (λ strict. IsUnreadFor strict limit settings log (Oversize line announced)) is_lenient is
+  unread_for limit settings log given LogLimit old new (is, wrote) =
+      subst (λ strict. IsUnreadFor strict limit settings log LogLimit) is_lenient is
+  unread_for limit settings log given OutputLimit old new (whole, meanings, read, answered, wrote) =
+      absurd (has_answer (trace settings meanings) (summary_of limit settings log meanings) answered)
   unread_for limit settings log given Read old new is = tt
   unread_for limit settings log given Write old new is = tt
   unread_for limit settings log given Memory old new is = tt
 
   -- no announced length is the fault
   pub no_oversize : (settings : Settings) (log : List ℕ) (given : ℕ) (result : Result A Fault) (old new : List ℕ)
-      → AnswersAndWrites of MESSAGE_LIMIT settings log given result old new → IfErr result (λ why. (line announced : ℕ) → why ≢ Oversize line announced)
+      → AnswersAndWrites of MESSAGE_LIMIT settings log given result old new
+      → IfErr result (λ why. (line announced : ℕ) → why ≢ Oversize line announced)
   no_oversize settings log given (Ok value) old new answered = tt
   no_oversize settings log given (Err why) old new answered = λ line announced is.
       subst (IsUnreadFor when_lenient MESSAGE_LIMIT settings log) is (unread_for MESSAGE_LIMIT settings log given why old new answered)
@@ -50,22 +55,28 @@ module _ {A : Type 0} (of : Command A) (is_lenient : of.script.strict ≡ false)
 pub certifies : (of : Command Summary) → of.script.strict ≡ false
     → ((T : List Entry) (summary : Summary) (result : Result Summary NoAnswer) → of.answers T summary result → result ≡ Ok summary)
     → (settings : Settings) (log : List ℕ) (given : ℕ) (result : Result Summary Fault) (old new : List ℕ)
-    → AnswersAndWrites of MESSAGE_LIMIT settings log given result old new → IfOk result (Certifies MESSAGE_LIMIT settings log)
+    → AnswersAndWrites of MESSAGE_LIMIT settings log given result old new
+    → IfOk result (Certifies MESSAGE_LIMIT settings log)
 certifies of is_lenient counts settings log given (Ok summary) old new (all, meanings, is, answered, wrote) =
-    let same : summary_of MESSAGE_LIMIT settings log meanings ≡ summary = cc (counts (trace settings meanings) (summary_of MESSAGE_LIMIT settings log meanings) (Ok summary) answered) in
-    let read : IsReadToEnd when_lenient MESSAGE_LIMIT settings log meanings = subst (λ strict. IsReadToEnd strict MESSAGE_LIMIT settings log meanings) is_lenient is in
+    let same : summary_of MESSAGE_LIMIT settings log meanings ≡ summary =
+    cc (counts (trace settings meanings) (summary_of MESSAGE_LIMIT settings log meanings) (Ok summary) answered) in
+    let read : IsReadToEnd when_lenient MESSAGE_LIMIT settings log meanings =
+    subst (λ strict. IsReadToEnd strict MESSAGE_LIMIT settings log meanings) is_lenient is in
     subst (Certifies MESSAGE_LIMIT settings log) same (lines_certify MESSAGE_LIMIT settings log meanings (omega arith) read.1)
 certifies of is_lenient counts settings log given (Err why) old new answered = tt
 
 -- what is read is near to a refused place, where the script is not strict
 pub near_when_lenient : {strict : Bool} → strict ≡ false → (settings : Settings) (log : List ℕ) {given before after : ℕ}
-    → ReadsWhile (StopsNothingWithin strict MESSAGE_LIMIT settings log) given before after → ReadsWhile (HasNoBadPlaceWithin log) given before after
+    → ReadsWhile (StopsNothingWithin strict MESSAGE_LIMIT settings log) given before after
+    → ReadsWhile (HasNoBadPlaceWithin log) given before after
 near_when_lenient {strict} is settings log {given} {before} {after} near =
     subst (λ (s : Bool). ReadsWhile (StopsNothingWithin s MESSAGE_LIMIT settings log) given before after) is near
 
 -- a frame that needed memory is kept, where the command needs none to tell it
-pub needs_when_none : (needs : List Entry → Entry → Type 0) → ((T : List Entry) (e : Entry) → needs T e → ⊥) → (settings : Settings) (log : List ℕ)
-    → HasFrame (λ T e. IsKeptForMessage MESSAGE_LIMIT T e ⊎ needs T e) settings log → NeedsMemoryToReceive MESSAGE_LIMIT settings log
+pub needs_when_none : (needs : List Entry → Entry → Type 0) → ((T : List Entry) (e : Entry) → needs T e → ⊥)
+    → (settings : Settings) (log : List ℕ)
+    → HasFrame (λ T e. IsKeptForMessage MESSAGE_LIMIT T e ⊎ needs T e) settings log
+    → NeedsMemoryToReceive MESSAGE_LIMIT settings log
 needs_when_none needs none settings log found =
     record { before = found.before; line = found.line; frame = found.frame; begins = found.begins; own = found.own; holds = kept found.holds }
   where

@@ -3,7 +3,8 @@ use Rattle.std.proofs.Common.{Result, Ok, Err}
 use Rattle.std.specs.Prelude.{OnOk, IfErr}
 
 -- of a result that is a value
-pub on_ok_of_each : {A E I : Type 0} (P Q R : I → Type 0) (r : Result A E) → ((i : I) → P i → Q i → OnOk r (R i)) → OnOk r ((i : I) → P i → Q i → R i)
+pub on_ok_of_each : {A E I : Type 0} (P Q R : I → Type 0) (r : Result A E) → ((i : I) → P i → Q i → OnOk r (R i))
+    → OnOk r ((i : I) → P i → Q i → R i)
 on_ok_of_each P Q R (Ok x) each = each
 on_ok_of_each P Q R (Err e) each = tt
 

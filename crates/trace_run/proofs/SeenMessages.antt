@@ -15,15 +15,18 @@ use Rattle.trace_run.specs.declared.machine.Seen.{Seen}
 
 -- a frame told no other message than it completed
 completed : (d : Dir) (did : VerdictValue) (m : Message) → told_message d did ≡ m ∷ [] → (d ≡ m.0) × (did ≡ message m.1)
-completed d (message bytes) m is = let same : (d, bytes) ≡ m = cc is in (ap (λ (x : Message). x.0) same, ap (λ (x : Message). message x.1) same)
+completed d (message bytes) m is =
+    let same : (d, bytes) ≡ m = cc is in (ap (λ (x : Message). x.0) same, ap (λ (x : Message). message x.1) same)
 completed d began m is = cc is
 completed d stored m is = cc is
 completed d flowed m is = cc is
 completed d (dropped reason) m is = cc is
 
 -- the messages behind a frame are those before it, and what it told
-next : (T : List Entry) (e : Entry) (seen : Seen) (told : List Message) → IsEventOf T e seen.line seen.micros seen.dir seen.event
-    → told_message seen.dir (seen_event seen.event).verdict ≡ told → messages MESSAGE_LIMIT (T ++ e ∷ []) ≡ messages MESSAGE_LIMIT T ++ told
+next : (T : List Entry) (e : Entry) (seen : Seen) (told : List Message)
+    → IsEventOf T e seen.line seen.micros seen.dir seen.event
+    → told_message seen.dir (seen_event seen.event).verdict ≡ told
+    → messages MESSAGE_LIMIT (T ++ e ∷ []) ≡ messages MESSAGE_LIMIT T ++ told
 next T e seen told event is =
     messages_more MESSAGE_LIMIT T e
     ∙ ap (λ d. messages MESSAGE_LIMIT T ++ told_message d (verdict MESSAGE_LIMIT T e).verdict) event.dir
@@ -31,7 +34,8 @@ next T e seen told event is =
     ∙ ap (λ l. messages MESSAGE_LIMIT T ++ l) is
 
 -- a frame that completed a message
-pub completes_judged : (T : List Entry) (e : Entry) (seen : Seen) (judged : Judged) → IsSeen T e seen → seen.message ≡ Some judged → CompletesJudged T e judged
+pub completes_judged : (T : List Entry) (e : Entry) (seen : Seen) (judged : Judged) → IsSeen T e seen
+    → seen.message ≡ Some judged → CompletesJudged T e judged
 completes_judged T e seen judged is some =
     let M = messages MESSAGE_LIMIT T in
     let event = is.event in
@@ -46,13 +50,15 @@ completes_judged T e seen judged is some =
     }
 
 -- a frame that completed no message leaves the messages as they were
-pub completes_none : (T : List Entry) (e : Entry) (seen : Seen) → IsSeen T e seen → seen.message ≡ None → messages MESSAGE_LIMIT (T ++ e ∷ []) ≡ messages MESSAGE_LIMIT T
+pub completes_none : (T : List Entry) (e : Entry) (seen : Seen) → IsSeen T e seen → seen.message ≡ None
+    → messages MESSAGE_LIMIT (T ++ e ∷ []) ≡ messages MESSAGE_LIMIT T
 completes_none T e seen is none =
     let M = messages MESSAGE_LIMIT T in
     next T e seen [] is.event (subst (IsJudgmentOf M (told_message seen.dir (seen_event seen.event).verdict)) none is.message) ∙ append-nil M
 
 -- of such a frame no message is told
-pub tells_no_message : (T : List Entry) (e : Entry) (seen : Seen) → IsSeen T e seen → seen.message ≡ None → told_message e.dir (verdict MESSAGE_LIMIT T e).verdict ≡ []
+pub tells_no_message : (T : List Entry) (e : Entry) (seen : Seen) → IsSeen T e seen → seen.message ≡ None
+    → told_message e.dir (verdict MESSAGE_LIMIT T e).verdict ≡ []
 tells_no_message T e seen is none =
     ap (λ d. told_message d (verdict MESSAGE_LIMIT T e).verdict) is.event.dir
     ∙ ap (λ (x : EventValue). told_message seen.dir x.verdict) (sym is.event.did)

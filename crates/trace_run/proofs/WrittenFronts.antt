@@ -9,7 +9,8 @@ written_all old text new rest is none =
     is.wrote ∙ ap (λ x. old ++ x) (sym (is.parts ∙ ap (λ x. is.front ++ x) none ∙ append-nil is.front))
 
 -- a front of the rest was written
-pub front_more : (old text mid held later new : List ℕ) → IsWritten old text mid (held ++ later) → HasFront mid held new → HasFront old text new
+pub front_more : (old text mid held later new : List ℕ) → IsWritten old text mid (held ++ later) → HasFront mid held new
+    → HasFront old text new
 front_more old text mid held later new is more = record {
   front = is.front ++ more.front;
   rest = more.rest ++ later;
@@ -19,7 +20,8 @@ front_more old text mid held later new is more = record {
 }
 
 -- what was held before the rest was written
-pub held_written : (old text mid held later new : List ℕ) → IsWritten old text mid (held ++ later) → new ≡ mid ++ held → IsWritten old text new later
+pub held_written : (old text mid held later new : List ℕ) → IsWritten old text mid (held ++ later) → new ≡ mid ++ held
+    → IsWritten old text new later
 held_written old text mid held later new is more = record {
   front = is.front ++ held;
   parts = is.parts ∙ sym (append_assoc is.front held later);
@@ -29,11 +31,13 @@ held_written old text mid held later new is more = record {
 -- what was held was written, or a front of it, and nothing stands behind it
 pub held_ended : {A E : Type 0} (result : Result A E) (old text mid held new : List ℕ) → IsWritten old text mid (held ++ [])
     → HasWritten result mid held new → HasWritten result old text new
-held_ended (Ok value) old text mid held new is wrote = written_all old text new [] (held_written old text mid held [] new is wrote) refl
+held_ended (Ok value) old text mid held new is wrote =
+    written_all old text new [] (held_written old text mid held [] new is wrote) refl
 held_ended (Err fault) old text mid held new is wrote = front_more old text mid held [] new is wrote
 
 -- the rest in other words
-pub rest_along : (old text new rest other : List ℕ) → IsWritten old text new rest → rest ≡ other → IsWritten old text new other
+pub rest_along : (old text new rest other : List ℕ) → IsWritten old text new rest → rest ≡ other
+    → IsWritten old text new other
 rest_along old text new rest other is same = subst (IsWritten old text new) same is
 
 -- ---- texts gathered one after another
@@ -48,19 +52,23 @@ front_longer old a b new is = record {
 }
 
 -- all of a text, and then a front of what follows it
-pub front_behind : (old a b mid held new : List ℕ) → IsWritten old a mid held → HasFront mid (held ++ b) new → HasFront old (a ++ b) new
+pub front_behind : (old a b mid held new : List ℕ) → IsWritten old a mid held → HasFront mid (held ++ b) new
+    → HasFront old (a ++ b) new
 front_behind old a b mid held new is more = record {
   front = is.front ++ more.front;
   rest = more.rest;
-  parts = ap (λ x. x ++ b) is.parts ∙ append_assoc is.front held b ∙ ap (λ x. is.front ++ x) more.parts ∙ sym (append_assoc is.front more.front more.rest);
+  parts = ap (λ x. x ++ b) is.parts ∙ append_assoc is.front held b ∙ ap (λ x. is.front ++ x) more.parts
+      ∙ sym (append_assoc is.front more.front more.rest);
   wrote = more.wrote ∙ ap (λ x. x ++ more.front) is.wrote ∙ append_assoc old is.front more.front;
 }
 
 -- and then all of it
-pub written_behind : (old a b mid held new rest : List ℕ) → IsWritten old a mid held → IsWritten mid (held ++ b) new rest → IsWritten old (a ++ b) new rest
+pub written_behind : (old a b mid held new rest : List ℕ) → IsWritten old a mid held → IsWritten mid (held ++ b) new rest
+    → IsWritten old (a ++ b) new rest
 written_behind old a b mid held new rest is more = record {
   front = is.front ++ more.front;
-  parts = ap (λ x. x ++ b) is.parts ∙ append_assoc is.front held b ∙ ap (λ x. is.front ++ x) more.parts ∙ sym (append_assoc is.front more.front rest);
+  parts = ap (λ x. x ++ b) is.parts ∙ append_assoc is.front held b ∙ ap (λ x. is.front ++ x) more.parts
+      ∙ sym (append_assoc is.front more.front rest);
   wrote = more.wrote ∙ ap (λ x. x ++ more.front) is.wrote ∙ append_assoc old is.front more.front;
 }
 
@@ -71,7 +79,8 @@ gathered_written result old text mid held new is wrote =
     held_ended result old text mid held new (rest_along old text mid held (held ++ []) is (sym (append-nil held))) wrote
 
 -- what was held was written, and then the text at once
-pub gathered_at_once : {A E : Type 0} (result : Result A E) (old held mid text new rest : List ℕ) → mid ≡ old ++ held → rest ≡ []
+pub gathered_at_once : {A E : Type 0} (result : Result A E) (old held mid text new rest : List ℕ) → mid ≡ old ++ held
+    → rest ≡ []
     → HasWritten result mid text new → HasGathered result old (held ++ text) new rest
 gathered_at_once (Ok value) old held mid text new rest first none wrote = record {
   front = held ++ text;

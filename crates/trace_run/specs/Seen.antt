@@ -20,7 +20,7 @@ pub record IsEventOf (T : List Entry) (e : Entry) (at_line at_micros : ℕ) (sen
   pub dir : e.dir ≡ sender
   pub did : seen_event event ≡ verdict MESSAGE_LIMIT T e
 
--- This was judged of what came behind the messages M: of the one message that did, or none where no message came.
+-- Behind the messages M one message came, and is judged so; or none came, and none is judged.
 abbrev pub IsJudgmentOf : List Message → List Message → Option Judged → Type 0
 IsJudgmentOf M came None = came ≡ []
 IsJudgmentOf M came (Some judged) =

@@ -3,6 +3,7 @@ pub mod Gathering
 pub mod Carrying
 pub mod PageSinks
 pub mod Telling
+pub mod Receiving
 pub mod Ending
 pub mod Scripts
 pub mod Completing

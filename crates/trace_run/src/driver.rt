@@ -1,20 +1,13 @@
 //! A log that a machine is told: where a run reads, writes and fails.
-ghost use Rattle.std.specs.Prelude.{◌≡◌, ℕ, List, [], Err, Option, false};
-ghost use Rattle.can_log.specs.declared.frame.Stamped.{Stamped as StampedValue};
+ghost use Rattle.std.specs.Prelude.{◌≡◌, List, [], Err, false};
 ghost use Rattle.isotp_receive.specs.Trace.{Entry};
 ghost use Rattle.trace_io.specs.Counted.{IsLowCount};
-ghost use Rattle.trace_run.specs.proving.Carrying.{Carries};
-ghost use Rattle.trace_run.specs.proving.Ending.{Begins, SettlesAs, EndsSaying, GivesUp, RefusesSaying};
-ghost use Rattle.trace_run.specs.proving.Telling.{HasTold};
-ghost use Rattle.trace_log.specs.proving.Receiving.{Receives};
-ghost use Rattle.trace_log.specs.Settings.{Settings};
-ghost use Rattle.trace_log.specs.Summing as Spec;
-ghost use Rattle.trace_run.specs.Script.{command, glimpse_of, glimpse_value};
-ghost use Rattle.trace_run.specs.Ran.{Ran, RanLenient};
-ghost use Rattle.trace_log.specs.Trace.{trace};
-ghost use Rattle.trace_run.specs.declared.machine.NoAnswer.TheVariants.{OutputLimit};
-ghost use Rattle.trace_log.specs.declared.summary.Summary.{Summary as SummaryValue};
 ghost use Rattle.trace_log.specs.Devices.{HasLowCounts};
+ghost use Rattle.trace_log.specs.declared.summary.Summary.{Summary as SummaryValue};
+ghost use Rattle.trace_run.specs.Ran.{Ran, RanLenient};
+ghost use Rattle.trace_run.specs.Script.{command, glimpse_of, glimpse_value};
+ghost use Rattle.trace_run.specs.declared.machine.NoAnswer.TheVariants.{OutputLimit};
+ghost use Rattle.trace_run.specs.proving.Ending.{EndsBehind, EndsRun, GivesUp, RefusesSaying, SettlesAs};
 
 use crate::machine::{Glimpse, Machine};
 use crate::page::Page;
@@ -51,7 +44,7 @@ pub fn run<M: Machine + Drop, R: Source, W: Target>(
     }
 }
 
-/// [`run`], of a machine that no announced length stops, and that has an answer at the end of each log: so more is known.
+/// [`run`] of a machine that is not strict, and that has an answer at the end of each log. More is known of such a run.
 pub fn run_lenient<M: Machine + Drop, R: Source, W: Target>(
     alloc: Global,
     config: &Config,
@@ -81,9 +74,7 @@ fn give_up<M: Machine + Drop, W: Target>(
     receiver: Receiver<M, W>,
     target: &mut W,
 ) -> Fault
-    ensures { GivesUp M.stands
-        (λ machine_start. M.refusal machine_start (glimpse_value glimpse.entry))
-        W.Target fault receiver target.old result target.new }
+    ensures { GivesUp M.Machine W.Target (glimpse_value glimpse.entry) fault receiver target.old result target.new }
 {
     match fault {
         Fault::BadLine { .. } | Fault::LogLimit => refuse(fault, glimpse, receiver, target),
@@ -101,7 +92,7 @@ fn end_untold<M: Machine + Drop, W: Target>(
     receiver: Receiver<M, W>,
     target: &mut W,
 ) -> Fault
-    ensures { SettlesAs fault W.Target receiver.telling.page target.old result target.new }
+    ensures { SettlesAs W.Target fault receiver.telling.page target.old result target.new }
 {
     let Receiver { telling, .. } = receiver;
     let Telling { mut page, .. } = telling;
@@ -116,9 +107,7 @@ fn refuse<M: Machine, W: Target>(
     receiver: Receiver<M, W>,
     target: &mut W,
 ) -> Fault
-    ensures { RefusesSaying M.stands
-        (λ machine_start. M.refusal machine_start (glimpse_value glimpse.entry))
-        W.Target why receiver target.old result target.new }
+    ensures { RefusesSaying M.Machine W.Target (glimpse_value glimpse.entry) why receiver target.old result target.new }
 {
     let summary = receiver.summary(false);
     let Receiver { telling, .. } = receiver;
@@ -133,7 +122,7 @@ fn refuse<M: Machine, W: Target>(
 
 /// Writes what was said before a fault, and answers that fault, or that of writing where this failed.
 fn settle_before<W: Target>(fault: Fault, target: &mut W, page: &mut Page) -> Fault
-    ensures { SettlesAs fault W.Target page.old target.old result target.new }
+    ensures { SettlesAs W.Target fault page.old target.old result target.new }
 {
     if page.settle(target) {
         fault
@@ -142,25 +131,15 @@ fn settle_before<W: Target>(fault: Fault, target: &mut W, page: &mut Page) -> Fa
     }
 }
 
-/// Writes what is said at the end, and answers. The log ended in a line feed, or not. By `ends` all that is said of the
-/// log is written, or writing failed; by `more` the target has what it had at any time before, and more behind it.
+/// Writes what is said at the end, and answers. The log ended in a line feed, or not. All that is said of the log is
+/// written, or writing failed; and what was written before stays.
 fn finish<M: Machine, W: Target>(
     receiver: Receiver<M, W>,
     ends_in_line_feed: bool,
     target: &mut W,
 ) -> Result<M::Answer, Fault>
-    ensures ends { (target_start : W) (machine_start : M)
-        (settings : Settings) (log : List ℕ) (meanings : List (Option StampedValue))
-        → Receives settings meanings receiver.pair receiver.lines receiver.counts
-        → ends_in_line_feed ≡ Spec.ends_in_line_feed log
-        → HasTold M.stands M.script W.Target target_start machine_start (trace settings meanings) receiver.telling target.old
-        → EndsSaying W.Target (M.script machine_start) (M.answers machine_start) target_start
-        settings log meanings result target.new }
-    ensures more { (mid : W) (said : List ℕ) (machine_start : M)
-        (settings : Settings) (meanings : List (Option StampedValue))
-        → Receives settings meanings receiver.pair receiver.lines receiver.counts
-        → M.stands machine_start (trace settings meanings) receiver.telling.machine
-        → Carries W.Target mid said receiver.telling.page target.old → Begins (W.taken mid) (W.taken target.new) }
+    ensures ends { EndsRun M.Machine W.Target receiver ends_in_line_feed target.old result target.new }
+    ensures more { EndsBehind M.Machine W.Target receiver target.old target.new }
 {
     let summary = receiver.summary(ends_in_line_feed);
     let Receiver { pair, telling, .. } = receiver;

@@ -1,15 +1,12 @@
 //! The text that a page holds, gathered so that it is written in few pieces.
-ghost use Rattle.std.specs.Prelude.{◌≡◌, ◌+◌, ◌^◌, ◌<◌, ◌≤◌, [], ◌++◌, length, take, true, false, MatchResult};
-ghost use Rattle.trace_io.specs.Stream.{Took};
-ghost use Rattle.trace_run.specs.proving.Gathering.{HasGathered};
+ghost use Rattle.std.specs.Prelude.{◌≡◌, ◌+◌, ◌<◌, ◌≤◌, [], ◌++◌, length, take, true, false};
 
 use can_log::LONGEST_LINE;
 use std::marker::Model;
 use std::simd::{u8x4, u8x8, u8x16};
-use trace_io::{DeviceFault, Target, write_all};
 
 /// The most bytes that a page holds: 64 canonical lines of the longest kind.
-const PAGE_LENGTH: usize = 64 * LONGEST_LINE;
+pub(crate) const PAGE_LENGTH: usize = 64 * LONGEST_LINE;
 
 /// Text that is gathered for one write. What stands behind it is left over from an earlier one: nothing is cleared.
 #[derive(Drop)]
@@ -67,7 +64,7 @@ impl HeldText {
 
     /// How many bytes more it has room for.
     #[inline(always)]
-    fn room(&self) -> usize
+    pub(crate) fn room(&self) -> usize
         ensures { result + length self.now ≡ PAGE_LENGTH }
     {
         PAGE_LENGTH - self.len
@@ -109,7 +106,7 @@ impl HeldText {
 
     /// Appends bytes that there is room for.
     #[inline(always)]
-    fn append(&mut self, bytes: &[u8])
+    pub(crate) fn append(&mut self, bytes: &[u8])
         requires { length self.old + length bytes.now ≤ PAGE_LENGTH }
         ensures { self.new ≡ self.old ++ bytes.now }
     {
@@ -117,34 +114,6 @@ impl HeldText {
         copy(bytes, &mut self.bytes[self.len..end]);
         self.len = end;
     }
-}
-
-/// Fills a page, which has no room for the text, with the front of it, writes that, and begins the next one with what
-/// is left. A text that no page has room for is written at once, behind what the page holds.
-pub(crate) fn gather<W: Target>(
-    target: &mut W,
-    held: &mut HeldText,
-    text: &[u8],
-) -> Result<(), DeviceFault>
-    requires { W.failures target.old ≤ 2 ^ 62 }
-    ensures failures { MatchResult result
-        (λ _. W.failures target.new ≡ W.failures target.old) (λ _. W.failures target.new ≡ W.failures target.old + 1) }
-    ensures no_empty_write { W.had_empty_write target.new ≡ W.had_empty_write target.old }
-    ensures flushes { W.flushes target.new ≡ W.flushes target.old }
-    ensures took { Took (W.taken target.old) (W.taken target.new) (W.contents target.old) (W.contents target.new) }
-    ensures taken { HasGathered result (W.taken target.old) (held.old ++ text.now) (W.taken target.new) held.new }
-{
-    if text.len() > PAGE_LENGTH {
-        write_all(target, held.as_slice())?;
-        held.clear();
-        return write_all(target, text);
-    }
-    let (front, rest) = text.split_at(text.len().min(held.room()));
-    held.append(front);
-    write_all(target, held.as_slice())?;
-    held.clear();
-    held.append(rest);
-    Ok(())
 }
 
 /// Copies bytes over as many others. From 4 to 16 they are copied by two stores, which may overlap: that needs no call.

@@ -48,7 +48,7 @@
 //! |---|---|---|
 //! | a command, and what it is handed: [`Machine`], [`Seen`], [`Glimpse`], [`NoAnswer`] | `machine` | `Script`, `Seen` |
 //! | a run of one over a log: [`run`], [`run_lenient`] | `driver` | `Ran` |
-//! | the frames received and counted | `receiver`, `summing` | those of `trace_log` |
+//! | the frames received and counted | `receiver` | `Trace`, `Summing` of `trace_log` |
 //! | the messages judged, and the machine told | `telling` | `Seen` |
 //! | its text gathered for few writes | `page`, `held_text` | |
 //! | a text that is known as a whole, written by such a page: [`print`] | `printer` | `Printed` |
@@ -62,7 +62,6 @@ mod nowhere;
 mod page;
 mod printer;
 mod receiver;
-mod summing;
 mod telling;
 
 pub use driver::{run, run_lenient};

@@ -1,7 +1,6 @@
-//! A command as a machine: what it says of each frame of a log, and at the end.
+//! A command as a machine: what it says of each frame of a log, and at the end or of a refusal.
 ghost use Rattle.std.specs.Prelude.{◌≡◌, List, [], ◌∷◌, ◌++◌, OnOk, OnErr, Result};
 ghost use Rattle.isotp_receive.specs.declared.TheConstants.{MESSAGE_LIMIT};
-ghost use Rattle.isotp_receive.specs.Capacities.{KeepsWithin};
 ghost use Rattle.isotp_receive.specs.StandingReception.{receptions_after};
 ghost use Rattle.isotp_receive.specs.Trace.{Entry};
 ghost use Rattle.trace_run.specs.Seen.{IsSeen};
@@ -53,7 +52,7 @@ pub trait Machine {
         ensures needs { OnErr result ((machine_start : Self) (T : List Entry) (e : Entry) → IsSeen T e seen.entry
             → stands machine_start T self.old → needs machine_start T e) };
 
-    /// Takes the end of the log: the receptions that stand, in no more memory than they may keep, and the counts.
+    /// Takes the end of the log: the receptions that stand, and the counts.
     fn end<S: TextSink>(
         self,
         pair: &Pair,
@@ -61,7 +60,7 @@ pub trait Machine {
         out: &mut S,
     ) -> Result<Self::Answer, NoAnswer>
         ensures says { (machine_start : Self) (T : List Entry) → stands machine_start T self
-            → pair.now.receptions ≡ receptions_after MESSAGE_LIMIT T → KeepsWithin MESSAGE_LIMIT T pair.now
+            → pair.now.receptions ≡ receptions_after MESSAGE_LIMIT T
             → S.says out.old ((script machine_start).at_the_end T summary.now) out.new }
         ensures answered { (machine_start : Self) (T : List Entry) → stands machine_start T self
             → pair.now.receptions ≡ receptions_after MESSAGE_LIMIT T
@@ -117,7 +116,7 @@ impl<'a> Glimpse<'a> {
 /// Why a machine has no answer at the end of a log.
 #[derive(Clone, Copy, Debug)]
 pub enum NoAnswer {
-    /// Its output would be longer than the limit.
+    /// Its canonical log would be longer than the limit.
     OutputLimit,
 }
 

@@ -1,6 +1,11 @@
 //! The page that text is gathered on, between a machine and the target.
-use crate::held_text::{HeldText, gather};
-use trace_io::{MOST_FAILURES, Target, TextSink, write_all};
+ghost use Rattle.std.specs.Prelude.{◌≡◌, ◌+◌, ◌^◌, ◌≤◌, [], ◌++◌, MatchResult};
+ghost use Rattle.trace_io.specs.Stream.{Took};
+ghost use Rattle.trace_io.specs.Written.{HasWritten};
+ghost use Rattle.trace_run.specs.proving.Gathering.{HasGathered};
+
+use crate::held_text::{HeldText, PAGE_LENGTH};
+use trace_io::{DeviceFault, MOST_FAILURES, Target, TextSink, write_all};
 
 /// Text that is still to be written, and whether writing has failed: nothing is written from then on. It is a block of
 /// memory, whatever text stands on it, and no page of HTML.
@@ -117,11 +122,10 @@ impl Page {
         if self.held.is_empty() {
             return true;
         }
-        if let Err(_fault) = write_all(target, self.held.as_slice()) {
+        if let Err(_fault) = write_out(target, &mut self.held) {
             self.failed = true;
             return false;
         }
-        self.held.clear();
         true
     }
 
@@ -138,6 +142,44 @@ impl Page {
     }
 }
 
+/// Fills a page, which has no room for the text, with the front of it, writes that, and begins the next one with what
+/// is left. A text that no page has room for is written at once, behind what the page holds.
+fn gather<W: Target>(target: &mut W, held: &mut HeldText, text: &[u8]) -> Result<(), DeviceFault>
+    requires { W.failures target.old ≤ 2 ^ 62 }
+    ensures failures { MatchResult result
+        (λ _. W.failures target.new ≡ W.failures target.old) (λ _. W.failures target.new ≡ W.failures target.old + 1) }
+    ensures no_empty_write { W.had_empty_write target.new ≡ W.had_empty_write target.old }
+    ensures flushes { W.flushes target.new ≡ W.flushes target.old }
+    ensures took { Took (W.taken target.old) (W.taken target.new) (W.contents target.old) (W.contents target.new) }
+    ensures taken { HasGathered result (W.taken target.old) (held.old ++ text.now) (W.taken target.new) held.new }
+{
+    if text.len() > PAGE_LENGTH {
+        write_out(target, held)?;
+        return write_all(target, text);
+    }
+    let (front, rest) = text.split_at(text.len().min(held.room()));
+    held.append(front);
+    write_out(target, held)?;
+    held.append(rest);
+    Ok(())
+}
+
+/// Writes the text that is held, and lets it go, whether it was written or not.
+fn write_out<W: Target>(target: &mut W, held: &mut HeldText) -> Result<(), DeviceFault>
+    requires { W.failures target.old ≤ 2 ^ 62 }
+    ensures failures { MatchResult result
+        (λ _. W.failures target.new ≡ W.failures target.old) (λ _. W.failures target.new ≡ W.failures target.old + 1) }
+    ensures no_empty_write { W.had_empty_write target.new ≡ W.had_empty_write target.old }
+    ensures flushes { W.flushes target.new ≡ W.flushes target.old }
+    ensures took { Took (W.taken target.old) (W.taken target.new) (W.contents target.old) (W.contents target.new) }
+    ensures taken { HasWritten result (W.taken target.old) held.old (W.taken target.new) }
+    ensures blank { held.new ≡ [] }
+{
+    let result = write_all(target, held.as_slice());
+    held.clear();
+    result
+}
+
 /// A page beside the target that it is written to.
 #[derive(Drop)]
 pub(crate) struct PageSink<'a, W> {
@@ -149,12 +191,12 @@ impl<'a, W: Target> TextSink for PageSink<'a, W> {
     ghost use Rattle.std.specs.Prelude.{◌≡◌};
     ghost use Rattle.std.proofs.Common.{refl, ◌∙◌};
     ghost use Rattle.trace_run.specs.proving.Carrying.{Says};
-    ghost use Rattle.trace_run.specs.proving.PageSinks.{says_nothing, says_onward};
+    ghost use Rattle.trace_run.specs.proving.PageSinks.{says_empty_text, says_onward};
 
     ghost says = { λ s text t. (t.target.ghost_name ≡ s.target.ghost_name) × (t.page.ghost_name ≡ s.page.ghost_name)
         × Says W.Target s.page.now s.target.now text t.page.now t.target.now };
 
-    ghost nothing = { λ s. (refl, refl, says_nothing W.Target s.page.now s.target.now) };
+    ghost nothing = { λ s. (refl, refl, says_empty_text W.Target s.page.now s.target.now) };
 
     ghost onward = { λ s m t a b one two. (
       two.0 ∙ one.0,

@@ -1,6 +1,10 @@
-//! The frames of a log received: what each does, and what is counted.
-ghost use Rattle.std.specs.Prelude.{◌≡◌, IfErr};
+//! The frames of a log received: what each does, and what is counted and summed up.
+ghost use Rattle.std.specs.Prelude.{◌≡◌, List, IfErr};
 ghost use Rattle.isotp_receive.specs.EventSeen.{seen_event};
+ghost use Rattle.isotp_receive.specs.Events.{unfinished_in};
+ghost use Rattle.isotp_receive.specs.StandingReception.{receptions_after};
+ghost use Rattle.isotp_receive.specs.Trace.{Entry};
+ghost use Rattle.isotp_receive.specs.declared.TheConstants.{MESSAGE_LIMIT};
 ghost use Rattle.trace_run.specs.proving.Telling.{TellsEvent};
 ghost use Rattle.trace_log.specs.Summing.{counted_more};
 ghost use Rattle.trace_log.specs.Feeding.{IsOfTaker};
@@ -10,6 +14,7 @@ use crate::telling::{FrameEvent, Telling};
 use can_log::{Stamped, Wanted};
 use direction::Dir;
 use isotp_receive::{Event, Pair, Verdict};
+use std::marker::PhantomData;
 use trace_io::Target;
 use trace_log::{Config, Fault, LineTaker, Summary};
 
@@ -20,17 +25,25 @@ pub(crate) struct Receiver<M, W> {
     pub pair: Pair,
     pub lines: u64,
     pub counts: Summary,
-    pub telling: Telling<M, W>,
+    pub telling: Telling<M>,
+    /// It names the type of the target, which is the `Device` of a `LineTaker`: each call is handed the target itself.
+    pub target: PhantomData<W>,
 }
 
 impl<M, W> Receiver<M, W> {
-    ghost use Rattle.std.specs.Prelude.{◌≡◌};
+    ghost use Rattle.std.specs.Prelude.{◌≡◌, ℕ, List, Option};
+    ghost use Rattle.can_log.specs.declared.frame.Stamped.{Stamped};
     ghost use Rattle.isotp_receive.specs.Capacities.{new_pair};
     ghost use Rattle.isotp_receive.specs.declared.TheConstants.{MESSAGE_LIMIT};
-    ghost use Rattle.trace_log.specs.proving.Receiving.{IsReceiverStart};
+    ghost use Rattle.trace_log.specs.Messages.{messages_of_lines};
+    ghost use Rattle.trace_log.specs.Settings.{Settings};
+    ghost use Rattle.trace_log.specs.Summing.{summary_of};
+    ghost use Rattle.trace_log.specs.Summing as Spec;
+    ghost use Rattle.trace_log.specs.proving.Receiving.{IsReceiverStart, Receives};
+    ghost use Rattle.uds_exchange.specs.Judging.{IsJudgeOf};
 
     /// Before the first line, with a pair that has received no frame and keeps no memory.
-    pub(crate) fn start(config: &Config, pair: Pair, telling: Telling<M, W>) -> Receiver<M, W>
+    pub(crate) fn start(config: &Config, pair: Pair, telling: Telling<M>) -> Receiver<M, W>
         requires { pair ≡ new_pair MESSAGE_LIMIT }
         ensures { IsReceiverStart config.now telling result.config result.pair result.lines result.counts result.telling }
     {
@@ -40,25 +53,54 @@ impl<M, W> Receiver<M, W> {
             lines: 0,
             counts: Summary::nothing(),
             telling,
+            target: PhantomData,
+        }
+    }
+
+    /// The summary of the lines received so far, as of a log that has no others, and that ended in a line feed or not.
+    pub(crate) fn summary(&self, ends_in_line_feed: bool) -> Summary
+        ensures { (settings : Settings) (log : List ℕ) (meanings : List (Option Stamped))
+            → Receives settings meanings self.now.pair self.now.lines self.now.counts
+            → ends_in_line_feed ≡ Spec.ends_in_line_feed log
+            → IsJudgeOf (messages_of_lines MESSAGE_LIMIT settings meanings) self.now.telling.judge
+            → result ≡ summary_of MESSAGE_LIMIT settings log meanings }
+    {
+        let Receiver {
+            pair,
+            lines,
+            counts,
+            telling,
+            ..
+        } = self;
+        let judge = &telling.judge;
+        Summary {
+            lines: *lines,
+            frames: counts.tester_frames.saturating_add(counts.unit_frames),
+            unfinished: unfinished(pair),
+            pending: judge.removed(),
+            ends_in_line_feed,
+            looks_exchanged: judge.sides().look_exchanged(),
+            ..*counts
         }
     }
 }
 
 impl<M: Machine, W: Target> LineTaker for Receiver<M, W> {
-    ghost use Rattle.std.specs.Prelude.{◌≡◌};
-    ghost use Rattle.trace_run.specs.proving.Telling.{HasBroken, HasRested, HasStoppedAt, HasTaken, IsSureOf};
+    ghost use Rattle.std.specs.Prelude.{◌≡◌, true, false};
+    ghost use Rattle.trace_run.specs.proving.Receiving.{HasSettled, HasStoppedAt, HasTaken, IsSureOf};
+    ghost use Rattle.trace_run.specs.proving.Receiving.{of_pairs, stop_of_pairs};
 
     type Device = W;
 
-    ghost took = { HasTaken M.stands M.script W.Target };
+    ghost took = { of_pairs (HasTaken M.Machine W.Target) };
 
-    ghost rested = { HasRested M.stands M.script W.Target };
+    ghost rested = { of_pairs (HasSettled M.Machine W.Target false) };
 
-    ghost broke = { HasBroken M.stands M.script W.Target };
+    ghost broke = { of_pairs (HasSettled M.Machine W.Target true) };
 
-    ghost stopped = { HasStoppedAt M.stands M.script W.Target M.needs };
+    ghost stopped = { stop_of_pairs (HasStoppedAt M.Machine W.Target) };
 
-    ghost sure = { IsSureOf M.stands M.script W.Target };
+    ghost sure = { of_pairs (IsSureOf M.Machine W.Target) };
 
     // Of a receiver, the identifiers of the frames that it wants.
     ghost wants = { λ receiver first second. (first ≡ receiver.config.tester) × (second ≡ receiver.config.unit) };
@@ -119,7 +161,8 @@ impl<M: Machine, W: Target> Receiver<M, W> {
         ensures counts { OnOk result ((T : List Entry) → self.old.pair.receptions ≡ receptions_after MESSAGE_LIMIT T
             → self.new.counts ≡ counted_more dir (verdict MESSAGE_LIMIT T (entry_at line stamped.now dir)) self.old.counts) }
         ensures told { (T : List Entry) → self.old.pair.receptions ≡ receptions_after MESSAGE_LIMIT T → length T < 2 ^ 62
-            → TellsFrame M.stands M.script W.Target M.needs T (entry_at line stamped.now dir) self.old.telling target.old result self.new.telling target.new }
+            → TellsFrame M.Machine W.Target T (entry_at line stamped.now dir)
+            self.old.telling target.old result self.new.telling target.new }
     {
         // A `match`, here and in `Telling::take`: `?` in both cost 23 to 27 instructions a line (docs/PERF.md).
         match self.pair.accept(line, stamped.micros, dir, &stamped.frame) {
@@ -143,13 +186,13 @@ impl<M: Machine, W: Target> Receiver<M, W> {
 #[inline(always)]
 fn hand_on<M: Machine, W: Target>(
     counts: &mut Summary,
-    telling: &mut Telling<M, W>,
+    telling: &mut Telling<M>,
     target: &mut W,
     frame: FrameEvent<'_>,
 ) -> Result<(), Fault>
     ensures fault { IfErr result IsOfTaker }
     ensures counts { counts.new ≡ counted_more frame.entry.dir (seen_event frame.entry.event) counts.old }
-    ensures told { TellsEvent M.stands M.script W.Target M.needs frame.entry
+    ensures told { TellsEvent M.Machine W.Target frame.entry
         telling.old target.old result telling.new target.new }
 {
     let ended = frame.event.ended;
@@ -174,15 +217,23 @@ fn hand_on<M: Machine, W: Target>(
 #[inline(always)]
 fn count_and_tell<M: Machine, W: Target>(
     counts: &mut Summary,
-    telling: &mut Telling<M, W>,
+    telling: &mut Telling<M>,
     target: &mut W,
     frame: FrameEvent<'_>,
 ) -> Result<(), Fault>
     ensures fault { IfErr result IsOfTaker }
     ensures counts { counts.new ≡ counted_more frame.entry.dir (seen_event frame.entry.event) counts.old }
-    ensures told { TellsEvent M.stands M.script W.Target M.needs frame.entry
+    ensures told { TellsEvent M.Machine W.Target frame.entry
         telling.old target.old result telling.new target.new }
 {
     counts.count(frame.dir, frame.event);
     telling.take(target, frame)
+}
+
+/// How many receptions stand.
+fn unfinished(pair: &Pair) -> u64
+    ensures { (T : List Entry) → pair.now.receptions ≡ receptions_after MESSAGE_LIMIT T
+        → result ≡ unfinished_in MESSAGE_LIMIT T }
+{
+    u64::from(pair.open(Dir::Tester).is_some()) + u64::from(pair.open(Dir::Unit).is_some())
 }

@@ -2,7 +2,6 @@
 ghost use Rattle.std.specs.Prelude.{◌≡◌, ◌^◌, ◌<◌, List, [], ◌∷◌, ◌++◌, length, OnOk, OnErr};
 ghost use Rattle.direction.specs.Dir.{Message};
 ghost use Rattle.isotp_receive.specs.declared.TheConstants.{MESSAGE_LIMIT};
-ghost use Rattle.isotp_receive.specs.Capacities.{KeepsWithin};
 ghost use Rattle.isotp_receive.specs.EventSeen.{seen_verdict};
 ghost use Rattle.isotp_receive.specs.Events.{announced_by};
 ghost use Rattle.isotp_receive.specs.StandingReception.{receptions_after};
@@ -19,7 +18,6 @@ use crate::page::{Page, PageSink};
 use direction::Dir;
 use isotp_receive::{Event, Pair, Reason, Verdict};
 use std::alloc::AllocError;
-use std::marker::PhantomData;
 use trace_io::Target;
 use trace_log::{Fault, Summary};
 use uds_exchange::{Judge, Judged};
@@ -36,21 +34,18 @@ pub(crate) struct FrameEvent<'a> {
 
 /// A machine, the judge of the messages, and the page that the machine's text goes onto.
 #[derive(Drop)]
-pub(crate) struct Telling<M, W> {
+pub(crate) struct Telling<M> {
     pub machine: M,
     pub judge: Judge,
     pub page: Page,
-    /// It names the type of the target, which is `LineTaker::Device` of a receiver: each call is handed the target
-    /// itself.
-    pub target: PhantomData<W>,
 }
 
-impl<M, W> Telling<M, W> {
+impl<M> Telling<M> {
     ghost use Rattle.std.specs.Prelude.{◌≡◌, [], false};
     ghost use Rattle.uds_exchange.specs.Judging.{IsJudgeOf};
 
     /// Before the first event.
-    pub(crate) fn start(machine: M) -> Telling<M, W>
+    pub(crate) fn start(machine: M) -> Telling<M>
         ensures machine { result.machine ≡ machine }
         ensures judged { IsJudgeOf [] result.judge }
         ensures well { result.page.failed ≡ false }
@@ -60,28 +55,31 @@ impl<M, W> Telling<M, W> {
             machine,
             judge: Judge::new(),
             page: Page::new(),
-            target: PhantomData,
         }
     }
 }
 
-impl<M: Machine, W: Target> Telling<M, W> {
+impl<M: Machine> Telling<M> {
     ghost use Rattle.std.specs.Prelude.{IfErr};
     ghost use Rattle.trace_run.specs.proving.Telling.{SettlesTold, TellsEvent};
     ghost use Rattle.trace_log.specs.Feeding.{IsOfTaker};
 
     /// Writes what is due, before more is read. Answers whether it could.
-    pub(crate) fn settle(&mut self, target: &mut W) -> bool
-        ensures { SettlesTold M.stands M.script W.Target self.old target.old result self.new target.new }
+    pub(crate) fn settle<W: Target>(&mut self, target: &mut W) -> bool
+        ensures { SettlesTold M.Machine W.Target self.old target.old result self.new target.new }
     {
         self.page.settle(target)
     }
 
     /// Takes what the next frame of the trace did.
     #[inline(always)]
-    pub(crate) fn take(&mut self, target: &mut W, frame: FrameEvent<'_>) -> Result<(), Fault>
+    pub(crate) fn take<W: Target>(
+        &mut self,
+        target: &mut W,
+        frame: FrameEvent<'_>,
+    ) -> Result<(), Fault>
         ensures fault { IfErr result IsOfTaker }
-        ensures told { TellsEvent M.stands M.script W.Target M.needs frame.entry
+        ensures told { TellsEvent M.Machine W.Target frame.entry
             self.old target.old result self.new target.new }
     {
         let FrameEvent {
@@ -184,7 +182,7 @@ pub(crate) fn tell_end<M: Machine, W: Target>(
     summary: &Summary,
 ) -> Result<M::Answer, NoAnswer>
     ensures says { (machine_start : M) (T : List Entry) → M.stands machine_start T machine
-        → pair.now.receptions ≡ receptions_after MESSAGE_LIMIT T → KeepsWithin MESSAGE_LIMIT T pair.now
+        → pair.now.receptions ≡ receptions_after MESSAGE_LIMIT T
         → Says W.Target page.old target.old ((M.script machine_start).at_the_end T summary.now) page.new target.new }
     ensures answered { (machine_start : M) (T : List Entry) → M.stands machine_start T machine
         → pair.now.receptions ≡ receptions_after MESSAGE_LIMIT T

@@ -23,9 +23,9 @@ impl Part for Byte {
 
 /// Two hexadecimal digits for each byte, made of eight bytes at once, as long as there are eight.
 #[derive(Clone, Copy)]
-pub struct Bytes<'a>(pub &'a [u8]);
+pub struct HexBytes<'a>(pub &'a [u8]);
 
-impl<'a> Part for Bytes<'a> {
+impl<'a> Part for HexBytes<'a> {
     ghost use Rattle.trace_text.specs.Words.{bytes_text};
 
     ghost text = { λ bytes. bytes_text bytes.0.now };

@@ -2,10 +2,10 @@
 ghost use Rattle.uds_exchange.specs.ItemSeen.{item_value};
 ghost use Rattle.trace_text.specs.ItemLines.{item_line, list_text, worded_line};
 
-use crate::bytes::Bytes;
+use crate::bytes::HexBytes;
 use crate::item_objects::say_item_object_line;
 use crate::item_style::{ItemStyle, Numbering};
-use crate::name_parts::{ResponseCode, Sender, Service};
+use crate::name_parts::{ResponseCode, Sender, ServiceName};
 use crate::notation::Notation;
 use crate::numbers::Number;
 use text_parts::{Part, say};
@@ -82,26 +82,26 @@ impl<'a> Part for ItemWords<'a> {
                 out,
                 (
                     "exchange ",
-                    Service(sid(request)),
+                    ServiceName(sid(request)),
                     " ",
-                    Bytes(request),
+                    HexBytes(request),
                     " -> ",
-                    Outcome { request, answer },
+                    RequestOutcome { request, answer },
                 ),
             ),
-            Item::Stray { dir, bytes } => say(out, ("stray ", Sender(dir), " ", Bytes(bytes))),
+            Item::Stray { dir, bytes } => say(out, ("stray ", Sender(dir), " ", HexBytes(bytes))),
         }
     }
 }
 
 /// What came of a request.
 #[derive(Clone, Copy)]
-struct Outcome<'a> {
+struct RequestOutcome<'a> {
     request: &'a [u8],
     answer: Option<&'a [u8]>,
 }
 
-impl<'a> Part for Outcome<'a> {
+impl<'a> Part for RequestOutcome<'a> {
     ghost use Rattle.std.specs.Prelude.{option_map};
     ghost use Rattle.trace_text.specs.ItemLines.{outcome_text};
 
@@ -136,11 +136,11 @@ impl<'a> Part for Answer<'a> {
                     "negative ",
                     ResponseCode(response_code(reply)),
                     " ",
-                    Bytes(reply),
+                    HexBytes(reply),
                 ),
             );
         } else {
-            say(out, ("positive ", Bytes(reply)));
+            say(out, ("positive ", HexBytes(reply)));
         }
     }
 }

@@ -1,7 +1,7 @@
 //! The items of a meaning as objects of JSON. What is said at once goes from one value to the next, quotes included, since
 //! each piece more takes longer to say.
 //!
-//! So an object is cut amid its quotes, in `OpenObject`, which has a `Front` and an `OpenItem`, and the quote and the brace that
+//! So an object is cut amid its quotes, in `OpenObject`, which has a `ObjectFront` and an `OpenItem`, and the quote and the brace that
 //! end each object:
 //!
 //! ```text
@@ -16,9 +16,9 @@ ghost use Rattle.trace_text.specs.Json.{object, object_line, value_text};
 ghost use Rattle.trace_text.specs.ItemLines.{item_object};
 ghost use Rattle.trace_text.specs.proving.OpenItems.{open_object};
 
-use crate::bytes::Bytes;
+use crate::bytes::HexBytes;
 use crate::item_style::Numbering;
-use crate::name_parts::{ResponseCode, Sender, Service};
+use crate::name_parts::{ResponseCode, Sender, ServiceName};
 use crate::numbers::Number;
 use text_parts::{Part, say};
 use trace_io::TextSink;
@@ -79,7 +79,7 @@ impl<'a> Part for OpenObject<'a> {
 
     #[inline(never)]
     fn say<S: TextSink>(self, out: &mut S) {
-        let front = Front {
+        let front = ObjectFront {
             number: self.number,
             numbering: self.numbering,
         };
@@ -89,12 +89,12 @@ impl<'a> Part for OpenObject<'a> {
 
 /// The front of the object, with the number where it is shown, up to the word of its kind.
 #[derive(Clone, Copy)]
-struct Front {
+struct ObjectFront {
     number: u64,
     numbering: Numbering,
 }
 
-impl Part for Front {
+impl Part for ObjectFront {
     ghost use Rattle.trace_text.specs.proving.OpenItems.{front_of_item};
 
     ghost text = { λ front. front_of_item front.numbering front.number };
@@ -125,9 +125,9 @@ impl<'a> Part for OpenItem<'a> {
                 out,
                 (
                     "exchange\",\"service\":\"",
-                    Service(sid(request)),
+                    ServiceName(sid(request)),
                     "\",\"request\":\"",
-                    Bytes(request),
+                    HexBytes(request),
                     OpenOutcome { request, answer },
                 ),
             ),
@@ -137,7 +137,7 @@ impl<'a> Part for OpenItem<'a> {
                     "stray\",\"direction\":\"",
                     Sender(dir),
                     "\",\"message\":\"",
-                    Bytes(bytes),
+                    HexBytes(bytes),
                 ),
             ),
         }
@@ -186,13 +186,13 @@ impl<'a> Part for OpenAnswer<'a> {
                     "\",\"outcome\":\"negative\",\"code\":\"",
                     ResponseCode(response_code(reply)),
                     "\",\"answer\":\"",
-                    Bytes(reply),
+                    HexBytes(reply),
                 ),
             );
         } else {
             say(
                 out,
-                ("\",\"outcome\":\"positive\",\"answer\":\"", Bytes(reply)),
+                ("\",\"outcome\":\"positive\",\"answer\":\"", HexBytes(reply)),
             );
         }
     }

@@ -30,15 +30,15 @@ mod remark_lines;
 mod remark_objects;
 pub mod values;
 
-pub use bytes::{Byte, Bytes, Verbatim};
+pub use bytes::{Byte, HexBytes, Verbatim};
 pub use counts::say_counts;
 pub use item_lines::{say_item_line, say_items, say_worded_line};
 pub use item_objects::say_item_object;
 pub use item_style::{ItemStyle, Numbering};
 pub use name_parts::{
-    DropReason, EndCause, Identifier, LayoutFault, ResponseCode, Sender, Service,
+    DropReason, EndCause, Identifier, LayoutFault, ResponseCode, Sender, ServiceName,
 };
 pub use notation::Notation;
-pub use numbers::{HexadecimalDigit, Length, Number, Place, SixDecimals, Stamp, ThreeDecimals};
+pub use numbers::{HexadecimalDigit, Length, Number, Ordinal, SixDecimals, Stamp, ThreeDecimals};
 pub use remark::Remark;
 pub use remark_lines::say_remark;

@@ -12,9 +12,9 @@ use uds_message::{code_name, service_name};
 
 /// The name of a service (ISO 14229-1), or `service_` and two digits where it has none.
 #[derive(Clone, Copy)]
-pub struct Service(pub u8);
+pub struct ServiceName(pub u8);
 
-impl Part for Service {
+impl Part for ServiceName {
     ghost use Rattle.trace_text.specs.Words.{service_text};
 
     ghost text = { λ service. service_text service.0 };

@@ -83,9 +83,9 @@ fn say_long_number<S: TextSink>(out: &mut S, number: u64)
 
 /// The number of what is at a place, counted from 1.
 #[derive(Clone, Copy)]
-pub struct Place(pub usize);
+pub struct Ordinal(pub usize);
 
-impl Part for Place {
+impl Part for Ordinal {
     ghost use Rattle.std.specs.Prelude.{◌+◌};
     ghost use Rattle.std.specs.Fmt.{decimal};
 

@@ -44,7 +44,7 @@ fn say_remark_line<S: TextSink>(remark: Remark, out: &mut S)
 fn say_ended_line<S: TextSink>(line: u64, ended: Ended, out: &mut S)
     ensures { S.says out.old (remark_line (told.Ended line ended)) out.new }
 {
-    let reception = Reception {
+    let reception = ReceptionWords {
         dir: ended.dir,
         line: ended.begun_line,
         len: ended.len,
@@ -87,18 +87,21 @@ fn say_dropped_line<S: TextSink>(line: u64, dir: Dir, reason: Reason, out: &mut 
 fn say_unfinished_line<S: TextSink>(dir: Dir, line: u64, len: u32, out: &mut S)
     ensures { S.says out.old (remark_line (told.Unfinished dir line len)) out.new }
 {
-    say(out, ("end: ", Reception { dir, line, len }, "unfinished\n"));
+    say(
+        out,
+        ("end: ", ReceptionWords { dir, line, len }, "unfinished\n"),
+    );
 }
 
 /// A reception: its direction, the line of its first frame, and the bytes that this announced.
 #[derive(Clone, Copy)]
-struct Reception {
+struct ReceptionWords {
     dir: Dir,
     line: u64,
     len: u32,
 }
 
-impl Part for Reception {
+impl Part for ReceptionWords {
     ghost use Rattle.trace_text.specs.RemarkLines.{reception_text};
 
     ghost text = { λ reception. reception_text reception.dir reception.line reception.len };

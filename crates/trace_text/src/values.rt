@@ -6,7 +6,7 @@ ghost use Rattle.trace_text.specs.Words.{direction_text};
 
 use crate::bytes::Byte;
 use crate::name_parts::Sender;
-use crate::numbers::{Number, Place};
+use crate::numbers::{Number, Ordinal};
 use direction::Dir;
 use text_parts::say;
 use trace_io::TextSink;
@@ -32,7 +32,7 @@ pub fn say_number<S: TextSink>(out: &mut S, number: u64)
 pub fn say_place<S: TextSink>(out: &mut S, place: usize)
     ensures { S.says out.old (decimal (place + 1)) out.new }
 {
-    say(out, Place(place));
+    say(out, Ordinal(place));
 }
 
 /// Says the two digits of a byte.

@@ -14,7 +14,7 @@ impl Debug for Pairing {
         let meaning = &self.pairing.meaning;
         f.debug_struct("Pairing")
             .field("alloc", meaning.items.allocator())
-            .field("items", &Items { of: meaning })
+            .field("items", &ShownItems { of: meaning })
             .field("open_sid", &self.judge.open_sid)
             .field("last", &last_exchange(meaning))
             .finish()
@@ -34,7 +34,7 @@ impl Debug for Orderer {
 impl Debug for Meaning {
     fn fmt<W: Write>(&self, f: &mut Formatter<W>) -> fmt::Result {
         f.debug_struct("Meaning")
-            .field("items", &Items { of: self })
+            .field("items", &ShownItems { of: self })
             .finish()
     }
 }
@@ -43,18 +43,18 @@ impl Debug for HeldMessages {
     fn fmt<W: Write>(&self, f: &mut Formatter<W>) -> fmt::Result {
         f.debug_struct("Held")
             .field("extents", &Extents { of: self })
-            .field("bytes", &Bytes { of: self })
+            .field("bytes", &ShownBytes { of: self })
             .finish()
     }
 }
 
 /// The items of a meaning.
 #[derive(Drop)]
-struct Items<'a> {
+struct ShownItems<'a> {
     of: &'a Meaning,
 }
 
-impl<'a> Debug for Items<'a> {
+impl<'a> Debug for ShownItems<'a> {
     fn fmt<W: Write>(&self, f: &mut Formatter<W>) -> fmt::Result {
         let mut list = f.debug_list();
         for i in 0..self.of.len() {
@@ -107,11 +107,11 @@ struct Extent {
 
 /// The bytes of all messages.
 #[derive(Drop)]
-struct Bytes<'a> {
+struct ShownBytes<'a> {
     of: &'a HeldMessages,
 }
 
-impl<'a> Debug for Bytes<'a> {
+impl<'a> Debug for ShownBytes<'a> {
     fn fmt<W: Write>(&self, f: &mut Formatter<W>) -> fmt::Result {
         let held = self.of;
         let each = held.places.as_slice();

@@ -4,7 +4,7 @@ use Rattle.std.specs.Prelude.{OnOk, string_bytes}
 use Rattle.isotp_receive.specs.declared.TheConstants.{MESSAGE_LIMIT}
 use Rattle.clap.specs.Walk.{Text}
 use Rattle.trace_log.specs.Settings.{Settings}
-use Rattle.trace_canon.specs.declared.comparing.Comparison.TheVariants.{Same}
+use Rattle.trace_canon.specs.declared.comparer.Comparison.TheVariants.{Same}
 use Rattle.trace_log.specs.declared.fault.CompareFault.{CompareFault}
 use Rattle.trace_log.specs.declared.fault.Fault.{Fault}
 use Rattle.trace_log.specs.declared.summary.Summary.{Summary}

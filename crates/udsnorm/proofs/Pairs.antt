@@ -1,6 +1,7 @@
 -- What a run over two logs comes to, by what the engine answered and what became of its text.
 use Rattle.std.proofs.Common.{◌≡◌, ◌≢◌, ◌≤◌, ◌<◌, ◌+◌, ◌⊎◌, ◌↔◌, inl, inr, ℕ, Bool, true, false, true≢false, List, [], Result, Ok, Err, append-nil, arith, ap, refl, sym, subst, ◌∙◌}
 use Rattle.std.specs.Prelude.{◌&&◌, not, is_ok, IfErr, if◌then◌else◌}
+use Rattle.trace_canon.proofs.Promises.{collects_where_items}
 use Rattle.trace_canon.specs.Compared.{Compares, fault_in}
 use Rattle.trace_difference.specs.Written.{difference_text, written_rows}
 use Rattle.trace_log.specs.Devices.{ReadFrom}
@@ -11,9 +12,9 @@ use Rattle.uds_exchange.specs.Meaning.{ItemValue}
 use Rattle.trace_log.specs.Failing.{FailedIf}
 use Rattle.trace_run.specs.Printed.{Prints}
 use Rattle.trace_log.specs.Settings.{Settings}
-use Rattle.trace_canon.specs.declared.comparing.Compared.{Compared}
-use Rattle.trace_canon.specs.declared.comparing.Comparison.{Comparison}
-use Rattle.trace_canon.specs.declared.comparing.Comparison.TheVariants.{Same, Different}
+use Rattle.trace_canon.specs.declared.comparer.Compared.{Compared}
+use Rattle.trace_canon.specs.declared.comparer.Comparison.{Comparison}
+use Rattle.trace_canon.specs.declared.comparer.Comparison.TheVariants.{Same, Different}
 use Rattle.trace_log.specs.declared.fault.CompareFault.{CompareFault}
 use Rattle.trace_log.specs.declared.fault.CompareFault.TheVariants.{Left, Right}
 use Rattle.trace_log.specs.declared.fault.Fault.{Fault}
@@ -22,14 +23,15 @@ use Rattle.trace_io.specs.Written.{HasFront}
 use Rattle.trace_io.specs.declared.device.Source.{Ghosts as SourceGhosts}
 use Rattle.trace_io.specs.declared.device.Target.{Ghosts as TargetGhosts}
 use Rattle.trace_report.specs.Kept.{KeepsTwo, TwoValue}
-use Rattle.trace_report.specs.PairPage.{pair_page, pair_title}
-use Rattle.udsnorm.specs.Commands.{ComparesPair, PagesPair, TextOfCompared, has_text, pair_of}
+use Rattle.trace_pair.specs.Page.{pair_page}
+use Rattle.trace_pair.specs.Titles.{title_for}
+use Rattle.udsnorm.specs.Commands.{ComparesPair, NeedsMemoryForDifference, PagesPair, TextOfCompared, has_text, pair_of}
 use Rattle.udsnorm.specs.Ending.{has_unclean, status_of_comparison, status_of_run_of_two}
 use Rattle.udsnorm.specs.Status.{status_of}
 use Rattle.udsnorm.specs.Telling.{WroteText}
 use Rattle.udsnorm.specs.proving.Flushed.{FlushedIf}
 use Rattle.trace_run.specs.Script.{GlimpseValue}
-use Rattle.udsnorm.specs.proving.Pairs.{IsAnswered, answer_held, answer_of, cause_in, text_of_answer}
+use Rattle.udsnorm.specs.proving.Pairs.{HasItems, answer_held, answer_of, cause_in, text_of_answer}
 use Rattle.udsnorm.specs.declared.pair_jobs.PairAnswer.{PairAnswer}
 use Rattle.udsnorm.specs.declared.pair_jobs.PairJob.{PairJob}
 use Rattle.udsnorm.specs.declared.pair_jobs.PairJob.TheVariants as pair_job
@@ -44,10 +46,17 @@ compared_pair text strict limit settings one other (Ok compared) compares = (com
 compared_pair text strict limit settings one other (Err why) compares = (compares, refl)
 
 -- where both logs were accepted, memory may be refused that their difference needs
-pub refused_pair : (text : TextOfCompared) (strict : Bool) (limit : ℕ) (settings : Settings) (one other : List ℕ) (answer : Result Compared CompareFault) → IsAnswered answer
+pub refused_pair : (text : TextOfCompared) (strict : Bool) (limit : ℕ) (settings : Settings) (one other : List ℕ) (answer : Result Compared CompareFault) → HasItems answer
     → Compares limit settings one other answer → ComparesPair text strict limit settings one other (Err (Right fault.Memory)) []
-refused_pair text strict limit settings one other (Ok compared) accepted compares = (((compared.left, compares.0), tt), refl)
-refused_pair text strict limit settings one other (Err why) accepted compares = absurd accepted
+refused_pair text strict limit settings one other (Ok compared) some compares = (((compared.left, compares.0), tt), refl)
+refused_pair text strict limit settings one other (Err why) some compares = absurd some
+
+-- and the left one means an item then, or the right one needs memory
+pub needed_for_difference : (limit : ℕ) (settings : Settings) (one other : List ℕ) (answer : Result Compared CompareFault) → HasItems answer → Compares limit settings one other answer
+    → NeedsMemoryForDifference limit settings one other
+needed_for_difference limit settings one other (Ok compared) (inl some) compares = inl (compared.left.meaning, compares.0.means, some)
+needed_for_difference limit settings one other (Ok compared) (inr some) compares = inr (collects_where_items limit settings other compared.right.meaning compares.1.means some)
+needed_for_difference limit settings one other (Err why) some compares = absurd some
 
 fault_told : (one other : CompareFault) → ◌≡◌ {A = Result PairAnswer CompareFault} (Err one) (Err other) → one ≡ other
 fault_told one other is = cc
@@ -94,7 +103,7 @@ read_told source why max_bytes answer told before after is read =
 -- two logs that are held, without what they say, and their page
 pub pages_pair : (style left_name right_name : List ℕ) (left_seen right_seen : GlimpseValue) (strict : Bool) (limit : ℕ) (settings : Settings) (one other : List ℕ) (answer : Result TwoValue CompareFault) → KeepsTwo limit settings one other answer
     → PagesPair left_name right_name left_seen right_seen strict limit settings one other (answer_held answer)
-    (pair_page (pair_title style left_name right_name settings) answer (cause_in answer settings.max_bytes left_seen right_seen))
+    (pair_page (title_for style left_name right_name settings) answer (cause_in answer settings.max_bytes left_seen right_seen))
 pages_pair style left_name right_name left_seen right_seen strict limit settings one other (Ok held) holds = (style, held, holds, refl, refl)
 pages_pair style left_name right_name left_seen right_seen strict limit settings one other (Err why) holds = (style, holds, refl)
 

@@ -3,7 +3,7 @@ use Rattle.std.specs.Prelude.{◌≡◌, ℕ, ◌+◌, ◌⊎◌, Bool, List, []
 use Rattle.isotp_receive.specs.declared.TheConstants.{MESSAGE_LIMIT}
 use Rattle.clap.specs.Walk.{Text}
 use Rattle.trace_log.specs.Settings.{Settings}
-use Rattle.trace_canon.specs.declared.comparing.Comparison.TheVariants.{Same}
+use Rattle.trace_canon.specs.declared.comparer.Comparison.TheVariants.{Same}
 use Rattle.trace_log.specs.declared.fault.CompareFault.{CompareFault}
 use Rattle.trace_log.specs.declared.fault.CompareFault.TheVariants.{Left, Right}
 use Rattle.trace_log.specs.declared.fault.Fault.{Fault}

@@ -13,18 +13,18 @@ use Rattle.trace_canon.specs.Compared.{Compares, fault_in}
 use Rattle.trace_canon.specs.ComparisonText.{comparison_text}
 use Rattle.trace_log.specs.Devices.{AgreesWith, bytes_given, ReadFrom, WroteTo}
 use Rattle.trace_canon.specs.ExplainScript.{explain_script}
-use Rattle.trace_canon.specs.Finding.{Finds, NeedsMemoryToFind, RanToFind}
+use Rattle.trace_canon.specs.Finding.{Finds, RanToFind}
+use Rattle.trace_canon.specs.MemoryNeeded.{CompletesKept, NeedsMemoryToCollect, NeedsMemoryToFind, NeedsMemoryToOrder}
 use Rattle.trace_text.specs.ItemLines.{list_text}
 use Rattle.trace_canon.specs.ItemText.{RanOverItems, TextOfItems, WritesItems}
-use Rattle.trace_canon.specs.MessageLines.{messages_script}
+use Rattle.trace_canon.specs.MessagesScript.{messages_script}
 use Rattle.trace_log.specs.Needing.{HasFrame, IsKeptForMessage, NeedsMemoryToReceive}
-use Rattle.trace_canon.specs.MemoryNeeded.{CompletesKept, NeedsMemoryToCollect, NeedsMemoryToOrder}
 use Rattle.trace_log.specs.Refusal.{HasNoBadPlaceWithin, IsNotRefusedWithin}
 use Rattle.trace_log.specs.Settings.{Settings}
 use Rattle.trace_run.specs.Script.{GlimpseValue, Script, RefusalText, answers_counts, command, needs_none, says_no_refusal}
 use Rattle.trace_run.specs.Ran.{AnswersAndWrites, RanLenient, WritesSaidEagerly}
-use Rattle.trace_canon.specs.WatchScript.{watching_script}
-use Rattle.trace_canon.specs.declared.comparing.Compared.{Compared}
+use Rattle.trace_canon.specs.WatchScript.{watch_script}
+use Rattle.trace_canon.specs.declared.comparer.Compared.{Compared}
 use Rattle.trace_log.specs.declared.fault.CompareFault.{CompareFault}
 use Rattle.trace_log.specs.declared.fault.Fault.{Fault}
 use Rattle.trace_log.specs.declared.fault.Fault.TheVariants.{Memory, Read, Write}
@@ -36,9 +36,12 @@ use Rattle.trace_io.specs.declared.device.Source.{Ghosts as SourceGhosts}
 use Rattle.trace_io.specs.declared.device.Target.{Ghosts as TargetGhosts}
 use Rattle.trace_difference.specs.Written.{difference_text}
 use Rattle.trace_report.specs.Front.{page_title}
-use Rattle.trace_report.specs.Kept.{HasOwnFrame, KeepsTwo, TwoValue, comparison_in}
+use Rattle.trace_report.specs.Kept.{HasOwnFrame, KeepsTwo, TwoValue}
 use Rattle.trace_report.specs.Page.{refused_text, report_script}
-use Rattle.trace_report.specs.PairPage.{cause_of_pair, held_page, pair_page, pair_title}
+use Rattle.trace_pair.specs.Compared.{comparison_in}
+use Rattle.trace_pair.specs.MemoryNeeded.{MeansItem, NeedsMemoryToAlign}
+use Rattle.trace_pair.specs.Page.{cause_of_pair, page_of, pair_page}
+use Rattle.trace_pair.specs.Titles.{title_for}
 use Rattle.udsnorm.specs.Ending.{has_unclean}
 use Rattle.udsnorm.specs.Status.{is_refusal}
 use Rattle.udsnorm.specs.Values.{comparison_style_in, notation_in, style_in}
@@ -216,7 +219,7 @@ RanBy source target (runs_in_style script refusal) settings = RanAny source targ
 abbrev pub engine_of : Job → List ℕ → GlimpseValue → Engine
 engine_of job.Normalise name seen = normalises
 engine_of (job.List style) name seen = writes (list_text style)
-engine_of (job.Watch style) name seen = runs (watching_script style) CompletesKept
+engine_of (job.Watch style) name seen = runs (watch_script style) CompletesKept
 engine_of (job.Explain notation) name seen = runs (explain_script notation) (λ limit. needs_none)
 engine_of (job.Messages notation) name seen = runs (messages_script notation) (λ limit. needs_none)
 engine_of job.Report name seen =
@@ -255,12 +258,12 @@ right_file (pair_job.Diff notation) = codes "B"
 right_file pair_job.Report = codes "OTHER"
 
 -- What is known of a call that reads two logs and writes a text: what it answers, where they have to be clean or not,
--- and the text; for which log it may be refused memory; and that nothing refuses a log for it among so many of its
--- bytes.
+-- and the text; for which first log it may be refused memory, and for which of both this may be told of the second
+-- one; and that nothing refuses a log for it among so many of its bytes.
 pub record PairEngine : Type 1 where
   pub answers : Bool → ℕ → Settings → List ℕ → List ℕ → Result PairAnswer CompareFault → List ℕ → Type 0
   pub left_needs : ℕ → Settings → List ℕ → Type 0
-  pub right_needs : ℕ → Settings → List ℕ → Type 0
+  pub right_needs : ℕ → Settings → List ℕ → List ℕ → Type 0
   pub unrefused : ℕ → Settings → List ℕ → ℕ → Type 0
 
 -- what a comparison answers, without what the logs mean
@@ -294,10 +297,10 @@ pair_held held = record { comparison = comparison_in held; left = held.left.summ
 abbrev pub PagesPair : List ℕ → List ℕ → GlimpseValue → GlimpseValue → Bool → ℕ → Settings → List ℕ → List ℕ → Result PairAnswer CompareFault → List ℕ → Type 0
 PagesPair left_name right_name left_seen right_seen strict limit settings one other (Ok pair) text =
     (style : List ℕ) × (held : TwoValue) × KeepsTwo limit settings one other (Ok held) × (pair ≡ pair_held held)
-    × (text ≡ held_page (pair_title style left_name right_name settings) held)
+    × (text ≡ page_of (title_for style left_name right_name settings) held.left held.right)
 PagesPair left_name right_name left_seen right_seen strict limit settings one other (Err fault) text =
     (style : List ℕ) × KeepsTwo limit settings one other (Err fault)
-    × (text ≡ pair_page (pair_title style left_name right_name settings) (Err fault) (cause_of_pair fault settings.max_bytes left_seen right_seen))
+    × (text ≡ pair_page (title_for style left_name right_name settings) (Err fault) (cause_of_pair fault settings.max_bytes left_seen right_seen))
 
 -- the job has a text of this answer: a comparison of logs of which each is clean that has to be; a page of all logs but
 -- those of which a device failed or memory was refused
@@ -309,14 +312,25 @@ has_text (pair_job.Diff notation) strict (Err fault) = false
 has_text pair_job.Report strict (Ok pair) = true
 has_text pair_job.Report strict (Err fault) = is_refusal (fault_in fault)
 
+-- The left log means an item, or the right one needs memory to collect its items, as it does where it means one: what stands
+-- beside what is of the items of both.
+abbrev pub NeedsMemoryForDifference : ℕ → Settings → List ℕ → List ℕ → Type 0
+NeedsMemoryForDifference limit settings one other = MeansItem limit settings one ⊎ NeedsMemoryToCollect limit settings other
+
 -- the engine that does this job over two logs, which have these names in its text, and of whose sources this is seen;
 -- where memory is refused to the difference of two accepted logs, that is told of the right one
 abbrev pub engine_of_pair : PairJob → List ℕ → List ℕ → GlimpseValue → GlimpseValue → PairEngine
-engine_of_pair (pair_job.Compare style) left_name right_name left_seen right_seen = record { answers = ComparesPair (comparison_text style); left_needs = NeedsMemoryToCollect; right_needs = NeedsMemoryToCollect; unrefused = IsNotRefusedWithin }
+engine_of_pair (pair_job.Compare style) left_name right_name left_seen right_seen =
+    record { answers = ComparesPair (comparison_text style); left_needs = NeedsMemoryToCollect; right_needs = λ limit settings one. NeedsMemoryToCollect limit settings; unrefused = IsNotRefusedWithin }
 engine_of_pair (pair_job.Diff notation) left_name right_name left_seen right_seen =
-    record { answers = ComparesPair (text_of_difference notation left_name right_name); left_needs = NeedsMemoryToCollect; right_needs = λ limit settings log. ⊤; unrefused = IsNotRefusedWithin }
+    record { answers = ComparesPair (text_of_difference notation left_name right_name); left_needs = NeedsMemoryToCollect; right_needs = NeedsMemoryForDifference; unrefused = IsNotRefusedWithin }
 engine_of_pair pair_job.Report left_name right_name left_seen right_seen =
-    record { answers = PagesPair left_name right_name left_seen right_seen; left_needs = λ limit. HasOwnFrame; right_needs = λ limit. HasOwnFrame; unrefused = λ limit settings. HasNoBadPlaceWithin }
+    record {
+      answers = PagesPair left_name right_name left_seen right_seen;
+      left_needs = λ limit. HasOwnFrame;
+      right_needs = NeedsMemoryToAlign;
+      unrefused = λ limit settings. HasNoBadPlaceWithin;
+    }
 
 -- what it answers, and what it writes
 abbrev pub PairEngineAnswers : PairJob → List ℕ → List ℕ → GlimpseValue → GlimpseValue → Bool → ℕ → Settings → List ℕ → List ℕ → Result PairAnswer CompareFault → List ℕ → Type 0
@@ -326,8 +340,8 @@ PairEngineAnswers job left_name right_name left_seen right_seen = (engine_of_pai
 abbrev pub PairEngineNeedsForLeft : PairJob → List ℕ → List ℕ → GlimpseValue → GlimpseValue → ℕ → Settings → List ℕ → Type 0
 PairEngineNeedsForLeft job left_name right_name left_seen right_seen = (engine_of_pair job left_name right_name left_seen right_seen).left_needs
 
--- for which right one
-abbrev pub PairEngineNeedsForRight : PairJob → List ℕ → List ℕ → GlimpseValue → GlimpseValue → ℕ → Settings → List ℕ → Type 0
+-- and for which of both this may be told of the right one
+abbrev pub PairEngineNeedsForRight : PairJob → List ℕ → List ℕ → GlimpseValue → GlimpseValue → ℕ → Settings → List ℕ → List ℕ → Type 0
 PairEngineNeedsForRight job left_name right_name left_seen right_seen = (engine_of_pair job left_name right_name left_seen right_seen).right_needs
 
 -- how near to what refuses a log it stops reading

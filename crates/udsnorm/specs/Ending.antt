@@ -2,8 +2,8 @@
 use Rattle.std.specs.Prelude.{◌≡◌, ℕ, ◌+◌, ◌&&◌, not, nat_lt, ◌⊎◌, Bool, true, false, List, length, Option, Some, None, Result, Ok, Err, if◌then◌else◌}
 use Rattle.trace_canon.specs.Compared.{fault_in}
 use Rattle.trace_log.specs.Summing.{is_clean}
-use Rattle.trace_canon.specs.declared.comparing.Comparison.{Comparison}
-use Rattle.trace_canon.specs.declared.comparing.Comparison.TheVariants.{Same, Different}
+use Rattle.trace_canon.specs.declared.comparer.Comparison.{Comparison}
+use Rattle.trace_canon.specs.declared.comparer.Comparison.TheVariants.{Same, Different}
 use Rattle.trace_log.specs.declared.fault.CompareFault.{CompareFault}
 use Rattle.trace_log.specs.declared.fault.Fault.{Fault}
 use Rattle.trace_log.specs.declared.fault.Fault.TheVariants.{Write}

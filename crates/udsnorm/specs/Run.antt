@@ -63,11 +63,11 @@ pub record RanTwo {A B W E : Type 0} (left : SourceGhosts A) (right : SourceGhos
       → PairEngineAnswers job left_name right_name (glimpse_of left one_now) (glimpse_of right other_now) strict limit settings a b answer text
   -- after a fault of the left log nothing of the right one was read
   pub unread : (fault : Fault) → answer ≡ Err (Left fault) → other_now ≡ other
-  -- memory was refused only for a log that needs it, or to the difference of both
+  -- memory was refused only for a log that needs it, or to the difference of both, where one means an item
   pub left_memory : (a : List ℕ) → AgreesWith left one one_now a → answer ≡ Err (Left Memory)
       → PairEngineNeedsForLeft job left_name right_name (glimpse_of left one_now) (glimpse_of right other_now) limit settings a
-  pub right_memory : (b : List ℕ) → AgreesWith right other other_now b → answer ≡ Err (Right Memory)
-      → PairEngineNeedsForRight job left_name right_name (glimpse_of left one_now) (glimpse_of right other_now) limit settings b
+  pub right_memory : (a b : List ℕ) → AgreesWith left one one_now a → AgreesWith right other other_now b → answer ≡ Err (Right Memory)
+      → PairEngineNeedsForRight job left_name right_name (glimpse_of left one_now) (glimpse_of right other_now) limit settings a b
   -- reading stopped within one piece of what refuses a log
   pub left_near : (a : List ℕ) → AgreesWith left one one_now a
       → PairEngineReads job left_name right_name (glimpse_of left one_now) (glimpse_of right other_now) limit settings a (bytes_given left one one_now) (left.failures one) (left.failures one_now)

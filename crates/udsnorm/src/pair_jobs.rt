@@ -1,17 +1,18 @@
 //! What the program does with two logs: the engine of each job, what it answers, and its text.
 
-ghost use Rattle.std.specs.Prelude.{◌≡◌, ◌≢◌, ◌-◌, ℕ, List, [], Ok, Err, IfOk, IfErr, false, true};
+ghost use Rattle.std.specs.Prelude.{◌≡◌, ◌≢◌, ◌-◌, ◌⊎◌, ℕ, List, [], Ok, Err, IfOk, IfErr, false, true};
 ghost use Rattle.isotp_receive.specs.declared.TheConstants.{MESSAGE_LIMIT};
 ghost use Rattle.trace_canon.specs.Compared.{fault_in};
 ghost use Rattle.trace_canon.specs.ComparisonText.{comparison_text};
 ghost use Rattle.trace_log.specs.Devices.{AgreesWith, bytes_given, ReadFrom, HasLowCounts};
 ghost use Rattle.trace_log.specs.declared.fault.Fault.{Fault as FaultValue};
 ghost use Rattle.trace_io.specs.Counted.{IsLowCount};
-ghost use Rattle.trace_report.specs.PairPage.{pair_page, pair_title};
-ghost use Rattle.udsnorm.specs.Commands.{PairEngineAnswers, PairEngineNeedsForLeft, PairEngineNeedsForRight, PairEngineReads, has_text, left_file, pair_of, right_file, text_of_difference};
+ghost use Rattle.trace_pair.specs.Page.{pair_page};
+ghost use Rattle.trace_pair.specs.Titles.{title_for};
+ghost use Rattle.udsnorm.specs.Commands.{PairEngineAnswers, PairEngineNeedsForLeft, PairEngineNeedsForRight, PairEngineReads, has_text, left_file, pair_held, pair_of, right_file, text_of_difference};
 ghost use Rattle.udsnorm.specs.Ending.{has_unclean};
 ghost use Rattle.udsnorm.specs.Telling.{WroteText};
-ghost use Rattle.udsnorm.specs.proving.Pairs.{IsAnswered, answer_held, answer_of, cause_in, text_of_answer};
+ghost use Rattle.udsnorm.specs.proving.Pairs.{HasItems, answer_held, answer_of, cause_in, text_of_answer};
 ghost use Rattle.trace_report.specs.Causes as Causes;
 ghost use Rattle.trace_run.specs.Script.{glimpse_of};
 
@@ -19,12 +20,11 @@ use crate::commands::{LEFT, LOG, OTHER, RIGHT};
 use crate::tell::is_refusal;
 use std::alloc::{AllocError, Global};
 use trace_canon::{Compared, Comparison, ComparisonStyle, compare, write_comparison};
-use trace_difference::{Side, write_difference};
+use trace_difference::{NamedSession, write_difference};
 use trace_io::{Source, Target};
 use trace_log::{CompareFault, Config, Fault, Summary};
-use trace_report::{
-    PairTitle, RefusalCause, Two, cause_of, keep_two, report_style, write_pair_page,
-};
+use trace_pair::{Aligned, Title, align_two, pair_style, write_pair_page};
+use trace_report::{RefusalCause, cause_of};
 use trace_run::Glimpse;
 use trace_text::Notation;
 use uds_difference::Difference;
@@ -140,11 +140,12 @@ pub(crate) fn do_pair_job<A: Source, B: Source, W: Target>(
     // After a fault of the left log nothing of the right one was read.
     ensures unread { (fault : FaultValue) → result.answer ≡ Err (CompareFault.Left fault) → right.new ≡ right.old }
 
-    // Memory is refused only for a log that needs it, or to the difference of both, which is told of the right one.
+    // Memory is refused only for a log that needs it, or to the difference of both, where one means an item: that is told
+    // of the right one.
     ensures left_memory { (one : List ℕ) → AgreesWith A.Source left.old left.new one
         → result.answer ≡ Err (CompareFault.Left Fault.Memory) → PairEngineNeedsForLeft job left_name.now right_name.now (glimpse_of A.Source left.new) (glimpse_of B.Source right.new) MESSAGE_LIMIT config.now one }
-    ensures right_memory { (other : List ℕ) → AgreesWith B.Source right.old right.new other
-        → result.answer ≡ Err (CompareFault.Right Fault.Memory) → PairEngineNeedsForRight job left_name.now right_name.now (glimpse_of A.Source left.new) (glimpse_of B.Source right.new) MESSAGE_LIMIT config.now other }
+    ensures right_memory { (one other : List ℕ) → AgreesWith A.Source left.old left.new one → AgreesWith B.Source right.old right.new other
+        → result.answer ≡ Err (CompareFault.Right Fault.Memory) → PairEngineNeedsForRight job left_name.now right_name.now (glimpse_of A.Source left.new) (glimpse_of B.Source right.new) MESSAGE_LIMIT config.now one other }
 
     // How near to what refuses a log it stops reading, and what it did with both.
     ensures left_near { (one : List ℕ) → AgreesWith A.Source left.old left.new one
@@ -179,7 +180,7 @@ pub(crate) fn do_pair_job<A: Source, B: Source, W: Target>(
             }
         }
         PairJob::Report => {
-            let answer = keep_two(alloc, config, left, right);
+            let answer = align_two(alloc, config, left, right);
             let cause = cause_in(&answer, config.max_bytes(), left, right);
             PairDone {
                 answer: answer_held(&answer),
@@ -231,7 +232,7 @@ fn write_answer<W: Target>(
 }
 
 /// Writes where two logs differ, which have these names, where each is clean that has to be. Answers whether that did not
-/// fail. Where memory is refused nothing is written.
+/// fail. Where memory is refused nothing is written, and one of both means an item.
 fn write_diff<W: Target>(
     alloc: Global,
     left_name: &str,
@@ -245,7 +246,7 @@ fn write_diff<W: Target>(
     ensures text { IfOk result (λ wrote. WroteText W.Target (text_of_answer strict (text_of_difference notation left_name.now right_name.now) answer.now) wrote out.old out.new) }
     ensures left_alone { has_text (PairJob.Diff notation) strict (answer_of answer.now) ≡ false → (result ≡ Ok true) × (out.new ≡ out.old) }
     ensures flushes { W.flushes out.new ≡ W.flushes out.old }
-    ensures answered { IfErr result (λ refused. IsAnswered answer.now) }
+    ensures answered { IfErr result (λ refused. HasItems answer.now) }
     ensures nothing { IfErr result (λ refused. WroteText W.Target [] true out.old out.new) }
     ensures unwritten { IfErr result (λ refused. out.new ≡ out.old) }
 {
@@ -269,14 +270,15 @@ fn write_differing<W: Target>(
     requires { IsLowCount (W.failures out.old) }
     ensures text { IfOk result (λ wrote. WroteText W.Target (text_of_difference notation left_name.now right_name.now compared.now) wrote out.old out.new) }
     ensures flushes { W.flushes out.new ≡ W.flushes out.old }
+    ensures items { IfErr result (λ refused. (compared.now.left.meaning ≢ []) ⊎ (compared.now.right.meaning ≢ [])) }
     ensures nothing { IfErr result (λ refused. WroteText W.Target [] true out.old out.new) }
     ensures unwritten { IfErr result (λ refused. out.new ≡ out.old) }
 {
-    let left = Side {
+    let left = NamedSession {
         name: left_name.as_bytes(),
         items: &compared.left.meaning,
     };
-    let right = Side {
+    let right = NamedSession {
         name: right_name.as_bytes(),
         items: &compared.right.meaning,
     };
@@ -285,22 +287,30 @@ fn write_differing<W: Target>(
 }
 
 /// An answer about two logs that are held, without what they say.
-fn answer_held(answer: &Result<Two, CompareFault>) -> Result<PairAnswer, CompareFault>
+fn answer_held(answer: &Result<Aligned, CompareFault>) -> Result<PairAnswer, CompareFault>
     ensures { result ≡ answer_held answer.now }
 {
     match answer {
-        Ok(two) => Ok(PairAnswer {
-            comparison: two.comparison(),
-            left: two.left().summary(),
-            right: two.right().summary(),
-        }),
+        Ok(aligned) => Ok(pair_held(aligned)),
         Err(fault) => Err(*fault),
+    }
+}
+
+/// What two logs that are held are to each other, without what they say.
+fn pair_held(aligned: &Aligned) -> PairAnswer
+    ensures { result ≡ pair_held aligned.now }
+{
+    let two = aligned.two();
+    PairAnswer {
+        comparison: aligned.comparison(),
+        left: two.left().summary(),
+        right: two.right().summary(),
     }
 }
 
 /// The cause of a refusal of one of two logs with this limit, by what is seen of both sources.
 fn cause_in<A: Source, B: Source>(
-    answer: &Result<Two, CompareFault>,
+    answer: &Result<Aligned, CompareFault>,
     most: u64,
     left: &A,
     right: &B,
@@ -330,17 +340,17 @@ fn write_page<W: Target>(
     left_name: &str,
     right_name: &str,
     config: &Config,
-    answer: &Result<Two, CompareFault>,
+    answer: &Result<Aligned, CompareFault>,
     cause: Option<RefusalCause>,
     out: &mut W,
 ) -> bool
     requires { IsLowCount (W.failures out.old) }
-    ensures text { (style : List ℕ) × WroteText W.Target (pair_page (pair_title style left_name.now right_name.now config.now) answer.now cause) result out.old out.new }
+    ensures text { (style : List ℕ) × WroteText W.Target (pair_page (title_for style left_name.now right_name.now config.now) answer.now cause) result out.old out.new }
     ensures left_alone { has_text PairJob.Report false (answer_held answer.now) ≡ false → (result ≡ true) × (out.new ≡ out.old) }
     ensures flushes { W.flushes out.new ≡ W.flushes out.old }
 {
-    let title = PairTitle {
-        style: report_style(),
+    let title = Title {
+        style: pair_style(),
         left: left_name.as_bytes(),
         right: right_name.as_bytes(),
         tester: config.tester(),

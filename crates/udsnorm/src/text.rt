@@ -19,7 +19,7 @@ pub(crate) fn line_of<P: Part>(part: P) -> Line
     requires { length (P.text part) ≤ LONGEST_LINE }
     ensures { result.items ≡ P.text part }
 {
-    let mut sink = LineSink { line: Line::new() };
+    let mut sink = BoundedLineSink { line: Line::new() };
     say(&mut sink, part);
     sink.line
 }
@@ -41,11 +41,11 @@ pub(crate) fn line_in<P: Part>(alloc: Global, part: P) -> Result<Vec<u8>, AllocE
 
 /// A line that is made without memory. What has no room there is left out.
 #[derive(Drop)]
-struct LineSink {
+struct BoundedLineSink {
     line: Line,
 }
 
-impl TextSink for LineSink {
+impl TextSink for BoundedLineSink {
     ghost use Rattle.udsnorm.specs.declared.text.TheConstants.{LONGEST_LINE};
     ghost use Rattle.udsnorm.specs.proving.Sinks.{TookWithin, took_nothing_within, took_onward_within};
 

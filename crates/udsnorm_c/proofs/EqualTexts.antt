@@ -6,8 +6,8 @@ use Rattle.can_log.specs.declared.frame.Id.{Id}
 use Rattle.isotp_receive.specs.declared.TheConstants.{MESSAGE_LIMIT}
 use Rattle.trace_canon.specs.Compared.{difference}
 use Rattle.trace_canon.specs.InMemory.{ComparesWithCounts, IsCanonicalLogWith, IsRefused, NeedsMemoryForCanonicalLog}
-use Rattle.trace_canon.specs.declared.comparing.Comparison.{Comparison}
-use Rattle.trace_canon.specs.declared.comparing.Comparison.TheVariants.{Same, Different}
+use Rattle.trace_canon.specs.declared.comparer.Comparison.{Comparison}
+use Rattle.trace_canon.specs.declared.comparer.Comparison.TheVariants.{Same, Different}
 use Rattle.trace_canon.specs.declared.in_memory.CountedComparison.{CountedComparison}
 use Rattle.trace_log.specs.Answers.{TellsOutcome}
 use Rattle.trace_log.specs.Laws.{HaveSameMeaning, IsMessageLimit, OutcomeIsOne}

@@ -6,8 +6,8 @@ use Rattle.isotp_receive.specs.declared.TheConstants.{MESSAGE_LIMIT}
 use Rattle.trace_canon.specs.Compared.{Compares}
 use Rattle.trace_canon.specs.InMemory.{ComparesWithCounts}
 use Rattle.trace_canon.specs.Sessions.{IsAcceptedWith}
-use Rattle.trace_canon.specs.declared.comparing.Compared.{Compared}
-use Rattle.trace_canon.specs.declared.comparing.Comparison.{Comparison}
+use Rattle.trace_canon.specs.declared.comparer.Compared.{Compared}
+use Rattle.trace_canon.specs.declared.comparer.Comparison.{Comparison}
 use Rattle.trace_canon.specs.declared.in_memory.CountedComparison.{CountedComparison}
 use Rattle.trace_log.specs.Laws.{CleanLogHasBothSides}
 use Rattle.trace_log.specs.Settings.{Settings}
@@ -15,9 +15,10 @@ use Rattle.trace_log.specs.Summing.{is_clean, summary_of}
 use Rattle.trace_log.specs.Trace.{trace}
 use Rattle.trace_log.specs.declared.fault.CompareFault.{CompareFault}
 use Rattle.trace_log.specs.declared.summary.Summary.{Summary}
-use Rattle.trace_report.specs.Kept.{KeepsOne, KeepsTwo, TwoValue, comparison_in}
-use Rattle.trace_report.specs.Laws.{AgreesWithCompare}
+use Rattle.trace_report.specs.Kept.{KeepsOne, KeepsTwo, TwoValue}
 use Rattle.trace_report.specs.Session.{SessionValue, session_of}
+use Rattle.trace_pair.specs.Compared.{comparison_in}
+use Rattle.trace_pair.specs.Laws.{AgreesWithCompare}
 use Rattle.trace_text.specs.declared.notation.Notation.{Notation}
 use Rattle.uds_exchange.specs.Meaning.{ItemValue}
 use Rattle.udsnorm_c.specs.declared.answer.UdsnormAnswer.{UdsnormAnswer}

@@ -8,8 +8,8 @@ use Rattle.trace_log.specs.declared.fault.ConfigFault.{ConfigFault}
 use Rattle.trace_log.specs.declared.fault.ConfigFault.TheVariants.{IdRange, SameId, LimitRange}
 use Rattle.trace_log.specs.declared.fault.Fault.{Fault}
 use Rattle.trace_log.specs.declared.fault.Fault.TheVariants.{BadLine, Oversize, LogLimit, OutputLimit, Read, Write, Memory}
-use Rattle.trace_report.specs.declared.in_memory.NoPairPage.{NoPairPage}
-use Rattle.trace_report.specs.declared.in_memory.NoPairPage.TheVariants.{OfLog, OfMemory}
+use Rattle.trace_pair.specs.declared.in_memory.NoPairPage.{NoPairPage}
+use Rattle.trace_pair.specs.declared.in_memory.NoPairPage.TheVariants.{OfLog, OfMemory}
 use Rattle.udsnorm_c.specs.declared.answer.UdsnormAnswer.{UdsnormAnswer}
 use Rattle.udsnorm_c.specs.Answered.{fault_answer, no_pair_answer, refusal_of, side_answer}
 

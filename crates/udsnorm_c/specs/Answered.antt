@@ -1,7 +1,7 @@
 -- What an exported call answers, in numbers, and what is then in the buffer of its caller.
 use Rattle.std.specs.Prelude.{◌≡◌, ℕ, ◌+◌, ◌&&◌, ◌||◌, Bool, true, false, List, length, nat_le, nat_lt, Option, Some, None, Result, Ok, Err, MatchResult, if◌then◌else◌}
-use Rattle.trace_canon.specs.declared.comparing.Comparison.{Comparison}
-use Rattle.trace_canon.specs.declared.comparing.Comparison.TheVariants.{Same, Different}
+use Rattle.trace_canon.specs.declared.comparer.Comparison.{Comparison}
+use Rattle.trace_canon.specs.declared.comparer.Comparison.TheVariants.{Same, Different}
 use Rattle.trace_canon.specs.declared.in_memory.CountedComparison.{CountedComparison}
 use Rattle.trace_canon.specs.declared.in_memory.CountedText.{CountedText}
 use Rattle.trace_log.specs.declared.fault.CompareFault.{CompareFault}
@@ -11,17 +11,18 @@ use Rattle.trace_log.specs.declared.fault.Fault.TheVariants.{BadLine, Oversize, 
 use Rattle.trace_log.specs.declared.fault.ConfigFault.{ConfigFault}
 use Rattle.trace_log.specs.declared.fault.ConfigFault.TheVariants.{IdRange, SameId, LimitRange}
 use Rattle.trace_log.specs.declared.summary.Summary.{Summary}
-use Rattle.trace_canon.specs.InMemory.{IsCanonicalLogWith, IsListWith, AreMessageLinesWith, IsExplanationWith, IsFindingWith, IsRefused, IsUnread, NeedsMemoryForCanonicalLog, NeedsMemoryForList, NeedsMemoryForMessageLines, NeedsMemoryForExplanation, NeedsMemoryForFinding, ComparesWithCounts}
+use Rattle.trace_canon.specs.InMemory.{IsCanonicalLogWith, IsListWith, AreMessageLinesWith, IsExplanationWith, IsFindingWith, IsRefused, IsUnread, NeedsMemoryForCanonicalLog, NeedsMemoryForList, NeedsMemoryForMessageLines, NeedsMemoryForExplanation, NeedsMemoryForCreditLines, ComparesWithCounts}
 use Rattle.trace_difference.specs.InMemory.{HasNoDifferenceText, IsDifferenceWith}
 use Rattle.trace_difference.specs.declared.in_memory.CountedDifference.{CountedDifference}
 use Rattle.trace_log.specs.Settings.{Settings, Configures}
 use Rattle.trace_log.specs.Summing.{is_clean}
 use Rattle.trace_report.specs.Front.{page_title}
-use Rattle.trace_report.specs.InMemory.{HasNoPairPage, IsPageWith, IsPairPageWith, NeedsMemoryForPage}
-use Rattle.trace_report.specs.PairPage.{pair_title}
-use Rattle.trace_report.specs.declared.in_memory.CountedPage.{CountedPage}
-use Rattle.trace_report.specs.declared.in_memory.NoPairPage.{NoPairPage}
-use Rattle.trace_report.specs.declared.in_memory.NoPairPage.TheVariants.{OfLog, OfMemory}
+use Rattle.trace_report.specs.InMemory.{IsPageWith, NeedsMemoryForPage}
+use Rattle.trace_pair.specs.InMemory.{HasNoPairPage, IsPairPageWith}
+use Rattle.trace_pair.specs.Titles.{title_for}
+use Rattle.trace_pair.specs.declared.in_memory.CountedPage.{CountedPage}
+use Rattle.trace_pair.specs.declared.in_memory.NoPairPage.{NoPairPage}
+use Rattle.trace_pair.specs.declared.in_memory.NoPairPage.TheVariants.{OfLog, OfMemory}
 use Rattle.trace_text.specs.declared.notation.Notation.{Notation}
 use Rattle.udsnorm_c.specs.declared.answer.UdsnormAnswer.{UdsnormAnswer}
 use Rattle.udsnorm_c.specs.Spelled.{identifier_of, list_style, notation_of, put_at_front}
@@ -193,7 +194,7 @@ ExplainAnswers limit tester unit max_bytes style log old new answer = UnderSetti
 -- the pairs of a log that can be read, or why it can't be; no identifier is asked for
 abbrev pub FindAnswers : ℕ → ℕ → ℕ → List ℕ → List ℕ → List ℕ → UdsnormAnswer → Type 0
 FindAnswers limit max_bytes style log old new answer = UnderSettings 0x7E0 0x7E8 max_bytes
-    (λ settings. Styled (notation_of style) (λ notation. TextAnswers (IsFindingWith notation settings log) (IsUnread (NeedsMemoryForFinding notation) limit settings log) old new answer) old new answer)
+    (λ settings. Styled (notation_of style) (λ notation. TextAnswers (IsFindingWith notation settings log) (IsUnread (NeedsMemoryForCreditLines notation) limit settings log) old new answer) old new answer)
     (AnswersRefusal old new answer)
 
 -- how two logs compare, or why one has no meaning
@@ -207,7 +208,7 @@ CompareAnswers limit tester unit max_bytes left right answer = UnderSettings tes
 abbrev pub DifferencePuts : ℕ → List ℕ → List ℕ → List ℕ → List ℕ → List ℕ → List ℕ → UdsnormAnswer → Settings → Notation → Type 0
 DifferencePuts limit left_name right_name left right old new answer settings notation =
     (told : Result CountedDifference CompareFault)
-    × MatchResult told (λ found. IsDifferenceWith notation left_name right_name limit settings left right found.text.items found.counted) (HasNoDifferenceText limit settings left right)
+    × MatchResult told (λ found. IsDifferenceWith notation left_name right_name limit settings left right found.text.items found.counted) (HasNoDifferenceText notation limit settings left right)
     × IsDifferencePut told old new answer
 
 -- the same in a style that is named by a number, or that there is no such style
@@ -234,7 +235,7 @@ ReportAnswers limit tester unit max_bytes name log old new answer =
 abbrev pub PairPagePuts : ℕ → List ℕ → List ℕ → List ℕ → List ℕ → List ℕ → List ℕ → UdsnormAnswer → Settings → Type 0
 PairPagePuts limit left_name right_name left right old new answer settings =
     (style : List ℕ) × (told : Result CountedPage NoPairPage)
-    × MatchResult told (λ page. IsPairPageWith (pair_title style left_name right_name settings) limit settings left right page.text.items page.counted) (HasNoPairPage limit settings left right)
+    × MatchResult told (λ page. IsPairPageWith (title_for style left_name right_name settings) limit settings left right page.text.items page.counted) (HasNoPairPage limit settings left right)
     × IsPagePut told old new answer
 
 -- such a page, or why there is none

@@ -6,7 +6,7 @@ ghost use Rattle.udsnorm_c.specs.Spelled.{status_words};
 use trace_canon::Comparison;
 use trace_canon::in_memory::CountedComparison;
 use trace_log::{CompareFault, ConfigFault, Fault, Summary};
-use trace_report::in_memory::NoPairPage;
+use trace_pair::in_memory::NoPairPage;
 
 /// What came of a call. Which fields say something depends on the status; the others are 0.
 #[repr(C)]

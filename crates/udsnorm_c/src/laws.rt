@@ -5,7 +5,7 @@ ghost use Rattle.udsnorm_c.specs.Laws.{CleanCompareIsRecorded, CleanDiffIsRecord
 ghost use Rattle.udsnorm_c.specs.Laws.{CompareTellsEqualTexts, DiffAgreesWithCompare, DiffIsEmptyOfEqualLogs, EqualMeaningsHaveEqualTexts, PairPageAgreesWithCompare, StatusesAreToldApart};
 
 use trace_log::laws::{clean_log_has_both_sides, outcome_is_one};
-use trace_report::laws::agrees_with_compare;
+use trace_pair::laws::agrees_with_compare;
 
 /// Two logs have equal meaning exactly where their canonical logs, as they were put, are equal; and so comparing tells.
 pub fn equal_meanings_have_equal_texts()

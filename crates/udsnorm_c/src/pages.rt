@@ -7,7 +7,9 @@ use crate::answer::UdsnormAnswer;
 use crate::room::{put, put_page};
 use std::alloc::Global;
 use trace_log::Config;
-use trace_report::in_memory::{page, pair_page};
+use trace_pair::in_memory::pair_page;
+use trace_pair::pair_style;
+use trace_report::in_memory::page;
 use trace_report::report_style;
 
 /// Puts the page of a log, which has this name there.
@@ -35,7 +37,7 @@ pub(crate) fn put_pair_report(
 ) -> UdsnormAnswer
     ensures { PairPagePuts MESSAGE_LIMIT left_name.now right_name.now left.now right.now out.old out.new result config.now }
 {
-    let style = report_style();
+    let style = pair_style();
     put_page(
         pair_page(alloc, config, style, left_name, right_name, left, right),
         out,

@@ -9,7 +9,7 @@ use crate::answer::{
 use trace_canon::in_memory::CountedText;
 use trace_difference::in_memory::CountedDifference;
 use trace_log::{CompareFault, Fault};
-use trace_report::in_memory::{CountedPage, NoPairPage};
+use trace_pair::in_memory::{CountedPage, NoPairPage};
 
 /// Puts what was told of a log at the front of a buffer, where it has room, and answers what is known of it.
 pub(crate) fn put(told: Result<CountedText, Fault>, out: &mut [u8]) -> UdsnormAnswer

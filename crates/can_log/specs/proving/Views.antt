@@ -4,18 +4,18 @@ use Rattle.std.specs.Borrow.{Bor}
 use Rattle.can_log.specs.declared.line.Body.{Body}
 use Rattle.can_log.specs.declared.line.Body.TheVariants as code
 use Rattle.can_log.specs.declared.line.Parts.{Parts}
-use Rattle.can_log.specs.declared.field.Number.{Number}
+use Rattle.can_log.specs.declared.field.NumberField.{NumberField}
 use Rattle.can_log.specs.declared.field.Stop.{Stop}
 use Rattle.can_log.specs.declared.field.Stop.TheVariants as stop
 use Rattle.can_log.specs.Line as line
 use Rattle.can_log.specs.proving.LineReader.{Stamp}
 
 -- the digits of a number
-abbrev pub digits_in : Number → List ℕ
+abbrev pub digits_in : NumberField → List ℕ
 digits_in number = number.digits.now
 
 -- those of a time
-abbrev pub stamp_of : Number × Number → Stamp
+abbrev pub stamp_of : NumberField × NumberField → Stamp
 stamp_of p = record { seconds = digits_in p.0; micros = digits_in p.1 }
 
 -- the interface alone, of what stands between the time and the identifier

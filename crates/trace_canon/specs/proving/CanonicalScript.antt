@@ -1,5 +1,5 @@
--- Devices of proof: what is told of a log by its canonical lines, and what holds of it.
-use Rattle.std.specs.Prelude.{◌≡◌, Bool, Result, Ok, Err, if◌then◌else◌, ℕ, true, List, [], ◌∷◌, ◌++◌, length, drop}
+-- Devices of proof: what is said of a log by its canonical lines, and what holds of it.
+use Rattle.std.specs.Prelude.{◌≡◌, Result, Ok, Err, if◌then◌else◌, ℕ, true, List, [], ◌∷◌, ◌++◌, length, drop}
 use Rattle.direction.specs.Dir.{Message}
 use Rattle.isotp_receive.specs.declared.TheConstants.{MESSAGE_LIMIT}
 use Rattle.isotp_receive.specs.Trace.{Entry}
@@ -15,7 +15,8 @@ use Rattle.trace_canon.specs.MemoryNeeded.{CompletesHeld}
 use Rattle.trace_log.specs.declared.fault.Fault.{Fault}
 use Rattle.trace_run.specs.declared.machine.NoAnswer.TheVariants as no_answer
 use Rattle.trace_log.specs.declared.summary.Summary.{Summary}
-use Rattle.uds_exchange.specs.Meaning.{meaning, flattened}
+use Rattle.uds_exchange.specs.Meaning.{meaning}
+use Rattle.trace_canon.specs.proving.Measuring.{fits_within}
 use Rattle.trace_canon.specs.proving.Writing.{ProgressValue, start_of, text_from, progress_after}
 
 -- where the canonical log stands after these messages
@@ -53,18 +54,14 @@ text_of_early settings T =
     text_from settings (start_of settings.max_bytes) (all_frames MESSAGE_LIMIT (early (messages MESSAGE_LIMIT T)))
 
 -- what this script says of a trace are the lines of its early messages
-abbrev pub CanonicalTellsEarly : Type 0
-CanonicalTellsEarly = (settings : Settings) (T : List Entry)
+abbrev pub CanonicalSaysEarly : Type 0
+CanonicalSaysEarly = (settings : Settings) (T : List Entry)
     → said_of_frames ((canonical_script settings).of_frame) T ≡ text_of_early settings T
-
--- the canonical log of the trace is longer than the limit
-abbrev pub is_too_long : Settings → List Entry → Bool
-is_too_long settings T = (progress_behind settings (flattened (meaning (messages MESSAGE_LIMIT T)))).is_full
 
 -- the counts are answered where the canonical log is within the limit, and else that it is longer
 abbrev pub answers_canonical : Settings → Answering Summary
 answers_canonical settings T summary result =
-    result ≡ (if is_too_long settings T then Err no_answer.OutputLimit else Ok summary)
+    result ≡ (if fits_within settings (meaning (messages MESSAGE_LIMIT T)) then Ok summary else Err no_answer.OutputLimit)
 
 -- the command of this script and these answers, which says nothing of a refusal, and keeps held messages
 abbrev pub canonical_command : Settings → Command Summary
@@ -72,8 +69,8 @@ canonical_command settings =
     command (canonical_script settings) says_no_refusal (answers_canonical settings) (CompletesHeld MESSAGE_LIMIT)
 
 -- what a run of this command answers and writes is the canonical log
-abbrev pub CanonicalTellsTheSame : Type 0
-CanonicalTellsTheSame = (settings : Settings) (log : List ℕ) (given : ℕ) (result : Result Summary Fault) (old new : List ℕ)
+abbrev pub CanonicalIsTheSame : Type 0
+CanonicalIsTheSame = (settings : Settings) (log : List ℕ) (given : ℕ) (result : Result Summary Fault) (old new : List ℕ)
     → AnswersAndWrites (canonical_command settings) MESSAGE_LIMIT settings log given result old new
     → WritesSaidEagerly (canonical_script settings) MESSAGE_LIMIT settings log given old new
     → Answers MESSAGE_LIMIT settings log given result old new

@@ -1,12 +1,22 @@
--- Devices of proof: frames, and the messages that are due with one more, said as canonical lines.
+-- Devices of proof: frames, a message that is put, and the messages that are due with one more, said as canonical
+-- lines.
 use Rattle.std.specs.Prelude.{◌≡◌, ℕ, List, ◌++◌}
 use Rattle.direction.specs.Dir.{Message}
 use Rattle.direction.specs.declared.Dir.{Dir}
 use Rattle.isotp_receive.specs.declared.TheConstants.{MESSAGE_LIMIT}
+use Rattle.isotp_segment.specs.CanonicalFrames.{canonical_frames}
 use Rattle.isotp_segment.specs.Timed.{all_frames}
 use Rattle.uds_exchange.specs.Orderer.{IsDue}
 use Rattle.trace_log.specs.Settings.{Settings}
+use Rattle.trace_canon.specs.declared.canonical_sink.CanonicalSink.{CanonicalSink}
 use Rattle.trace_canon.specs.proving.Writing.{ProgressValue, text_from, progress_after}
+
+-- the lines of a message that was put were said
+abbrev pub SaysPutMessage : {S : Type 0} → (S → List ℕ → S → Type 0) → CanonicalSink S → Dir → List ℕ → CanonicalSink S → Type 0
+SaysPutMessage says s d message t =
+    (t.out.ghost_name ≡ s.out.ghost_name) × (t.progress.ghost_name ≡ s.progress.ghost_name) × (t.config ≡ s.config)
+    × (t.progress.now ≡ progress_after s.config s.progress.now (canonical_frames MESSAGE_LIMIT d message))
+    × says s.out.now (text_from s.config s.progress.now (canonical_frames MESSAGE_LIMIT d message)) t.out.now
 
 -- the lines of the messages that are due with this one were said
 abbrev pub SaysDue : {S : Type 0} → (S → List ℕ → S → Type 0) → Settings → List Message → Message

@@ -1,24 +1,19 @@
--- Devices of proof: what is answered with a log's meaning and its counts, where nothing is told of it.
-use Rattle.std.specs.Prelude.{◌≡◌, ℕ, ◌<◌, ◌≤◌, Bool, true, false, nat_le, List, [], length, Result, Ok, Err}
+-- Devices of proof: what is answered with a log's meaning and its counts, where nothing is said of it.
+use Rattle.std.specs.Prelude.{◌≡◌, ℕ, ◌<◌, ◌≤◌, Bool, true, false, List, [], Result, Ok, Err}
 use Rattle.isotp_receive.specs.declared.TheConstants.{MESSAGE_LIMIT}
 use Rattle.direction.specs.Dir.{Message}
 use Rattle.uds_exchange.specs.Meaning.{ItemValue, meaning, flattened}
 use Rattle.uds_exchange.specs.declared.step.Step.{Step}
 use Rattle.uds_exchange.specs.declared.step.Step.TheVariants as step
-use Rattle.trace_canon.specs.MemoryNeeded.{CompletesMessage}
+use Rattle.trace_canon.specs.FirstFrames.{CompletesMessage}
 use Rattle.trace_canon.specs.Sessions.{GivesSession, items_of_trace}
-use Rattle.trace_log.specs.CanonicalLog.{canonical_log}
 use Rattle.trace_log.specs.Settings.{Settings}
 use Rattle.trace_run.specs.Script.{Script, Command, Answering, command, says_no_refusal}
 use Rattle.trace_run.specs.Ran.{AnswersAndWrites}
 use Rattle.trace_canon.specs.declared.collector.Session.{Session}
 use Rattle.trace_log.specs.declared.fault.Fault.{Fault}
 use Rattle.trace_run.specs.declared.machine.NoAnswer.TheVariants.{OutputLimit}
-use Rattle.trace_canon.specs.proving.Measuring.{HaveLengths}
-
--- the canonical log of these items is within the limit
-abbrev pub fits_within : Settings → List ItemValue → Bool
-fits_within settings items = nat_le (length (canonical_log MESSAGE_LIMIT settings (flattened items))) settings.max_bytes
+use Rattle.trace_canon.specs.proving.Measuring.{HaveLengths, fits_within}
 
 -- a message with this step is in the meaning
 abbrev pub is_in_meaning : Step → Bool

@@ -5,10 +5,18 @@ use Rattle.isotp_receive.specs.declared.TheConstants.{MESSAGE_LIMIT}
 use Rattle.isotp_receive.specs.Trace.{Entry}
 use Rattle.isotp_receive.specs.Verdict.{messages}
 use Rattle.uds_exchange.specs.Decider.{DeciderValue, decider_after, AreDecidedBy}
+use Rattle.uds_exchange.specs.Judging.{one_more}
 use Rattle.uds_exchange.specs.Meaning.{ItemValue}
-use Rattle.trace_text.specs.ItemLines.{list_text_from}
+use Rattle.trace_text.specs.ItemLines.{item_line, list_text_from}
 use Rattle.trace_canon.specs.WatchScript.{decided_of}
+use Rattle.trace_canon.specs.declared.watcher.LineSink.{LineSink}
 use Rattle.trace_text.specs.declared.item_style.ItemStyle.{ItemStyle}
+
+-- the line of an item that was put was said
+abbrev pub SaysPutItem : {S : Type 0} → (S → List ℕ → S → Type 0) → LineSink S → ItemValue → LineSink S → Type 0
+SaysPutItem says s item t =
+    (t.out.ghost_name ≡ s.out.ghost_name) × (t.number.ghost_name ≡ s.number.ghost_name) × (t.style ≡ s.style)
+    × (t.number.now ≡ one_more s.number.now) × says s.out.now (item_line s.style s.number.now item) t.out.now
 
 -- the lines of these items were said, numbered from this number on, as far as numbers go
 abbrev pub SaysLines : {S : Type 0} → (S → List ℕ → S → Type 0) → ItemStyle → List ItemValue → ℕ → S → ℕ → S → Type 0
@@ -23,9 +31,9 @@ SaysDecided says style M message number out number_now out_now =
     (items : List ItemValue) × AreDecidedBy M message items × SaysLines says style items number out number_now out_now
 
 -- This is what a machine that watches keeps of the frames T.
-pub record WatchesItems (style : ItemStyle) (T : List Entry) (decider : DeciderValue) (kept : ItemStyle) (number : ℕ)
+pub record WatchesItems (style : ItemStyle) (T : List Entry) (decider : DeciderValue) (own_style : ItemStyle) (number : ℕ)
     : Type 0 where
   pub decides : decider ≡ decider_after (messages MESSAGE_LIMIT T)
-  pub same : kept ≡ style
+  pub same : own_style ≡ style
   pub numbered : number ≡ 1 + length (decided_of MESSAGE_LIMIT T)
   pub few : length T ≤ 2 ^ 62

@@ -1,7 +1,7 @@
 -- Devices of proof: a hunk by its parts.
 use Rattle.std.specs.Prelude.{ℕ, List}
 use Rattle.uds_difference.specs.declared.row.Row.{Row}
-use Rattle.trace_difference.specs.Hunks.{Hunk}
+use Rattle.shown_rows.specs.Hunks.{Hunk}
 
 abbrev pub hunk_of : ℕ → ℕ → List Row → Hunk
 hunk_of left right rows = record { left = left; right = right; rows = rows }

@@ -17,7 +17,7 @@ use Rattle.trace_report.specs.Blocks.{blocks_of}
 use Rattle.trace_report.specs.Events.{asked_in, is_request_step, ends_nothing, rows_of}
 use Rattle.trace_report.specs.Front.{PageTitleValue}
 use Rattle.trace_report.specs.Page.{last_time}
-use Rattle.trace_report.specs.Rows.{RowValue}
+use Rattle.trace_report.specs.Rows.{RowValue, row_of}
 use Rattle.trace_report.specs.Rows as row
 use Rattle.trace_report.specs.Sorts.{tally_of}
 use Rattle.trace_report.specs.declared.chart.Chart.{Chart}
@@ -27,8 +27,8 @@ use Rattle.trace_report.specs.declared.frames.FrameCounts.{FrameCounts}
 use Rattle.trace_report.specs.declared.places.Places.{Places}
 use Rattle.trace_report.specs.declared.reporter.Reporter.{Reporter}
 use Rattle.trace_report.specs.declared.times.Times.{Times}
-use Rattle.trace_report.specs.declared.row.Row.{Row}
-use Rattle.trace_report.specs.proving.Pages.{row_of, title_of}
+use Rattle.trace_report.specs.declared.row.SessionRow.{SessionRow}
+use Rattle.trace_report.specs.proving.Pages.{title_of}
 
 -- how many consecutive frames a reception took, after what became of a frame of the same direction or the other one
 abbrev pub counted_by : Bool → VerdictValue → ℕ → ℕ
@@ -88,7 +88,7 @@ pub record Follows (T : List Entry) (follower : Follower) : Type 0 where
   pub places : KnowsPlaces T follower.places
 
 -- the row that is there, if one is
-abbrev pub row_if : Option Row → List RowValue
+abbrev pub row_if : Option SessionRow → List RowValue
 row_if None = []
 row_if (Some row) = row_of row ∷ []
 

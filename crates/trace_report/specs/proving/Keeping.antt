@@ -1,8 +1,9 @@
 -- Devices of proof: the rows of a session as they are kept, and where its items stand among them.
-use Rattle.std.specs.Prelude.{◌≡◌, ℕ, zero, suc, ⊤, Bool, true, false, List, [], ◌∷◌, ◌++◌, length, map, Option, Some, None, option_map, slice_get}
+use Rattle.std.specs.Prelude.{◌≡◌, ℕ, ◌+◌, zero, suc, ⊤, Bool, true, false, List, [], ◌∷◌, ◌++◌, length, map, Option, Some, None, option_map, slice_get, if◌then◌else◌}
 use Rattle.uds_exchange.specs.Blocks.{IsInside, bytes_at}
+use Rattle.trace_report.specs.Items as Items
 use Rattle.trace_report.specs.Items.{RowMessageValue, PlacedItemValue, items_in, message_in}
-use Rattle.trace_report.specs.Rows.{RowValue, message, no_answer, dropped, ended, unfinished}
+use Rattle.trace_report.specs.Rows.{RowValue, message, no_answer, dropped, ended, unfinished, missing_of}
 use Rattle.trace_report.specs.Sorts.{counts_in}
 use Rattle.trace_report.specs.declared.counts.SortCounts.{SortCounts}
 use Rattle.trace_report.specs.declared.item_places.ItemPlace.{ItemPlace}
@@ -15,11 +16,8 @@ use Rattle.trace_report.specs.declared.roles.MessageRole.TheVariants as role
 
 -- a kept row as it was, by the blocks in which bytes lie
 abbrev pub row_at : List (List ℕ) → KeptRow → RowValue
-row_at blocks (kept.Message sent) = message sent.role sent.dir sent.place (bytes_at blocks sent.bytes)
-row_at blocks (kept.NoAnswer number silent) = no_answer number silent
-row_at blocks (kept.Dropped place d linked why) = dropped place d linked why
-row_at blocks (kept.Ended place end) = ended place end
-row_at blocks (kept.Unfinished d line len) = unfinished d line len
+row_at blocks (kept.Message sent bytes) = message sent.role sent.dir sent.place (bytes_at blocks bytes)
+row_at blocks (kept.Missing what) = missing_of what
 
 -- kept rows as they were, by the blocks in which bytes lie
 abbrev pub rows_at : List (List ℕ) → List KeptRow → List RowValue
@@ -27,11 +25,8 @@ rows_at blocks rows = map (row_at blocks) rows
 
 -- the bytes of a row lie in a block, if it has bytes
 abbrev pub IsLaid : List (List ℕ) → KeptRow → Type 0
-IsLaid blocks (kept.Message sent) = IsInside blocks sent.bytes
-IsLaid blocks (kept.NoAnswer number silent) = ⊤
-IsLaid blocks (kept.Dropped place d linked why) = ⊤
-IsLaid blocks (kept.Ended place end) = ⊤
-IsLaid blocks (kept.Unfinished d line len) = ⊤
+IsLaid blocks (kept.Message sent bytes) = IsInside blocks bytes
+IsLaid blocks (kept.Missing what) = ⊤
 
 -- the bytes of each of these rows lie in a block, if it has bytes
 abbrev pub AreLaid : List (List ℕ) → List KeptRow → Type 0
@@ -130,10 +125,29 @@ ArePlaced rows [] (item ∷ items) = ⊥
 ArePlaced rows (place ∷ places) [] = ⊥
 ArePlaced rows (place ∷ places) (item ∷ items) = (placed_at rows place ≡ Some item) × ArePlaced rows places items
 
+-- the places of the rows with which items begin, where so many rows stand before these
+abbrev pub begin_places : ℕ → List RowValue → List ℕ
+begin_places before [] = []
+begin_places before (row ∷ rows) = if Items.begins row then before ∷ begin_places (before + 1) rows else begin_places (before + 1) rows
+
+-- the place of the row at this place, where an item begins with it
+abbrev pub begun_at : RowValue → ℕ → List ℕ
+begun_at row at = if Items.begins row then at ∷ [] else []
+
+-- the place of the row with which an item begins
+abbrev pub begin_of : ItemPlace → ℕ
+begin_of item = item.begin
+
+-- the place that is found, or else the end
+abbrev pub place_or : ℕ → Option ℕ → ℕ
+place_or end None = end
+place_or end (Some at) = at
+
 -- the rows are kept, with what they tell of items, and how many there are of each sort
 pub record AreKept (blocks : List (List ℕ)) (rows : List KeptRow) (places : List ItemPlace) (waiting : Option ℕ) (counts : SortCounts) : Type 0 where
   pub laid : AreLaid blocks rows
   pub placed : ArePlaced (rows_at blocks rows) places (items_in (rows_at blocks rows))
+  pub begun : map begin_of places ≡ begin_places 0 (rows_at blocks rows)
   pub waits : waiting ≡ waiting_in (rows_at blocks rows)
   pub counted : counts ≡ counts_in (rows_at blocks rows)
 

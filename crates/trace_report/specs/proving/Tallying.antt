@@ -7,7 +7,7 @@ use Rattle.trace_report.specs.declared.counts.SortCounts.{SortCounts}
 use Rattle.trace_report.specs.declared.sorts.Sort.{Sort}
 use Rattle.trace_report.specs.declared.sorts.Sort.TheVariants as sort
 use Rattle.trace_report.specs.declared.tally.FirstTargets.{FirstTargets}
-use Rattle.trace_report.specs.declared.targets.Target.{Target}
+use Rattle.trace_report.specs.declared.targets.LinkTarget.{LinkTarget}
 
 -- how many rows there are of each sort, with one more of this sort
 abbrev pub counts_with : Sort → SortCounts → SortCounts
@@ -24,11 +24,11 @@ counts_with sort.Ended counts = record counts { ended = one_more counts.ended }
 counts_with sort.Unfinished counts = record counts { unfinished = one_more counts.unfinished }
 
 -- the places that are kept of a sort, with one more: the first ten
-abbrev pub kept : ArrayVec Target → Target → ArrayVec Target
+abbrev pub kept : ArrayVec LinkTarget → LinkTarget → ArrayVec LinkTarget
 kept first target = record { items = take most_links (first.items ++ target ∷ []) }
 
 -- the places that are kept of each sort that needs attention, with the row of this sort to which a link leads there
-abbrev pub first_with : Sort → Target → FirstTargets → FirstTargets
+abbrev pub first_with : Sort → LinkTarget → FirstTargets → FirstTargets
 first_with sort.Dropped target first = record first { dropped = kept first.dropped target }
 first_with sort.Ended target first = record first { ended = kept first.ended target }
 first_with sort.Unfinished target first = record first { unfinished = kept first.unfinished target }

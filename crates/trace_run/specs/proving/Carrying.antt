@@ -24,7 +24,7 @@ pub record Carries {W : Type 0} (target : Ghosts W) (start : W) (said : List ℕ
   pub low : target.failures start ≤ 2 ^ 62
   -- something was said where something is held, and where writing failed
   pub held_some : 0 < length page.held → 0 < length said
-  pub spoke : page.failed ≡ true → 0 < length said
+  pub failed_some : page.failed ≡ true → 0 < length said
   -- and where nothing was said, the target is as it was
   pub still : length said ≡ 0 → now ≡ start
   pub failures : target.failures now ≡ failures_with page.failed (target.failures start)

@@ -1,79 +1,114 @@
 -- Devices of proof: a run ends, at the end of the log or on a fault.
-use Rattle.std.specs.Prelude.{◌≡◌, ℕ, ◌⊎◌, true, false, List, ◌++◌, Option, Result, Ok, Err}
+use Rattle.std.specs.Prelude.{◌≡◌, ℕ, ◌⊎◌, Bool, true, false, List, ◌++◌, Option, Result, Ok, Err}
 use Rattle.can_log.specs.declared.frame.Stamped.{Stamped}
 use Rattle.isotp_receive.specs.declared.TheConstants.{MESSAGE_LIMIT}
-use Rattle.isotp_receive.specs.Trace.{Entry}
 use Rattle.isotp_receive.specs.Verdict.{messages}
-use Rattle.trace_io.specs.declared.device.Target.{Ghosts}
+use Rattle.trace_io.specs.declared.device.Target.{Ghosts as TargetGhosts}
+use Rattle.trace_log.specs.Settings.{Settings}
+use Rattle.trace_log.specs.Summing.{ends_in_line_feed, summary_of}
+use Rattle.trace_log.specs.Trace.{trace}
 use Rattle.trace_log.specs.declared.fault.Fault.{Fault}
 use Rattle.trace_log.specs.declared.fault.Fault.TheVariants as fault
-use Rattle.trace_run.specs.declared.page.Page.{Page}
-use Rattle.trace_run.specs.declared.receiver.Receiver.{Receiver}
+use Rattle.trace_log.specs.proving.Receiving.{Receives}
+use Rattle.uds_exchange.specs.Judging.{IsJudgeOf}
+use Rattle.trace_run.specs.Script.{Command, GlimpseValue, command, refusal_of_lines, whole_of_lines}
+use Rattle.trace_run.specs.declared.machine.Machine.{Ghosts as MachineGhosts}
 use Rattle.trace_run.specs.declared.machine.NoAnswer.{NoAnswer}
 use Rattle.trace_run.specs.declared.machine.NoAnswer.TheVariants as no_answer
-use Rattle.trace_log.specs.Trace.{trace}
-use Rattle.uds_exchange.specs.Judging.{IsJudgeOf}
-use Rattle.trace_log.specs.proving.Receiving.{Receives}
-use Rattle.trace_log.specs.Settings.{Settings}
-use Rattle.trace_log.specs.Summing.{summary_of}
-use Rattle.trace_run.specs.Script.{Script, RefusalText, Answering, refusal_of_lines, whole_of_lines}
+use Rattle.trace_run.specs.declared.page.Page.{Page}
+use Rattle.trace_run.specs.declared.receiver.Receiver.{Receiver}
 use Rattle.trace_run.specs.proving.Carrying.{Carries, blank_page}
+use Rattle.trace_run.specs.proving.Telling.{Start, HasTold}
 
--- since this start this was said, and is written before the fault with this name; or that failed, which is then the
--- fault
-abbrev pub EndsAs : {W : Type 0} → Fault → Ghosts W → W → List ℕ → Fault → W → Type 0
-EndsAs name target start said result new =
-    ((result ≡ name) × Carries target start said (blank_page false) new)
-    ⊎ ((result ≡ fault.Write) × Carries target start said (blank_page true) new)
+module _ {W : Type 0} (target : TargetGhosts W) where
+  -- since this start this was said, and is written before the fault with this name; or that failed, which is then the
+  -- fault
+  abbrev pub EndsAs : Fault → W → List ℕ → Fault → W → Type 0
+  EndsAs name start said result new =
+      ((result ≡ name) × Carries target start said (blank_page false) new)
+      ⊎ ((result ≡ fault.Write) × Carries target start said (blank_page true) new)
 
--- whatever was said to a page before the fault with this name is written before it; or that failed, which is then the
--- fault
-abbrev pub SettlesAs : {W : Type 0} → Fault → Ghosts W → Page → W → Fault → W → Type 0
-SettlesAs {W = W} name target page old result new =
-    (start : W) (said : List ℕ) → Carries target start said page old → EndsAs name target start said result new
+  -- whatever was said to a page before the fault with this name is written before it; or that failed, which is then the
+  -- fault
+  abbrev pub SettlesAs : Fault → Page → W → Fault → W → Type 0
+  SettlesAs name page old result new =
+      (start : W) (said : List ℕ) → Carries target start said page old → EndsAs name start said result new
 
--- whatever was said to a page before the fault with this name is written before it, with this text behind it; or that
--- failed
-abbrev pub SettlesWith : {W : Type 0} → List ℕ → Fault → Ghosts W → Page → W → Fault → W → Type 0
-SettlesWith {W = W} text name target page old result new =
-    (start : W) (said : List ℕ) → Carries target start said page old → EndsAs name target start (said ++ text) result new
+  -- whatever was said to a page before the fault with this name is written before it, with this text behind it; or that
+  -- failed
+  abbrev pub SettlesWith : List ℕ → Fault → Page → W → Fault → W → Type 0
+  SettlesWith text name page old result new =
+      (start : W) (said : List ℕ) → Carries target start said page old → EndsAs name start (said ++ text) result new
 
--- a run ends on a refusal that the machine is told: whatever lines it has taken, what is said of it is written
-abbrev pub RefusesSaying : {M W : Type 0} → (M → List Entry → M → Type 0) → (M → RefusalText) → Ghosts W → Fault → Receiver M W → W → Fault → W → Type 0
-RefusesSaying {M = M} stands refusals target why receiver old result new =
-    (machine_start : M) (settings : Settings) (meanings : List (Option Stamped)) → Receives settings meanings receiver.pair receiver.lines receiver.counts
-    → IsJudgeOf (messages MESSAGE_LIMIT (trace settings meanings)) receiver.telling.judge → stands machine_start (trace settings meanings) receiver.telling.machine
-    → SettlesWith (refusal_of_lines (refusals machine_start) MESSAGE_LIMIT settings why meanings) why target receiver.telling.page old result new
+-- the command of a machine that was `first` at the start, where this is seen of the source
+abbrev pub command_of : {A M : Type 0} → MachineGhosts M A → GlimpseValue → M → Command A
+command_of machine glimpse first =
+    command (machine.script first) (machine.refusal first glimpse) (machine.answers first) (machine.needs first)
 
--- how a run ends on a fault, with what it has taken: that of a device stands as it is, and before others all that is
--- said is written
-abbrev pub GivesUp : {M W : Type 0} → (M → List Entry → M → Type 0) → (M → RefusalText) → Ghosts W → Fault → Receiver M W → W → Fault → W → Type 0
-GivesUp stands refusals target (fault.BadLine line column) receiver old result new = RefusesSaying stands refusals target (fault.BadLine line column) receiver old result new
-GivesUp stands refusals target fault.LogLimit receiver old result new = RefusesSaying stands refusals target fault.LogLimit receiver old result new
-GivesUp stands refusals target (fault.Oversize line announced) receiver old result new =
-    SettlesAs (fault.Oversize line announced) target receiver.telling.page old result new
-GivesUp stands refusals target fault.OutputLimit receiver old result new = SettlesAs fault.OutputLimit target receiver.telling.page old result new
-GivesUp stands refusals target fault.Memory receiver old result new = SettlesAs fault.Memory target receiver.telling.page old result new
-GivesUp stands refusals target fault.Read receiver old result new = (result ≡ fault.Read) × (new ≡ old)
-GivesUp stands refusals target fault.Write receiver old result new = (result ≡ fault.Write) × (new ≡ old)
+-- How a run ends on a fault, where this is then seen of its source.
+module _ {A M W : Type 0} (machine : MachineGhosts M A) (target : TargetGhosts W) (glimpse : GlimpseValue) where
+  -- on a refusal that the machine is told: whatever lines it has taken, what is said of it is written
+  abbrev pub RefusesSaying : Fault → Receiver M W → W → Fault → W → Type 0
+  RefusesSaying why receiver old result new =
+      (first : M) (settings : Settings) (meanings : List (Option Stamped))
+      → Receives settings meanings receiver.pair receiver.lines receiver.counts
+      → IsJudgeOf (messages MESSAGE_LIMIT (trace settings meanings)) receiver.telling.judge
+      → machine.stands first (trace settings meanings) receiver.telling.machine
+      → SettlesWith target (refusal_of_lines (machine.refusal first glimpse) MESSAGE_LIMIT settings why meanings)
+      why receiver.telling.page old result new
 
--- a run ends with this answer of the machine, and all that is said of the log was written
-abbrev pub EndsAnswering : {A W : Type 0} → Ghosts W → Script → Answering A → W → Settings → List ℕ → List (Option Stamped) → Result A NoAnswer → W → Type 0
-EndsAnswering target script answers start settings log meanings result new =
-    answers (trace settings meanings) (summary_of MESSAGE_LIMIT settings log meanings) result
-    × Carries target start (whole_of_lines script MESSAGE_LIMIT settings log meanings) (blank_page false) new
+  -- a fault of a device stands as it is, and before others all that is said is written
+  abbrev pub GivesUp : Fault → Receiver M W → W → Fault → W → Type 0
+  GivesUp (fault.BadLine line column) receiver old result new =
+      RefusesSaying (fault.BadLine line column) receiver old result new
+  GivesUp fault.LogLimit receiver old result new = RefusesSaying fault.LogLimit receiver old result new
+  GivesUp (fault.Oversize line announced) receiver old result new =
+      SettlesAs target (fault.Oversize line announced) receiver.telling.page old result new
+  GivesUp fault.OutputLimit receiver old result new =
+      SettlesAs target fault.OutputLimit receiver.telling.page old result new
+  GivesUp fault.Memory receiver old result new = SettlesAs target fault.Memory receiver.telling.page old result new
+  GivesUp fault.Read receiver old result new = (result ≡ fault.Read) × (new ≡ old)
+  GivesUp fault.Write receiver old result new = (result ≡ fault.Write) × (new ≡ old)
 
--- how a run ends that has read the log, whose lines mean this
-abbrev pub EndsSaying : {A W : Type 0} → Ghosts W → Script → Answering A → W → Settings → List ℕ → List (Option Stamped) → Result A Fault → W → Type 0
-EndsSaying target script answers start settings log meanings (Ok value) new = EndsAnswering target script answers start settings log meanings (Ok value) new
-EndsSaying target script answers start settings log meanings (Err fault.OutputLimit) new = EndsAnswering target script answers start settings log meanings (Err no_answer.OutputLimit) new
-EndsSaying target script answers start settings log meanings (Err fault.Write) new = Carries target start (whole_of_lines script MESSAGE_LIMIT settings log meanings) (blank_page true) new
-EndsSaying target script answers start settings log meanings (Err fault.Read) new = ⊥
-EndsSaying target script answers start settings log meanings (Err fault.Memory) new = ⊥
-EndsSaying target script answers start settings log meanings (Err fault.LogLimit) new = ⊥
-EndsSaying target script answers start settings log meanings (Err (fault.BadLine line column)) new = ⊥
-EndsSaying target script answers start settings log meanings (Err (fault.Oversize line announced)) new = ⊥
+-- How a run ends that has read the log, whose lines mean this.
+module _ {A M W : Type 0} (machine : MachineGhosts M A) (target : TargetGhosts W) (start : Start M W) (settings : Settings)
+    (log : List ℕ) (meanings : List (Option Stamped)) where
+  -- all that is said of the log
+  abbrev pub whole_since : List ℕ
+  whole_since = whole_of_lines (machine.script start.machine) MESSAGE_LIMIT settings log meanings
 
--- the one list begins the other
-abbrev pub Begins : List ℕ → List ℕ → Type 0
-Begins front all = (more : List ℕ) × (all ≡ front ++ more)
+  -- with this answer of the machine, and all that is said of the log was written
+  abbrev pub EndsAnswering : Result A NoAnswer → W → Type 0
+  EndsAnswering result new =
+      machine.answers start.machine (trace settings meanings) (summary_of MESSAGE_LIMIT settings log meanings) result
+      × Carries target start.target whole_since (blank_page false) new
+
+  -- with that answer, or because writing failed
+  abbrev pub EndsSaying : Result A Fault → W → Type 0
+  EndsSaying (Ok value) new = EndsAnswering (Ok value) new
+  EndsSaying (Err fault.OutputLimit) new = EndsAnswering (Err no_answer.OutputLimit) new
+  EndsSaying (Err fault.Write) new = Carries target start.target whole_since (blank_page true) new
+  EndsSaying (Err fault.Read) new = ⊥
+  EndsSaying (Err fault.Memory) new = ⊥
+  EndsSaying (Err fault.LogLimit) new = ⊥
+  EndsSaying (Err (fault.BadLine line column)) new = ⊥
+  EndsSaying (Err (fault.Oversize line announced)) new = ⊥
+
+module _ {A M W : Type 0} (machine : MachineGhosts M A) (target : TargetGhosts W) where
+  -- whatever log a run has read, which ended in a line feed or not, it ends as is said of that log
+  abbrev pub EndsRun : Receiver M W → Bool → W → Result A Fault → W → Type 0
+  EndsRun receiver ended old result new =
+      (start : Start M W) (settings : Settings) (log : List ℕ) (meanings : List (Option Stamped))
+      → Receives settings meanings receiver.pair receiver.lines receiver.counts
+      → ended ≡ ends_in_line_feed log
+      → HasTold machine target start (trace settings meanings) receiver.telling old
+      → EndsSaying machine target start settings log meanings result new
+
+  -- whatever lines a run has taken, the target has what it had at any time before, and more behind it
+  abbrev pub EndsBehind : Receiver M W → W → W → Type 0
+  EndsBehind receiver old new =
+      (mid : W) (said : List ℕ) (first : M) (settings : Settings) (meanings : List (Option Stamped))
+      → Receives settings meanings receiver.pair receiver.lines receiver.counts
+      → machine.stands first (trace settings meanings) receiver.telling.machine
+      → Carries target mid said receiver.telling.page old
+      → (more : List ℕ) × (target.taken new ≡ target.taken mid ++ more)

@@ -1,9 +1,9 @@
 -- Devices of proof: an answer of `compare`, what is told of it, and its text.
-use Rattle.std.specs.Prelude.{⊤, ℕ, Bool, List, [], Option, None, Result, Ok, Err}
-use Rattle.trace_canon.specs.declared.comparing.Compared.{Compared}
+use Rattle.std.specs.Prelude.{◌≢◌, ◌⊎◌, ℕ, Bool, List, [], Option, None, Result, Ok, Err}
+use Rattle.trace_canon.specs.declared.comparer.Compared.{Compared}
 use Rattle.trace_log.specs.declared.fault.CompareFault.{CompareFault}
 use Rattle.trace_report.specs.Kept.{TwoValue}
-use Rattle.trace_report.specs.PairPage.{cause_of_pair}
+use Rattle.trace_pair.specs.Page.{cause_of_pair}
 use Rattle.trace_report.specs.declared.cause.RefusalCause.{RefusalCause}
 use Rattle.trace_run.specs.Script.{GlimpseValue}
 use Rattle.udsnorm.specs.Commands.{TextOfCompared, pair_held, pair_of, text_of_compared}
@@ -19,10 +19,10 @@ abbrev pub text_of_answer : Bool → TextOfCompared → Result Compared CompareF
 text_of_answer strict text (Ok compared) = text_of_compared strict text compared
 text_of_answer strict text (Err fault) = []
 
--- both logs were accepted
-abbrev pub IsAnswered : Result Compared CompareFault → Type 0
-IsAnswered (Ok compared) = ⊤
-IsAnswered (Err fault) = ⊥
+-- both logs were accepted, and one of them means an item
+abbrev pub HasItems : Result Compared CompareFault → Type 0
+HasItems (Ok compared) = (compared.left.meaning ≢ []) ⊎ (compared.right.meaning ≢ [])
+HasItems (Err fault) = ⊥
 
 -- an answer about logs that are held, without what they say
 abbrev pub answer_held : Result TwoValue CompareFault → Result PairAnswer CompareFault

@@ -1,7 +1,7 @@
 -- A run of a machine that says nothing answers the session, and never fails to write.
 use Rattle.std.proofs.Common.{rules}
 use Rattle.isotp_receive.specs.declared.TheConstants.{MESSAGE_LIMIT}
-use Rattle.trace_canon.specs.MemoryNeeded.{CompletesMessage}
+use Rattle.trace_canon.specs.FirstFrames.{CompletesMessage}
 use Rattle.trace_canon.specs.proving.SessionScript.{answers_session, silent_script}
 use Rattle.trace_canon.proofs.Collecting.{collects_none}
 use Rattle.trace_run.proofs.Promises.{never_write}

@@ -1,6 +1,6 @@
 -- The credit lines so far were said.
 use Rattle.std.proofs.Common.{take}
-use Rattle.trace_canon.specs.Finding.{credit_lines_text}
+use Rattle.trace_canon.specs.CreditLines.{credit_lines_text}
 use Rattle.trace_canon.proofs.credit_lines.say_credit_lines.Given as goal
 
 abbrev pub invariant-lines : goal.invariant-lines

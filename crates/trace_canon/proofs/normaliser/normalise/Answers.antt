@@ -1,7 +1,7 @@
 -- What a run of the script answers is the canonical log of the meaning; the rest follows from that.
 use Rattle.std.proofs.Common.{refl, sym, ◌∙◌}
 use Rattle.trace_canon.specs.proving.Writing.{start_of}
-use Rattle.trace_canon.proofs.CanonicalScripts.{canonical_tells_the_same, unwritten_some, canonical_again, recording_again, answer_is_certificate, writes_eagerly_told}
+use Rattle.trace_canon.proofs.CanonicalScripts.{canonical_is_the_same, unwritten_some, canonical_again, recording_again, answer_is_certificate, writes_eagerly_said}
 use Rattle.trace_canon.proofs.CanonicalWriting.{progress_none}
 use Rattle.trace_canon.proofs.normaliser.normalise.Goals as goal
 
@@ -13,10 +13,10 @@ run-requires-clause-machine g c =
 pub returns-clause-answer : goal.returns-clause-answer
 returns-clause-answer g c = λ log agrees.
     let all = c.run.ensures.ran in
-    canonical_tells_the_same c.args.config.now log _ c.run.result _ _ (all.answer log agrees) (all.eager log agrees)
+    canonical_is_the_same c.args.config.now log _ c.run.result _ _ (all.answer log agrees) (all.eager log agrees)
 
 pub returns-clause-eager : goal.returns-clause-eager
-returns-clause-eager g c = λ log agrees. writes_eagerly_told c.args.config.now log _ _ _ (c.run.ensures.ran.eager log agrees)
+returns-clause-eager g c = λ log agrees. writes_eagerly_said c.args.config.now log _ _ _ (c.run.ensures.ran.eager log agrees)
 
 pub returns-clause-again : goal.returns-clause-again
 returns-clause-again g c = λ log agrees. canonical_again c.args.config.now log _ c.run.result _ _ c.start.ensures.settings (returns-clause-answer g c log agrees)

@@ -1,4 +1,4 @@
--- At the end all that was told is the list.
+-- At the end all that was said is the list.
 use Rattle.trace_canon.proofs.WatchScripts.{writes_the_list}
 use Rattle.trace_canon.proofs.watcher.watch.Goals as goal
 

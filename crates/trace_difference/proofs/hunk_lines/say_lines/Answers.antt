@@ -1,12 +1,15 @@
-use Rattle.std.proofs.Common.{◌+◌, arith, drop}
-use Rattle.std.proofs.lemmas.List.{drop_all}
+use Rattle.std.proofs.Common.{◌≡◌, ℕ, ◌+◌, ◌<◌, List, ◌∷◌, length, get_or, ap, ◌∙◌, arith, drop}
+use Rattle.std.proofs.lemmas.List.{drop_all, drop_more}
 use Rattle.uds_difference.specs.declared.row.Row.TheVariants.{Same, Changed, OnlyLeft, OnlyRight}
 use Rattle.trace_difference.proofs.LineSteps.{begins}
 use Rattle.trace_difference.proofs.LineTurns.{turn-changed, turn-end, turn-left, turn-right, turn-same}
-use Rattle.trace_difference.proofs.RowSteps.{drop-is}
-use Rattle.trace_difference.proofs.Saying.{none-said}
+use Rattle.text_parts.proofs.Promises.{none-said}
 use Rattle.trace_difference.proofs.hunk_lines.say_lines.Goals as goal
 use Rattle.trace_difference.proofs.hunk_lines.say_lines.Goals.{in-Same, in-Changed, in-OnlyLeft, in-OnlyRight}
+
+-- what a list has from a place on, where its item there is known
+drop-is : {X : Type 0} (xs : List X) (i : ℕ) (d x : X) → i < length xs → get_or xs i d ≡ x → drop i xs ≡ x ∷ drop (i + 1) xs
+drop-is {X = X} xs i d x h is = drop_more xs i d h ∙ ap (λ (v : X). v ∷ drop (i + 1) xs) is
 
 pub rows-init : goal.rows-init
 rows-init g c = record {

@@ -2,7 +2,7 @@ use Rattle.std.proofs.Common.{◌+◌, ◌≤◌, drop}
 use Rattle.std.specs.List.{flat_map}
 use Rattle.trace_difference.specs.Lines.{line_text, lines_of}
 use Rattle.trace_difference.proofs.LineSteps.{rest_text}
-use Rattle.trace_difference.proofs.Saying.{IsLeft}
+use Rattle.text_parts.proofs.Promises.{IsLeft}
 use Rattle.trace_difference.proofs.hunk_lines.say_lines.Given as goal
 
 abbrev pub invariant-rows : goal.invariant-rows

@@ -3,8 +3,8 @@ use Rattle.trace_canon.proofs.Promises.{taken_is_held}
 use Rattle.trace_difference.proofs.InMemories.{text_in_memory}
 use Rattle.trace_difference.proofs.in_memory.gathered.Goals as goal
 
-pub returns-in-Ok : goal.returns-in-Ok
-returns-in-Ok c =
+pub returns-in-Ok-clause-text : goal.returns-in-Ok-clause-text
+returns-in-Ok-clause-text c =
     let prints = c.write_difference.ensures.printed in
     let empty = ap (λ w. w.taken) c.new-writer.ensures in
     let held = taken_is_held empty (ap (λ w. w.inner.items) c.new-writer.ensures ∙ c.new.ensures.items) prints.wrote.took in

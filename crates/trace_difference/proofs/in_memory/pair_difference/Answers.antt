@@ -5,4 +5,4 @@ use Rattle.trace_difference.proofs.in_memory.pair_difference.Goals as goal
 pub returns-in-Ok-text_of : goal.returns-in-Ok-text_of
 returns-in-Ok-text_of c =
     difference_of c.args.notation c.args.left_name.now c.args.right_name.now MESSAGE_LIMIT c.args.config.now c.args.left.now c.args.right.now _ c.compare_both-answer.result _ _ c.in-Ok.is c.compare_both-answer.ensures
-    c.in-Ok-text_of.ensures c.counted_comparison.ensures
+    c.in-Ok-text_of.ensures.text c.counted_comparison.ensures

@@ -2,7 +2,7 @@ use Rattle.std.proofs.Common.{◌+◌, arith, ap, drop, get_or, refl, sym, ◌�
 use Rattle.std.proofs.lemmas.List.{drop_all, drop_more}
 use Rattle.trace_difference.specs.Objects.{rows_text}
 use Rattle.trace_difference.proofs.ObjectTurns.{turn-change, turn-none}
-use Rattle.trace_difference.proofs.Saying.{none-said, said-whole, same-rest}
+use Rattle.text_parts.proofs.Promises.{none-said, said-whole, same-rest}
 use Rattle.trace_difference.proofs.row_objects.say_rows.Goals as goal
 use Rattle.trace_difference.proofs.row_objects.say_rows.Goals.{then-behind_change, else-behind_change}
 

@@ -1,6 +1,6 @@
 use Rattle.std.proofs.Common.{◌≤◌, false, drop}
 use Rattle.trace_difference.specs.Objects.{rows_text}
-use Rattle.trace_difference.proofs.Saying.{IsLeft}
+use Rattle.text_parts.proofs.Promises.{IsLeft}
 use Rattle.trace_difference.proofs.row_objects.say_rows.Given as goal
 
 abbrev pub invariant-rows : goal.invariant-rows

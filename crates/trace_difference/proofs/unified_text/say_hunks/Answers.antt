@@ -3,7 +3,7 @@ use Rattle.std.proofs.lemmas.List.{drop_all, drop_more, take_rest}
 use Rattle.trace_difference.specs.Unified.{hunk_text}
 use Rattle.trace_difference.proofs.HunkSteps.{hunks_left}
 use Rattle.trace_difference.proofs.HunkTurns.{turn-at, turn-before, turn-in}
-use Rattle.trace_difference.proofs.Saying.{none-said, said-whole, same-rest}
+use Rattle.text_parts.proofs.Promises.{none-said, said-whole, same-rest}
 use Rattle.trace_difference.proofs.unified_text.say_hunks.Goals as goal
 use Rattle.trace_difference.proofs.unified_text.say_hunks.Goals.{then-shown-gt0, else-shown-gt0+then-changes_within, else-shown-gt0+else-changes_within}
 

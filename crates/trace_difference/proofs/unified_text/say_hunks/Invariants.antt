@@ -1,9 +1,9 @@
 use Rattle.std.proofs.Common.{◌≤◌, drop}
 use Rattle.std.specs.List.{flat_map}
-use Rattle.trace_difference.specs.Hunks.{hunks}
+use Rattle.shown_rows.specs.Hunks.{hunks}
 use Rattle.trace_difference.specs.Unified.{hunk_text}
 use Rattle.trace_difference.proofs.HunkSteps.{hunks_left}
-use Rattle.trace_difference.proofs.Saying.{IsLeft}
+use Rattle.text_parts.proofs.Promises.{IsLeft}
 use Rattle.trace_difference.proofs.unified_text.say_hunks.Given as goal
 
 abbrev pub invariant-rows : goal.invariant-rows

@@ -1,17 +1,23 @@
 -- A row is said as its variant.
-use Rattle.std.proofs.Common.{ap, sym, subst}
+use Rattle.std.proofs.Common.{◌≡◌, ℕ, Bool, true, refl, ap, sym, subst, ◌∙◌}
 use Rattle.trace_report.specs.Chart.{row_text}
-use Rattle.trace_report.specs.proving.Pages.{row_of}
+use Rattle.trace_report.specs.LostRows.{missing_row}
+use Rattle.trace_report.specs.declared.row.Missing.{Missing}
+use Rattle.trace_report.specs.declared.row.Missing.TheVariants as missing
+use Rattle.trace_report.specs.Rows.{missing_of, row_of}
 use Rattle.trace_report.proofs.chart.say_row.Goals as goal
 
 pub returns-in-Message : goal.returns-in-Message
 returns-in-Message g c =
     subst (λ text. g.S.TextSink.says c.args.out.now text c.say_message.new.out) (ap (λ row. row_text c.args.brief c.args.origin (row_of row)) (sym c.in-Message.is)) c.say_message.ensures
 
-pub returns-in-Dropped : goal.returns-in-Dropped
-returns-in-Dropped g c =
-    subst (λ text. g.S.TextSink.says c.args.out.now text c.say_dropped_row.new.out) (ap (λ row. row_text c.args.brief c.args.origin (row_of row)) (sym c.in-Dropped.is)) c.say_dropped_row.ensures
+missing-text : (brief : Bool) (origin : ℕ) (what : Missing) → missing_row true origin what ≡ row_text brief origin (missing_of what)
+missing-text brief origin (missing.NoAnswer number silent) = refl
+missing-text brief origin (missing.Dropped place d own why) = refl
+missing-text brief origin (missing.Ended place end) = refl
+missing-text brief origin (missing.Unfinished d line len) = refl
 
-pub returns-in-Ended : goal.returns-in-Ended
-returns-in-Ended g c =
-    subst (λ text. g.S.TextSink.says c.args.out.now text c.say_ended_row.new.out) (ap (λ row. row_text c.args.brief c.args.origin (row_of row)) (sym c.in-Ended.is)) c.say_ended_row.ensures
+pub returns-in-Missing : goal.returns-in-Missing
+returns-in-Missing g c =
+    subst (λ text. g.S.TextSink.says c.args.out.now text c.say_missing_row.new.out)
+    (missing-text c.args.brief c.args.origin c.in-Missing.missing ∙ ap (λ row. row_text c.args.brief c.args.origin (row_of row)) (sym c.in-Missing.is)) c.say_missing_row.ensures

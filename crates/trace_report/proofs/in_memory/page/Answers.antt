@@ -1,7 +1,7 @@
 -- The text that the machine writes is the page, and the counts are those of its answer.
 use Rattle.std.proofs.Common.{[], ap, sym, ◌∙◌}
 use Rattle.isotp_receive.specs.declared.TheConstants.{MESSAGE_LIMIT}
-use Rattle.trace_canon.proofs.Promises.{agrees_in_memory, gathered, taken_is_held, told_in_memory}
+use Rattle.trace_canon.proofs.Promises.{agrees_in_memory, gathered, taken_is_held, said_in_memory}
 use Rattle.trace_report.specs.Front.{page_title}
 use Rattle.trace_report.specs.InMemory.{NeedsMemoryForPage}
 use Rattle.trace_report.specs.Page.{refused_text, report_script}
@@ -18,5 +18,5 @@ returns c =
     let empty = ap (λ w. w.taken) c.new-writer.ensures in
     let held = taken_is_held empty (ap (λ w. w.inner.items) c.new-writer.ensures ∙ c.new.ensures.items) ran.wrote.took in
     gathered _ _ (λ summary. record { text = c.into_inner.result; summary = summary }) c.report-answer.result c.counted_text.result
-    (told_in_memory script.of_frame script.at_the_end refusal needs_none NeedsMemoryForPage MESSAGE_LIMIT c.args.config.now c.args.log.now _ c.report-answer.result _ _ _ empty (held ∙ ap (λ v. v.items) (sym c.into_inner.ensures)) ran.read.failed (λ _. tt) (λ _. tt) (ran.answer c.args.log.now agrees))
-    c.counted_text.ensures
+    (said_in_memory script.of_frame script.at_the_end refusal needs_none NeedsMemoryForPage MESSAGE_LIMIT c.args.config.now c.args.log.now _ c.report-answer.result _ _ _ empty (held ∙ ap (λ v. v.items) (sym c.into_inner.ensures)) ran.read.failed (λ _. tt) (λ _. tt) (ran.answer c.args.log.now agrees))
+    c.counted_text.ensures.answer

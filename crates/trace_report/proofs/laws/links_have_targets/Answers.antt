@@ -1,5 +1,5 @@
 -- The law is its lemma of identifiers.
-use Rattle.trace_report.proofs.Identifiers.{links_have_targets}
+use Rattle.trace_report.proofs.DistinctIdentifiers.{links_have_targets}
 use Rattle.trace_report.proofs.laws.links_have_targets.Goals as goal
 
 pub returns : goal.returns

@@ -1,9 +1,8 @@
 -- What was said at the end was settled, or writing failed: by what is carried to the page and what the machine answers.
 use Rattle.std.proofs.Common.{not, subst, Ok, Err}
-use Rattle.isotp_receive.specs.declared.TheConstants.{MESSAGE_LIMIT}
 use Rattle.trace_run.specs.declared.machine.NoAnswer.TheVariants.{OutputLimit}
 use Rattle.trace_run.specs.proving.Carrying.{Carries, blank_page}
-use Rattle.trace_run.specs.Script.{whole_of_lines}
+use Rattle.trace_run.specs.proving.Ending.{whole_since}
 use Rattle.trace_log.specs.Trace.{trace}
 use Rattle.trace_log.proofs.Promises.{handed_on}
 use Rattle.trace_run.proofs.EndedRuns.{carried_at_the_end, only_output_limit}
@@ -11,53 +10,51 @@ use Rattle.trace_run.proofs.SaidFronts.{only_more}
 use Rattle.trace_run.proofs.driver.finish.Goals as goal
 
 pub returns-then-not-settle-clause-ends : goal.returns-then-not-settle-clause-ends
-returns-then-not-settle-clause-ends g c = λ start first settings log meanings received feed tells.
+returns-then-not-settle-clause-ends g c = λ start settings log meanings received feed tells.
+    let M = g.M.Machine in
     let W = g.W.Target in
-    let script = g.M.Machine.script first in
     let counted = c.summary-summary.ensures settings log meanings received feed tells.judged in
-    subst (λ b. Carries W start (whole_of_lines script MESSAGE_LIMIT settings log meanings) (blank_page (not b)) c.settle.new.target) c.if-not-settle.true
-    (carried_at_the_end g.M.Machine.stands g.M.Machine.script W start first settings log meanings _ _ _ _ _ c.settle.result c.summary-summary.result tells counted
-    (c.tell_end-answer.ensures.says first (trace settings meanings) tells.machine_stands received.pair_is received.keeps) c.settle.ensures.settled)
+    subst (λ b. Carries W start.target (whole_since M W start settings log meanings) (blank_page (not b)) c.settle.new.target) c.if-not-settle.true
+    (carried_at_the_end M W start settings log meanings _ _ _ _ _ c.settle.result c.summary-summary.result tells counted
+    (c.tell_end-answer.ensures.says start.machine (trace settings meanings) tells.machine_stands received.pair_is) c.settle.ensures.settled)
 
 pub returns-clause-ends : goal.returns-clause-ends
-returns-clause-ends g c = λ start first settings log meanings received feed tells.
-    let W = g.W.Target in
+returns-clause-ends g c = λ start settings log meanings received feed tells.
     let M = g.M.Machine in
-    let script = M.script first in
+    let W = g.W.Target in
     let counted = c.summary-summary.ensures settings log meanings received feed tells.judged in (
-      subst (λ s. M.answers first (trace settings meanings) s (Ok c.in_ok-answer.field-0)) counted
-          (c.in_ok-answer.ensures.answered first (trace settings meanings) tells.machine_stands received.pair_is),
-      subst (λ b. Carries W start (whole_of_lines script MESSAGE_LIMIT settings log meanings) (blank_page (not b)) c.settle.new.target) c.if-not-settle.false
-          (carried_at_the_end M.stands M.script W start first settings log meanings _ _ _ _ _ c.settle.result c.summary-summary.result tells counted
-          (c.tell_end-answer.ensures.says first (trace settings meanings) tells.machine_stands received.pair_is received.keeps) c.settle.ensures.settled),
+      subst (λ s. M.answers start.machine (trace settings meanings) s (Ok c.in_ok-answer.field-0)) counted
+          (c.in_ok-answer.ensures.answered start.machine (trace settings meanings) tells.machine_stands received.pair_is),
+      subst (λ b. Carries W start.target (whole_since M W start settings log meanings) (blank_page (not b)) c.settle.new.target) c.if-not-settle.false
+          (carried_at_the_end M W start settings log meanings _ _ _ _ _ c.settle.result c.summary-summary.result tells counted
+          (c.tell_end-answer.ensures.says start.machine (trace settings meanings) tells.machine_stands received.pair_is) c.settle.ensures.settled),
     )
 
 pub returns-in_err-answer-clause-ends : goal.returns-in_err-answer-clause-ends
-returns-in_err-answer-clause-ends g c = λ start first settings log meanings received feed tells.
-    let W = g.W.Target in
+returns-in_err-answer-clause-ends g c = λ start settings log meanings received feed tells.
     let M = g.M.Machine in
-    let script = M.script first in
+    let W = g.W.Target in
     let counted = c.summary-summary.ensures settings log meanings received feed tells.judged in
     rw (handed_on c.from_residual.result _ c.from_residual.ensures.1) (
-      subst (λ s. M.answers first (trace settings meanings) s (Err OutputLimit)) counted
-          (subst (λ reason. M.answers first (trace settings meanings) c.summary-summary.result (Err reason)) (only_output_limit c.in_err-answer.field-0.0)
-          (c.in_err-answer.ensures.answered first (trace settings meanings) tells.machine_stands received.pair_is)),
-      subst (λ b. Carries W start (whole_of_lines script MESSAGE_LIMIT settings log meanings) (blank_page (not b)) c.settle.new.target) c.if-not-settle.false
-          (carried_at_the_end M.stands M.script W start first settings log meanings _ _ _ _ _ c.settle.result c.summary-summary.result tells counted
-          (c.tell_end-answer.ensures.says first (trace settings meanings) tells.machine_stands received.pair_is received.keeps) c.settle.ensures.settled),
+      subst (λ s. M.answers start.machine (trace settings meanings) s (Err OutputLimit)) counted
+          (subst (λ reason. M.answers start.machine (trace settings meanings) c.summary-summary.result (Err reason)) (only_output_limit c.in_err-answer.field-0.0)
+          (c.in_err-answer.ensures.answered start.machine (trace settings meanings) tells.machine_stands received.pair_is)),
+      subst (λ b. Carries W start.target (whole_since M W start settings log meanings) (blank_page (not b)) c.settle.new.target) c.if-not-settle.false
+          (carried_at_the_end M W start settings log meanings _ _ _ _ _ c.settle.result c.summary-summary.result tells counted
+          (c.tell_end-answer.ensures.says start.machine (trace settings meanings) tells.machine_stands received.pair_is) c.settle.ensures.settled),
     )
 
 pub returns-then-not-settle-clause-more : goal.returns-then-not-settle-clause-more
 returns-then-not-settle-clause-more g c = λ mid said first settings meanings received stands carried.
-    let told = c.tell_end-answer.ensures.says first (trace settings meanings) stands received.pair_is received.keeps in
+    let told = c.tell_end-answer.ensures.says first (trace settings meanings) stands received.pair_is in
     only_more (c.settle.ensures.settled mid _ (told mid said carried))
 
 pub returns-clause-more : goal.returns-clause-more
 returns-clause-more g c = λ mid said first settings meanings received stands carried.
-    let told = c.tell_end-answer.ensures.says first (trace settings meanings) stands received.pair_is received.keeps in
+    let told = c.tell_end-answer.ensures.says first (trace settings meanings) stands received.pair_is in
     only_more (c.settle.ensures.settled mid _ (told mid said carried))
 
 pub returns-in_err-answer-clause-more : goal.returns-in_err-answer-clause-more
 returns-in_err-answer-clause-more g c = λ mid said first settings meanings received stands carried.
-    let told = c.tell_end-answer.ensures.says first (trace settings meanings) stands received.pair_is received.keeps in
+    let told = c.tell_end-answer.ensures.says first (trace settings meanings) stands received.pair_is in
     only_more (c.settle.ensures.settled mid _ (told mid said carried))

@@ -2,15 +2,15 @@
 use Rattle.std.proofs.Common.{inl, inr, sym, subst}
 use Rattle.trace_log.specs.declared.fault.Fault.{Fault}
 use Rattle.trace_run.specs.proving.Ending.{GivesUp, RefusesSaying}
-use Rattle.trace_run.specs.Script.{RefusalText, glimpse_value}
+use Rattle.trace_run.specs.Script.{glimpse_value}
 use Rattle.trace_run.proofs.driver.give_up.Goals as goal
 
 pub returns-in-BadLine : goal.returns-in-BadLine
 returns-in-BadLine g c =
     let M = g.M.Machine in
-    let refusals : g.row.M.Denot → RefusalText = λ start. M.refusal start (glimpse_value c.args.glimpse) in
-    let gives_up = λ (why : Fault). GivesUp M.stands refusals g.W.Target why c.args.receiver c.args.target.now c.refuse.result c.refuse.new.target in
-    let refuses = λ (why : Fault). RefusesSaying M.stands refusals g.W.Target why c.args.receiver c.args.target.now c.refuse.result c.refuse.new.target in
+    let seen = glimpse_value c.args.glimpse in
+    let gives_up = λ (why : Fault). GivesUp M g.W.Target seen why c.args.receiver c.args.target.now c.refuse.result c.refuse.new.target in
+    let refuses = λ (why : Fault). RefusesSaying M g.W.Target seen why c.args.receiver c.args.target.now c.refuse.result c.refuse.new.target in
     elim c.in-BadLine.is [
       | inl bad ↦ subst gives_up (sym bad.2) (subst refuses bad.2 c.refuse.ensures)
       | inr long ↦ subst gives_up (sym long) (subst refuses long c.refuse.ensures)

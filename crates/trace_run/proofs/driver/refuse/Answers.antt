@@ -13,5 +13,5 @@ returns g c = λ first settings meanings received judged stands start said carri
     let T = trace settings meanings in
     let refused = λ (summary : Summary) (why : Fault). g.M.Machine.refusal first (glimpse_value c.args.glimpse) T summary why in
     let counted = c.summary-summary.ensures settings [] meanings received refl judged in
-    subst (λ s. EndsAs why g.W.Target start (said ++ refused s why) c.settle_before.result c.settle_before.new.target) counted
+    subst (λ s. EndsAs g.W.Target why start (said ++ refused s why) c.settle_before.result c.settle_before.new.target) counted
     (c.settle_before.ensures start (said ++ refused c.summary-summary.result why) (c.tell_refusal.ensures.says first T stands start said carried))

@@ -13,7 +13,8 @@ returns-then-settle g c =
     let text = g.P.Part.text c.args.part in
     printed W text old new
     (subst (λ b. Carries W old text (blank_page (not b)) new) c.if-settle.true
-    (settled_text W text old new _ c.new-page.result _ c.settle.result c.requires c.new-page.ensures.well c.new-page.ensures.blank c.say_part.ensures c.settle.ensures.settled))
+    (settled_text W text old new _ c.new-page.result _ c.settle.result c.requires c.new-page.ensures.well
+    c.new-page.ensures.blank c.say_part.ensures c.settle.ensures.settled))
 
 pub returns-else-settle : goal.returns-else-settle
 returns-else-settle g c =
@@ -23,4 +24,5 @@ returns-else-settle g c =
     let text = g.P.Part.text c.args.part in
     printed_front W text old new
     (subst (λ b. Carries W old text (blank_page (not b)) new) c.if-settle.false
-    (settled_text W text old new _ c.new-page.result _ c.settle.result c.requires c.new-page.ensures.well c.new-page.ensures.blank c.say_part.ensures c.settle.ensures.settled))
+    (settled_text W text old new _ c.new-page.result _ c.settle.result c.requires c.new-page.ensures.well
+    c.new-page.ensures.blank c.say_part.ensures c.settle.ensures.settled))

@@ -1,16 +1,17 @@
-use Rattle.std.proofs.Common.{◌≡◌, [], Option, Result, subst, sym, ◌∙◌}
+use Rattle.std.proofs.Common.{◌≡◌, inr, [], Option, Result, subst, sym, ◌∙◌}
 use Rattle.isotp_receive.specs.declared.TheConstants.{MESSAGE_LIMIT}
 use Rattle.trace_canon.specs.ComparisonText.{comparison_text}
 use Rattle.trace_log.specs.declared.fault.CompareFault.{CompareFault}
 use Rattle.trace_log.specs.declared.fault.CompareFault.TheVariants.{Left, Right}
 use Rattle.trace_log.specs.declared.fault.Fault.TheVariants as fault
-use Rattle.trace_report.specs.PairPage.{pair_page, pair_title}
+use Rattle.trace_pair.specs.Page.{pair_page}
+use Rattle.trace_pair.specs.Titles.{title_for}
 use Rattle.udsnorm.specs.Commands.{ComparesPair, PagesPair, text_of_difference}
 use Rattle.udsnorm.specs.proving.Pairs.{answer_held, cause_in, text_of_answer}
 use Rattle.trace_report.specs.declared.cause.RefusalCause.{RefusalCause}
 use Rattle.trace_run.specs.Script.{glimpse_of}
 use Rattle.udsnorm.specs.declared.pair_jobs.PairAnswer.{PairAnswer}
-use Rattle.udsnorm.proofs.Pairs.{compared_pair, fault_compared, fault_held, pages_pair, read_told, refused_pair}
+use Rattle.udsnorm.proofs.Pairs.{compared_pair, fault_compared, fault_held, needed_for_difference, pages_pair, read_told, refused_pair}
 use Rattle.udsnorm.proofs.pair_jobs.do_pair_job.Goals as goal
 
 pub returns-in-Compare-clause-engine : goal.returns-in-Compare-clause-engine
@@ -30,8 +31,8 @@ returns-in-Compare-clause-left_memory g c = λ log agrees is.
     rw c.in-Compare.is (c.compare-answer.ensures.left_memory log agrees (fault_compared c.compare-answer.result _ (sym c.answer_of.ensures ∙ is)))
 
 pub returns-in-Compare-clause-right_memory : goal.returns-in-Compare-clause-right_memory
-returns-in-Compare-clause-right_memory g c = λ log agrees is.
-    rw c.in-Compare.is (c.compare-answer.ensures.right_memory log agrees (fault_compared c.compare-answer.result _ (sym c.answer_of.ensures ∙ is)))
+returns-in-Compare-clause-right_memory g c = λ one other left right is.
+    rw c.in-Compare.is (c.compare-answer.ensures.right_memory other right (fault_compared c.compare-answer.result _ (sym c.answer_of.ensures ∙ is)))
 
 pub returns-in-Compare-clause-left_near : goal.returns-in-Compare-clause-left_near
 returns-in-Compare-clause-left_near g c = λ log agrees. rw c.in-Compare.is (c.compare-answer.ensures.left_near log agrees)
@@ -55,6 +56,10 @@ pub returns-in-Ok-clause-left_memory : goal.returns-in-Ok-clause-left_memory
 returns-in-Ok-clause-left_memory g c = λ log agrees is.
     rw c.in-Diff.is (c.compare-compared.ensures.left_memory log agrees (fault_compared c.compare-compared.result _ (sym c.answer_of-in-Ok.ensures ∙ is)))
 
+pub returns-in-Ok-clause-right_memory : goal.returns-in-Ok-clause-right_memory
+returns-in-Ok-clause-right_memory g c = λ one other left right is.
+    rw c.in-Diff.is (inr (c.compare-compared.ensures.right_memory other right (fault_compared c.compare-compared.result _ (sym c.answer_of-in-Ok.ensures ∙ is))))
+
 pub returns-in-Ok-clause-left_near : goal.returns-in-Ok-clause-left_near
 returns-in-Ok-clause-left_near g c = λ log agrees. rw c.in-Diff.is (c.compare-compared.ensures.left_near log agrees)
 
@@ -71,6 +76,10 @@ returns-in-Diff-clause-engine g c =
       c.in-Err.ensures.nothing,
     )
 
+pub returns-in-Diff-clause-right_memory : goal.returns-in-Diff-clause-right_memory
+returns-in-Diff-clause-right_memory g c = λ one other left right is.
+    rw c.in-Diff.is (needed_for_difference MESSAGE_LIMIT c.args.config.now one other c.compare-compared.result c.in-Err.ensures.answered (c.compare-compared.ensures.answer one other left right))
+
 pub returns-in-Diff-clause-left_near : goal.returns-in-Diff-clause-left_near
 returns-in-Diff-clause-left_near g c = λ log agrees. rw c.in-Diff.is (c.compare-compared.ensures.left_near log agrees)
 
@@ -83,38 +92,38 @@ returns-clause-engine g c =
     let right = c.args.right_name.now in
     let settings = c.args.config.now in
     let page = c.write_page.ensures.text in
-    let page_with = pair_page (pair_title page.0 left right settings) c.keep_two-answer.result in
+    let page_with = pair_page (title_for page.0 left right settings) c.align_two-answer.result in
     let text = page_with c.cause_in-cause.result in
-    let left_seen = glimpse_of g.A.Source c.keep_two-answer.new.left in
-    let right_seen = glimpse_of g.B.Source c.keep_two-answer.new.right in
-    let cause_is : c.cause_in-cause.result ≡ cause_in c.keep_two-answer.result settings.max_bytes left_seen right_seen =
-    c.cause_in-cause.ensures ∙ (λ i. cause_in c.keep_two-answer.result (c.max_bytes.ensures.value i) left_seen right_seen) in
+    let left_seen = glimpse_of g.A.Source c.align_two-answer.new.left in
+    let right_seen = glimpse_of g.B.Source c.align_two-answer.new.right in
+    let cause_is : c.cause_in-cause.result ≡ cause_in c.align_two-answer.result settings.max_bytes left_seen right_seen =
+    c.cause_in-cause.ensures ∙ (λ i. cause_in c.align_two-answer.result (c.max_bytes.ensures.value i) left_seen right_seen) in
     rw c.in-Report.is (
       text,
       λ one other agrees_one agrees_other. subst (λ (told : Result PairAnswer CompareFault). PagesPair left right left_seen right_seen c.args.strict MESSAGE_LIMIT settings one other told text) (sym c.answer_held.ensures)
-          (subst (λ (cause : Option RefusalCause). PagesPair left right left_seen right_seen c.args.strict MESSAGE_LIMIT settings one other (answer_held c.keep_two-answer.result) (page_with cause)) (sym cause_is)
-          (pages_pair page.0 left right left_seen right_seen c.args.strict MESSAGE_LIMIT settings one other c.keep_two-answer.result (c.keep_two-answer.ensures.answer one other agrees_one agrees_other))),
+          (subst (λ (cause : Option RefusalCause). PagesPair left right left_seen right_seen c.args.strict MESSAGE_LIMIT settings one other (answer_held c.align_two-answer.result) (page_with cause)) (sym cause_is)
+          (pages_pair page.0 left right left_seen right_seen c.args.strict MESSAGE_LIMIT settings one other c.align_two-answer.result (c.align_two-answer.ensures.answer one other agrees_one agrees_other))),
       page.1,
     )
 
 pub returns-clause-left_memory : goal.returns-clause-left_memory
 returns-clause-left_memory g c = λ log agrees is.
-    rw c.in-Report.is (c.keep_two-answer.ensures.left_memory log agrees (fault_held c.keep_two-answer.result _ (sym c.answer_held.ensures ∙ is)))
+    rw c.in-Report.is (c.align_two-answer.ensures.left_memory log agrees (fault_held c.align_two-answer.result _ (sym c.answer_held.ensures ∙ is)))
 
 pub returns-clause-right_memory : goal.returns-clause-right_memory
-returns-clause-right_memory g c = λ log agrees is.
-    rw c.in-Report.is (c.keep_two-answer.ensures.right_memory log agrees (fault_held c.keep_two-answer.result _ (sym c.answer_held.ensures ∙ is)))
+returns-clause-right_memory g c = λ one other left right is.
+    rw c.in-Report.is (c.align_two-answer.ensures.right_memory one other left right (fault_held c.align_two-answer.result _ (sym c.answer_held.ensures ∙ is)))
 
 pub returns-clause-left_near : goal.returns-clause-left_near
-returns-clause-left_near g c = λ log agrees. rw c.in-Report.is (c.keep_two-answer.ensures.left_near log agrees)
+returns-clause-left_near g c = λ log agrees. rw c.in-Report.is (c.align_two-answer.ensures.left_near log agrees)
 
 pub returns-clause-right_near : goal.returns-clause-right_near
-returns-clause-right_near g c = λ log agrees. rw c.in-Report.is (c.keep_two-answer.ensures.right_near log agrees)
+returns-clause-right_near g c = λ log agrees. rw c.in-Report.is (c.align_two-answer.ensures.right_near log agrees)
 
 pub returns-clause-left_read : goal.returns-clause-left_read
 returns-clause-left_read g c =
-    read_told g.A.Source (Left fault.Read) c.args.config.now.max_bytes c.keep_two-answer.result c.answer_held.result _ _ c.answer_held.ensures c.keep_two-answer.ensures.left_read
+    read_told g.A.Source (Left fault.Read) c.args.config.now.max_bytes c.align_two-answer.result c.answer_held.result _ _ c.answer_held.ensures c.align_two-answer.ensures.left_read
 
 pub returns-clause-right_read : goal.returns-clause-right_read
 returns-clause-right_read g c =
-    read_told g.B.Source (Right fault.Read) c.args.config.now.max_bytes c.keep_two-answer.result c.answer_held.result _ _ c.answer_held.ensures c.keep_two-answer.ensures.right_read
+    read_told g.B.Source (Right fault.Read) c.args.config.now.max_bytes c.align_two-answer.result c.answer_held.result _ _ c.answer_held.ensures c.align_two-answer.ensures.right_read

@@ -4,7 +4,7 @@ use Rattle.isotp_receive.specs.declared.TheConstants.{MESSAGE_LIMIT}
 use Rattle.isotp_receive.specs.Verdict.{messages}
 use Rattle.uds_exchange.specs.Judging.{sent}
 use Rattle.trace_run.proofs.Promises.{completes_judged, completes_none}
-use Rattle.trace_canon.proofs.HandedOn.{two_ok}
+use Rattle.trace_canon.proofs.Results.{two_ok}
 use Rattle.trace_canon.proofs.CanonicalMachines.{completes_held, says_next, says_nothing_more}
 use Rattle.trace_canon.proofs.normaliser.NormaliserMachine.event.Goals as goal
 

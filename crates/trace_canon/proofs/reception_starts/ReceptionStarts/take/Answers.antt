@@ -4,7 +4,7 @@ use Rattle.std.specs.Prelude.{unwrap_or}
 use Rattle.isotp_receive.specs.EventSeen.{seen_verdict}
 use Rattle.isotp_receive.specs.Trace.{same_direction}
 use Rattle.trace_canon.specs.ReceptionStarts.{start_after_verdict}
-use Rattle.trace_canon.proofs.MessagePlaces.{begins_at, starts_next}
+use Rattle.trace_canon.proofs.NextStarts.{begins_at, starts_next}
 use Rattle.trace_canon.proofs.reception_starts.ReceptionStarts.take.Goals as goal
 
 pub returns-clause-stands : goal.returns-clause-stands

@@ -1,11 +1,11 @@
 -- A row that is said is one more of the chart, with what its blocks begin.
 use Rattle.std.proofs.Common.{Option, arith, ap, subst, sym, [], ◌∷◌, ◌++◌, ◌∙◌}
 use Rattle.trace_report.specs.declared.blocks.Blocks.{Blocks}
-use Rattle.trace_report.specs.declared.row.Row.{Row}
+use Rattle.trace_report.specs.declared.row.SessionRow.{SessionRow}
 use Rattle.trace_report.specs.Blocks.{blocks_behind, no_blocks}
 use Rattle.trace_report.specs.Chart.{rows_text}
+use Rattle.trace_report.specs.Rows.{row_of}
 use Rattle.trace_report.specs.proving.Following.{IsChartOf, row_if}
-use Rattle.trace_report.specs.proving.Pages.{row_of}
 use Rattle.trace_report.proofs.RowTexts.{blocks_onward, few_blocks}
 use Rattle.trace_report.proofs.chart.Chart.say_row_if.Goals as goal
 
@@ -15,7 +15,7 @@ returns-in-Some-clause-stands g c = λ before few is.
     let low = few_blocks before in
     let counts = ap (λ (b : Blocks). b.count) is.blocks in
     let rows = ap (λ (b : Blocks). b.rows) is.blocks in
-    subst (λ (o : Option Row). IsChartOf (before ++ row_if o) (record { blocks = c.say_next_row.new.blocks; tally = c.take.new.self })) (sym c.in-Some.is)
+    subst (λ (o : Option SessionRow). IsChartOf (before ++ row_if o) (record { blocks = c.say_next_row.new.blocks; tally = c.take.new.self })) (sym c.in-Some.is)
     (record {
       blocks = c.say_next_row.ensures.stands (omega (arith, counts, low.0)) (omega (arith, rows, low.1)) ∙ ap (λ b. blocks_behind b (row ∷ [])) is.blocks
           ∙ sym (blocks_onward no_blocks before (row ∷ []));

@@ -2,12 +2,12 @@
 use Rattle.std.proofs.Common.{◌≡◌, ◌≤◌, Option, Some, None, List, arith, ap, subst, sym, ◌++◌, ◌∙◌, append_assoc, length}
 use Rattle.std.proofs.lemmas.List.{length-append}
 use Rattle.trace_report.specs.Rows.{RowValue}
-use Rattle.trace_report.specs.declared.row.Row.{Row}
+use Rattle.trace_report.specs.declared.row.SessionRow.{SessionRow}
 use Rattle.trace_report.specs.proving.Following.{IsChartOf, row_if, rows_in}
 use Rattle.trace_report.proofs.RowTexts.{three_onward}
 use Rattle.trace_report.proofs.chart.Chart.say_rows.Goals as goal
 
-one_at_most : (row : Option Row) → length (row_if row) ≤ 1
+one_at_most : (row : Option SessionRow) → length (row_if row) ≤ 1
 one_at_most None = omega arith
 one_at_most (Some row) = omega arith
 

@@ -4,13 +4,13 @@ use Rattle.isotp_receive.specs.declared.TheConstants.{MESSAGE_LIMIT}
 use Rattle.isotp_receive.specs.EventSeen.{seen_event}
 use Rattle.isotp_receive.specs.Trace.{Entry}
 use Rattle.isotp_receive.specs.Verdict.{EventValue, messages, verdict}
-use Rattle.trace_canon.specs.MessageLines.{place_of}
+use Rattle.trace_canon.specs.FirstFrames.{place_of}
 use Rattle.trace_canon.specs.declared.reception_starts.FramePlace.{FramePlace}
 use Rattle.trace_run.specs.Seen.{IsEventOf, IsSeen}
 use Rattle.trace_run.specs.declared.machine.Seen.{Seen}
 use Rattle.trace_run.proofs.Promises.{completes_judged}
+use Rattle.trace_report.specs.Rows.{row_of}
 use Rattle.trace_report.specs.proving.Following.{KnowsPlaces, row_if}
-use Rattle.trace_report.specs.proving.Pages.{row_of}
 use Rattle.trace_report.proofs.Meeting.{message_event, met_next, met_none, rows_none, rows_of_message}
 use Rattle.trace_report.proofs.follower.Follower.take.Goals as goal
 

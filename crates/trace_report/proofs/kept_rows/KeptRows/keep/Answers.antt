@@ -1,7 +1,7 @@
 -- One row more stays with its bytes, its item and its count; or all is as before.
 use Rattle.std.proofs.Common.{◌≡◌, ◌<◌, ◌^◌, ◌∷◌, ◌++◌, [], length, arith, ap, ◌∙◌, rules}
+use Rattle.trace_report.specs.Rows.{row_of}
 use Rattle.trace_report.specs.proving.Keeping.{places_next, rows_at, waiting_next}
-use Rattle.trace_report.specs.proving.Pages.{row_of}
 use Rattle.trace_report.specs.proving.Tallying.{counts_with}
 use Rattle.trace_report.proofs.Keeping.{kept-more, rows-more}
 use Rattle.trace_report.proofs.Placing.{waiting-placed}
@@ -27,7 +27,7 @@ invariant_of-self-2 c =
     kept-more c.self.inside.messages c.laid.new.messages c.in_ok-kept.ensures.on rows c.in_ok-kept.kept row c.push_reserved.new.self.items
     c.self.invariant.laid c.in_ok-kept.ensures.laid c.in_ok-kept.ensures.row all
     places c.note_row.new.items.items c.self.inside.waiting c.note_row.new.waiting c.self.inside.counts c.take.new.self c.len.result
-    c.self.invariant.placed c.self.invariant.waits c.self.invariant.counted end (omega (arith, few))
+    c.self.invariant.placed c.self.invariant.begun c.self.invariant.waits c.self.invariant.counted end (omega (arith, few))
     (c.note_row.ensures.items ∙ ap (λ l. places_next row l c.self.inside.waiting c.len.result) c.reserve-2.ensures.items)
     (c.note_row.ensures.waiting ∙ ap (λ l. waiting_next row l c.self.inside.waiting) c.reserve-2.ensures.items)
     (c.take.ensures ∙ ap (λ sort. counts_with sort c.self.inside.counts) c.sort_of.ensures)

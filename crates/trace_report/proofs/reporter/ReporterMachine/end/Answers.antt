@@ -1,5 +1,5 @@
 -- Behind the last frame come the rows of the end, and what closes the page.
-use Rattle.std.proofs.Common.{◌<◌, ◌^◌, ◌-◌, List, arith, ap, subst, ◌++◌, length, refl}
+use Rattle.std.proofs.Common.{◌<◌, ◌^◌, ◌-◌, List, arith, ap, subst, ◌∙◌, ◌++◌, length}
 use Rattle.isotp_receive.specs.declared.TheConstants.{MESSAGE_LIMIT}
 use Rattle.trace_report.specs.Blocks.{blocks_of}
 use Rattle.trace_report.specs.Chart.{rows_text}
@@ -13,18 +13,18 @@ use Rattle.trace_report.proofs.Steps.{few_rows}
 use Rattle.trace_report.proofs.reporter.ReporterMachine.end.Goals as goal
 
 pub returns-clause-says : goal.returns-clause-says
-returns-clause-says g c = λ start T known stand within.
-    let origin = c.say_front_before-origin.ensures.first T known.times refl in
+returns-clause-says g c = λ start T known stand.
     let rows = c.end.ensures T known.follows stand in
     let low : length (rows_of MESSAGE_LIMIT T) < 2 ^ 64 - 3 = omega (arith, known.few, few_rows MESSAGE_LIMIT T) in
     let chart = subst (λ (l : List RowValue). IsChartOf l c.say_rows.new.self) (ap (λ l. rows_of MESSAGE_LIMIT T ++ l) rows)
     (c.say_rows.ensures.stands (rows_of MESSAGE_LIMIT T) low known.chart) in
     let first = first_known T c.args.self.times known.times in
+    let origin = c.first_of.ensures ∙ first in
     let last = last_known T c.args.self.times known.times in
-    let front = subst (λ (title : PageTitleValue). g.S.TextSink.says c.args.out.now (front_before title T) c.say_front_before-origin.new.out) known.same
-    (c.say_front_before-origin.ensures.says T known.times) in
+    let front = subst (λ (title : PageTitleValue). g.S.TextSink.says c.args.out.now (front_before title T) c.say_front_before.new.out) known.same
+    (c.say_front_before.ensures T known.times) in
     g.met.S.TextSink.onward _ _ _ _ _ (g.met.S.TextSink.onward _ _ _ _ _ front
-    (subst (λ text. g.S.TextSink.says c.say_front_before-origin.new.out text c.say_rows.new.out)
+    (subst (λ text. g.S.TextSink.says c.say_front_before.new.out text c.say_rows.new.out)
     (λ i. rows_text (origin i) (blocks_of (rows_of MESSAGE_LIMIT T)) (rows i)) (c.say_rows.ensures.says (rows_of MESSAGE_LIMIT T) low known.chart)))
     (subst (λ text. g.S.TextSink.says c.say_rows.new.out text c.say.new.out)
     (λ i. page_end (chart.blocks i) (chart.tally i) c.args.summary.now (first i) (last i)) c.say.ensures)

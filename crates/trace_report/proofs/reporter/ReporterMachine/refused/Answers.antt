@@ -13,7 +13,7 @@ returns g c = record {
       let first = first_known T c.args.self.times known.times in
       let last = last_known T c.args.self.times known.times in
       let front = subst (λ (title : PageTitleValue). g.S.TextSink.says c.args.out.now (front_before title T) c.say_front_before.new.out) known.same
-      (c.say_front_before.ensures.says T known.times) in
+      (c.say_front_before.ensures T known.times) in
       g.met.S.TextSink.onward _ _ _ _ _ front
       (subst (λ text. g.S.TextSink.says c.say_front_before.new.out text c.say.new.out)
       (λ i. refused_end c.args.why ((c.cause_of.ensures ∙ ap (λ (title : PageTitleValue). cause_of c.args.why title.most (glimpse_value c.args.glimpse)) known.same) i) (known.chart.blocks i) (known.chart.tally i) c.args.summary.now (first i) (last i)) c.say.ensures);

@@ -1,6 +1,6 @@
 -- One more row is one more of its sort, and one more target of that.
 use Rattle.std.proofs.Common.{◌∙◌}
-use Rattle.trace_report.specs.proving.Pages.{row_of}
+use Rattle.trace_report.specs.Rows.{row_of}
 use Rattle.trace_report.specs.proving.Tallying.{counts_with, first_with}
 use Rattle.trace_report.proofs.Tallies.{tally_next}
 use Rattle.trace_report.proofs.tally.Tally.take.Goals as goal

@@ -24,4 +24,5 @@ returns g c = λ start said carries.
     let so_far : Carries W start said page settled.target =
     subst (λ held. Carries W start said (record settled.self { held = held }) settled.target) (sym same) (c.settle.ensures.no_more start said carries) in
     let both = says_onward W page one.self two.self settled.target one.target two.target c.args.first.now c.args.second.now c.put.ensures c.put-2.ensures in
-    says_onward W page two.self three.self settled.target two.target three.target (c.args.first.now ++ c.args.second.now) c.args.third.now both c.put-3.ensures start said so_far
+    says_onward W page two.self three.self settled.target two.target three.target (c.args.first.now ++ c.args.second.now)
+    c.args.third.now both c.put-3.ensures start said so_far

@@ -17,13 +17,15 @@ returns-in-Err g c = λ start said carries.
     record {
       low = so_far.low;
       held_some = λ some. omega (arith, some_text, length-append said c.args.text.now);
-      spoke = λ is. omega (arith, some_text, length-append said c.args.text.now);
+      failed_some = λ is. omega (arith, some_text, length-append said c.args.text.now);
       still = λ none. absurd (omega (arith, none, some_text, length-append said c.args.text.now));
       failures = failed.failures ∙ ap (λ n. n + 1) so_far.failures;
       no_empty_write = failed.no_empty_write ∙ so_far.no_empty_write;
       flushes = failed.flushes ∙ so_far.flushes;
       took = took_more so_far.took failed.took;
-      written = front_behind (W.taken start) said c.args.text.now (W.taken c.args.target.now) page.held (W.taken c.gather.new.target) so_far.written failed.taken;
+      written =
+          front_behind (W.taken start) said c.args.text.now (W.taken c.args.target.now) page.held (W.taken c.gather.new.target)
+          so_far.written failed.taken;
     }
 
 pub returns-in_default : goal.returns-in_default
@@ -34,18 +36,22 @@ returns-in_default g c = λ start said carries.
     let some_text : 0 < length c.args.text.now = c.requires in
     let so_far : Carries W start said (record page { failed = false }) c.args.target.now =
     subst (λ b. Carries W start said (record page { failed = b }) c.args.target.now) (c.may_write.ensures.well c.if-not-may_write.false) carries in
-    subst (λ b. Carries W start (said ++ c.args.text.now) (record { held = c.gather.new.held; failed = b }) c.gather.new.target) (sym (c.may_write.ensures.well c.if-not-may_write.false)) (record {
+    subst (λ b. Carries W start (said ++ c.args.text.now) (record { held = c.gather.new.held; failed = b }) c.gather.new.target)
+    (sym (c.may_write.ensures.well c.if-not-may_write.false)) (record {
       low = so_far.low;
       held_some = λ some. omega (arith, some_text, length-append said c.args.text.now);
-      spoke = λ is. absurd (cc is);
+      failed_some = λ is. absurd (cc is);
       still = λ none. absurd (omega (arith, none, some_text, length-append said c.args.text.now));
       failures = put.failures ∙ so_far.failures;
       no_empty_write = put.no_empty_write ∙ so_far.no_empty_write;
       flushes = put.flushes ∙ so_far.flushes;
       took = took_more so_far.took put.took;
-      written = written_behind (W.taken start) said c.args.text.now (W.taken c.args.target.now) page.held (W.taken c.gather.new.target) c.gather.new.held so_far.written put.taken;
+      written =
+          written_behind (W.taken start) said c.args.text.now (W.taken c.args.target.now) page.held (W.taken c.gather.new.target)
+          c.gather.new.held so_far.written put.taken;
     })
 
 pub returns-then-not-may_write : goal.returns-then-not-may_write
 returns-then-not-may_write g c = λ start said carries.
-    said_in_vain g.W.Target start c.args.target.now said c.args.text.now c.args.self.now (c.may_write.ensures.wrong c.if-not-may_write.true start said carries) carries
+    said_in_vain g.W.Target start c.args.target.now said c.args.text.now c.args.self.now
+    (c.may_write.ensures.wrong c.if-not-may_write.true start said carries) carries

@@ -1,7 +1,6 @@
 -- Nothing is held, all that was is written, or a front of it, where writing failed.
 use Rattle.std.proofs.Common.{arith, refl, ◌+◌, ◌++◌, append-nil, false, [], Err, ap, sym, subst, ◌∙◌}
 use Rattle.trace_io.proofs.Promises.{took_more}
-use Rattle.trace_io.specs.Written.{HasFront}
 use Rattle.trace_run.specs.proving.Carrying.{Carries, blank_page}
 use Rattle.trace_run.proofs.Carryings.{let_go}
 use Rattle.trace_run.proofs.WrittenFronts.{held_written, gathered_written, rest_along}
@@ -21,14 +20,15 @@ returns-in-Err-clause-settled g c = λ start said carries.
     record {
       low = so_far.low;
       held_some = λ some. absurd (omega arith);
-      spoke = λ is. so_far.held_some (c.is_empty.ensures.some c.if-is_empty.false);
+      failed_some = λ is. so_far.held_some (c.is_empty.ensures.some c.if-is_empty.false);
       still = λ none. absurd (omega (arith, none, so_far.held_some (c.is_empty.ensures.some c.if-is_empty.false)));
       failures = failed.failures ∙ ap (λ n. n + 1) so_far.failures;
       no_empty_write = failed.no_empty_write ∙ so_far.no_empty_write;
       flushes = failed.flushes ∙ so_far.flushes;
       took = took_more so_far.took failed.took;
-      written = gathered_written {A = Unit {0}} (Err c.in-Err._fault) (W.taken start) said (W.taken c.args.target.now) page.held (W.taken c.write_all.new.target) so_far.written
-          (subst (λ t. HasFront (W.taken c.args.target.now) t (W.taken c.write_all.new.target)) c.as_slice.ensures.value failed.taken);
+      written =
+          gathered_written {A = Unit {0}} (Err c.in-Err._fault) (W.taken start) said (W.taken c.args.target.now) page.held (W.taken c.write_out.new.target)
+          so_far.written failed.taken;
     }
 
 pub returns-clause-settled : goal.returns-clause-settled
@@ -41,15 +41,15 @@ returns-clause-settled g c = λ start said carries.
     record {
       low = so_far.low;
       held_some = λ some. absurd (omega arith);
-      spoke = λ is. absurd (cc is);
+      failed_some = λ is. absurd (cc is);
       still = λ none. absurd (omega (arith, none, so_far.held_some (c.is_empty.ensures.some c.if-is_empty.false)));
       failures = wrote.failures ∙ so_far.failures;
       no_empty_write = wrote.no_empty_write ∙ so_far.no_empty_write;
       flushes = wrote.flushes ∙ so_far.flushes;
       took = took_more so_far.took wrote.took;
-      written = held_written (W.taken start) said (W.taken c.args.target.now) page.held [] (W.taken c.write_all.new.target)
+      written = held_written (W.taken start) said (W.taken c.args.target.now) page.held [] (W.taken c.write_out.new.target)
           (rest_along (W.taken start) said (W.taken c.args.target.now) page.held (page.held ++ []) so_far.written (sym (append-nil page.held)))
-          (wrote.taken ∙ ap (λ t. W.taken c.args.target.now ++ t) c.as_slice.ensures.value);
+          wrote.taken;
     }
 
 pub returns-in-Err-clause-no_more : goal.returns-in-Err-clause-no_more
@@ -59,8 +59,8 @@ returns-in-Err-clause-no_more g c = λ start said carries.
     let done = returns-in-Err-clause-settled g c start said carries in
     record {
       low = done.low;
-      held_some = λ some. done.spoke refl;
-      spoke = done.spoke;
+      held_some = λ some. done.failed_some refl;
+      failed_some = done.failed_some;
       still = done.still;
       failures = done.failures;
       no_empty_write = done.no_empty_write;
@@ -72,5 +72,6 @@ returns-in-Err-clause-no_more g c = λ start said carries.
 pub returns-clause-no_more : goal.returns-clause-no_more
 returns-clause-no_more g c = λ start said carries.
     let W = g.W.Target in
-    subst (λ h. Carries W start said (record c.args.self.now { held = h }) c.write_all.new.target) (sym c.clear.ensures)
-    (subst (λ b. Carries W start said (blank_page b) c.write_all.new.target) (sym (c.may_write.ensures.well c.if-not-may_write.false)) (returns-clause-settled g c start said carries))
+    subst (λ h. Carries W start said (record c.args.self.now { held = h }) c.write_out.new.target) (sym c.write_out.ensures.blank)
+    (subst (λ b. Carries W start said (blank_page b) c.write_out.new.target)
+    (sym (c.may_write.ensures.well c.if-not-may_write.false)) (returns-clause-settled g c start said carries))

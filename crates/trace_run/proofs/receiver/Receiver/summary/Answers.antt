@@ -8,5 +8,8 @@ use Rattle.trace_run.proofs.receiver.Receiver.summary.Goals as goal
 
 pub returns : goal.returns
 returns g c = λ settings log meanings received feed judged.
-    summed_up settings log meanings c.args.self.now.pair c.args.self.now.lines c.saturating_add.result c.args.self.now.counts c.unfinished.result c.removed.result c.args.ends_in_line_feed c.look_exchanged.result received feed (omega arith) c.saturating_add.ensures
-    (c.unfinished.ensures (trace settings meanings) received.pair_is) (c.removed.ensures ∙ judged.counted.removed) (c.look_exchanged.ensures (messages_of_lines MESSAGE_LIMIT settings meanings) (c.sides.ensures ∙ judged.sides))
+    let self = c.args.self.now in
+    summed_up settings log meanings self.pair self.lines c.saturating_add.result self.counts c.unfinished.result c.removed.result
+    c.args.ends_in_line_feed c.look_exchanged.result received feed (omega arith) c.saturating_add.ensures
+    (c.unfinished.ensures (trace settings meanings) received.pair_is) (c.removed.ensures ∙ judged.counted.removed)
+    (c.look_exchanged.ensures (messages_of_lines MESSAGE_LIMIT settings meanings) (c.sides.ensures ∙ judged.sides))

@@ -2,9 +2,8 @@
 use Rattle.std.proofs.Common.{[], arith, false, subst}
 use Rattle.std.specs.Prelude.{not}
 use Rattle.trace_run.specs.proving.Carrying.{Carries, blank_page}
-use Rattle.trace_run.specs.proving.Telling.{HasToldAndWritten}
-use Rattle.trace_run.specs.Script.{said_of_frames}
-use Rattle.trace_run.proofs.Carryings.{nothing_said, wrote_all}
+use Rattle.trace_run.specs.proving.Telling.{said_since, HasToldAndWritten}
+use Rattle.trace_run.proofs.Carryings.{carries_at_start, wrote_all}
 use Rattle.trace_run.proofs.ToldFrames.{settled_as, same_page}
 use Rattle.trace_run.proofs.telling.Telling.settle.Goals as goal
 
@@ -14,25 +13,36 @@ returns g c =
     let W = g.W.Target in
     let self = c.args.self.now in
     record {
-      well = λ is start first T tells.
-          let now : HasToldAndWritten M.stands M.script W start first T self false c.settle.new.target =
-          subst (λ b. HasToldAndWritten M.stands M.script W start first T self (not b) c.settle.new.target) is
-          (settled_as M.stands M.script W start first T self _ _ c.settle.result tells c.settle.ensures.settled) in
-          (now, same_page M.stands M.script W start first T self c.settle.new.self c.settle.new.target now (c.settle.ensures.well is) (c.settle.ensures.blank is));
-      wrong = λ is start first T tells.
-          subst (λ b. HasToldAndWritten M.stands M.script W start first T self (not b) c.settle.new.target) is
-          (settled_as M.stands M.script W start first T self _ _ c.settle.result tells c.settle.ensures.settled);
-      sure = λ is start first T tells.
-          let text = said_of_frames ((M.script first).of_frame) T in
-          let written : Carries W start text (blank_page false) c.settle.new.target =
-          subst (λ b. Carries W start text (blank_page (not b)) c.settle.new.target) is (c.settle.ensures.settled start text tells.carried) in
+      well = λ is start T tells.
+          let now : HasToldAndWritten M W start T self false c.settle.new.target =
+          subst (λ b. HasToldAndWritten M W start T self (not b) c.settle.new.target) is
+          (settled_as M W start T self _ _ c.settle.result tells c.settle.ensures.settled) in (
+            now,
+            same_page M W start T self c.settle.new.self c.settle.new.target now (c.settle.ensures.well is) (c.settle.ensures.blank is),
+          );
+      wrong = λ is start T tells.
+          subst (λ b. HasToldAndWritten M W start T self (not b) c.settle.new.target) is
+          (settled_as M W start T self _ _ c.settle.result tells c.settle.ensures.settled);
+      sure = λ is start T tells.
+          let text = said_since M start.machine T in
+          let written : Carries W start.target text (blank_page false) c.settle.new.target =
+          subst (λ b. Carries W start.target text (blank_page (not b)) c.settle.new.target) is
+          (c.settle.ensures.settled start.target text tells.carried) in
           record {
             within = tells.within;
             mid = c.settle.new.target;
             said = [];
-            wrote = wrote_all W start c.settle.new.target text written;
-            carried = nothing_said W c.settle.new.target c.settle.new.self (omega (arith, written.failures)) (c.settle.ensures.well is) (c.settle.ensures.blank is);
+            wrote = wrote_all W start.target c.settle.new.target text written;
+            carried =
+                carries_at_start W c.settle.new.target c.settle.new.self (omega (arith, written.failures))
+                (c.settle.ensures.well is) (c.settle.ensures.blank is);
           };
-      kept = λ start first earlier sure.
-          record { within = sure.within; mid = sure.mid; said = sure.said; wrote = sure.wrote; carried = c.settle.ensures.no_more sure.mid sure.said sure.carried };
+      kept = λ start earlier sure.
+          record {
+            within = sure.within;
+            mid = sure.mid;
+            said = sure.said;
+            wrote = sure.wrote;
+            carried = c.settle.ensures.no_more sure.mid sure.said sure.carried;
+          };
     }

@@ -1,0 +1,12 @@
+pub mod Places
+pub mod Columns
+pub mod BytesBefore
+pub mod BothMessages
+pub mod Counting
+pub mod PairedPieces
+pub mod LineNumbers
+pub mod LinePlaces
+pub mod StretchKinds
+pub mod CommonEnds
+pub mod LineColumns
+pub mod Promises

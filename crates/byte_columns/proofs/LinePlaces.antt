@@ -1,0 +1,110 @@
+-- Where lines stand.
+use Rattle.std.proofs.Common.{◌≡◌, ℕ, zero, suc, ◌+◌, ◌-◌, ◌*◌, ◌≤◌, ◌<◌, min, Bool, true, false, List, [], ◌∷◌, ◌++◌, length, take, drop, arith, ap, sym, ◌∙◌, refl}
+use Rattle.std.proofs.lemmas.List.{length-append, length-take, length-drop, drop-take, take_min}
+use Rattle.byte_columns.specs.declared.column.Column.{Column}
+use Rattle.byte_columns.specs.Columns.{differing, differs}
+use Rattle.byte_columns.specs.Lines.{columns_from, differing_before, folded_from, in_lines, is_shown, line, line_count, line_differs}
+use Rattle.byte_columns.proofs.Counting.{one_if}
+
+-- the places of a line
+pub record HasPlaces (columns : List Column) (number : ℕ) : Type 0 where
+  pub few : number < 256
+  pub long : length (line columns number) ≡ min (16 * number + 16) (min (length columns) 4095) - 16 * number
+  pub inside : 16 * number < min (length columns) 4095
+  pub in_all : length (in_lines columns) ≡ min (length columns) 4095
+
+pub has-places : (columns : List Column) (number : ℕ) → number < line_count columns → HasPlaces columns number
+has-places columns number below =
+    let all = length-take 4095 columns in
+    let rest = length-drop (16 * number) (take 4095 columns) in
+    let some = length-take 16 (drop (16 * number) (take 4095 columns)) in
+    record { few = omega arith; long = omega arith; inside = omega arith; in_all = omega arith }
+
+pub lines-few : (columns : List Column) → line_count columns ≤ 256
+lines-few columns = let all = length-take 4095 columns in omega arith
+
+pub in-all : (columns : List Column) → length (in_lines columns) ≡ min (length columns) 4095
+in-all columns = let all = length-take 4095 columns in omega arith
+
+-- how many columns of a list differ at most
+differing-one : (is : Bool) (later : ℕ) (all : ℕ) → later ≤ all → one_if is + later ≤ suc all
+differing-one true later all h = omega arith
+differing-one false later all h = omega arith
+
+pub differing-few : (columns : List Column) → differing columns ≤ length columns
+differing-few [] = omega arith
+differing-few (here ∷ later) = differing-one (differs here) (differing later) (length later) (differing-few later)
+
+-- one cut within another
+take-both : (m n : ℕ) (l : List Column) → take m (take n l) ≡ take (min m n) l
+take-both zero n l = let none : min 0 n ≡ 0 = omega arith in ap (λ (k : ℕ). take k l) (sym none)
+take-both (suc m) zero l = let none : min (suc m) 0 ≡ 0 = omega arith in ap (λ (k : ℕ). take k l) (sym none)
+take-both (suc m) (suc n) [] = let some : min (suc m) (suc n) ≡ suc (min m n) = omega arith in ap (λ (k : ℕ). take k []) (sym some)
+take-both (suc m) (suc n) (x ∷ l) =
+    let some : min (suc m) (suc n) ≡ suc (min m n) = omega arith in
+    ap (λ (v : List Column). x ∷ v) (take-both m n l) ∙ ap (λ (k : ℕ). take k (x ∷ l)) (sym some)
+
+-- a line, as a stretch of all columns
+pub line-is : (columns : List Column) (number end : ℕ) → number < line_count columns → end ≡ min (16 * number + 16) (min (length columns) 4095)
+    → take (end - 16 * number) (drop (16 * number) columns) ≡ line columns number
+line-is columns number end below e =
+    let places = has-places columns number below in
+    let inside = places.inside in
+    let first = 16 * number in
+    let more = 4095 - 16 * number in
+    let long = length-drop (16 * number) columns in
+    let all : 16 * number + (4095 - 16 * number) ≡ 4095 = omega arith in
+    let cut : drop (16 * number) (take 4095 columns) ≡ take (4095 - 16 * number) (drop (16 * number) columns) =
+    ap (λ (n : ℕ). drop (16 * number) (take n columns)) (sym all) ∙ drop-take (16 * number) (4095 - 16 * number) columns in
+    let count : end - 16 * number ≡ min (min 16 (4095 - 16 * number)) (length (drop (16 * number) columns)) = omega arith in
+    ap (λ (n : ℕ). take n (drop (16 * number) columns)) count
+    ∙ take_min (min 16 (4095 - 16 * number)) (drop (16 * number) columns)
+    ∙ sym (take-both 16 (4095 - 16 * number) (drop (16 * number) columns))
+    ∙ ap (take 16) (sym cut)
+
+-- what is folded together from a line on
+pub folded-shown : (columns : List Column) (number more : ℕ) → is_shown columns number ≡ true → folded_from columns number more ≡ 0
+folded-shown columns number zero is = refl
+folded-shown columns number (suc more) is = rw is refl
+
+pub folded-next : (columns : List Column) (number all : ℕ) → number < all → is_shown columns number ≡ false
+    → folded_from columns number (all - number) ≡ 1 + folded_from columns (number + 1) (all - (number + 1))
+folded-next columns number all below is =
+    let next : all - number ≡ suc (all - (number + 1)) = omega arith in
+    rw (next, is) refl
+
+pub before-next : (columns : List Column) (number : ℕ) → differing_before columns (number + 1) ≡ one_if (line_differs columns number) + differing_before columns number
+before-next columns number = let next : number + 1 ≡ suc number = omega arith in ap (differing_before columns) next
+
+pub before-few : (columns : List Column) (number : ℕ) → differing_before columns number ≤ number
+before-few columns zero = omega arith
+before-few columns (suc number) = one-few (line_differs columns number) (differing_before columns number) number (before-few columns number)
+  where
+    one-few : (is : Bool) (before number : ℕ) → before ≤ number → one_if is + before ≤ suc number
+    one-few true before number h = omega arith
+    one-few false before number h = omega arith
+
+pub folded-none : (columns : List Column) (number more : ℕ) → more ≡ 0 → folded_from columns number more ≡ 0
+folded-none columns number more e = ap (folded_from columns number) e
+
+-- ---- the columns of lines, one line after another
+
+differing-append : (a b : List Column) → differing (a ++ b) ≡ differing a + differing b
+differing-append [] b = omega arith
+differing-append (here ∷ a) b = let rest = differing-append a b in omega arith
+
+columns-next : (columns : List Column) (at end : ℕ) → at < end → columns_from columns at (end - at) ≡ line columns at ++ columns_from columns (at + 1) (end - (at + 1))
+columns-next columns at end below = let next : end - at ≡ suc (end - (at + 1)) = omega arith in ap (columns_from columns at) next
+
+pub length-next : (columns : List Column) (at end : ℕ) → at < end
+    → length (columns_from columns at (end - at)) ≡ length (line columns at) + length (columns_from columns (at + 1) (end - (at + 1)))
+length-next columns at end below =
+    ap length (columns-next columns at end below) ∙ length-append (line columns at) (columns_from columns (at + 1) (end - (at + 1)))
+
+pub differing-next : (columns : List Column) (at end : ℕ) → at < end
+    → differing (columns_from columns at (end - at)) ≡ differing (line columns at) + differing (columns_from columns (at + 1) (end - (at + 1)))
+differing-next columns at end below =
+    ap differing (columns-next columns at end below) ∙ differing-append (line columns at) (columns_from columns (at + 1) (end - (at + 1)))
+
+pub columns-none : (columns : List Column) (at more : ℕ) → more ≡ 0 → columns_from columns at more ≡ []
+columns-none columns at more e = ap (columns_from columns at) e

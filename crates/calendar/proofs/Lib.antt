@@ -1,0 +1,4 @@
+pub mod Days
+pub mod NextDays
+pub mod OneDate
+pub mod Promises

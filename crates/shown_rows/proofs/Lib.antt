@@ -1,0 +1,10 @@
+pub mod RowSteps
+pub mod Counted
+pub mod ShownRows
+pub mod EachChange
+pub mod ChangeSteps
+pub mod ChangePlaces
+pub mod NearChanges
+pub mod HunkPlaces
+pub mod FoldPlaces
+pub mod Promises

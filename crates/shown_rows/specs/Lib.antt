@@ -1,0 +1,5 @@
+pub mod Rows
+pub mod Hunks
+pub mod Folds
+pub mod Changes
+pub mod Laws

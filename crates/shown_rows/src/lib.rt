@@ -1,0 +1,27 @@
+//! What of the rows of a difference is shown, and what is counted.
+//!
+//! Two sessions side by side are mostly the same, and a reader looks for what is not. So of their rows a text has the
+//! *hunks*: each row that is a change, with three rows before and three behind; and a page shows these, and folds the
+//! others. A *change* is what a reader counts as one difference: two items that changed, or a run of items that only one of
+//! the two sessions has.
+//!
+//! ```text
+//! same same same same same OnlyLeft OnlyLeft Changed same same same same
+//! [folded ] [hunk                                                ] [fold]
+//!                          change 1          change 2
+//! ```
+#![tactic(auto)]
+
+mod changes;
+mod folds;
+mod hunks;
+pub mod laws;
+mod rows;
+
+pub use changes::{Change, begins_change, change_at, count_changes};
+pub use folds::{context_behind, folded, is_shown};
+pub use hunks::hunk_length;
+pub use rows::{
+    CONTEXT, changes_within, count_of, differs, is_change, left_count, left_in, right_count,
+    right_in,
+};

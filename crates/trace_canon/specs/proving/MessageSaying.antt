@@ -1,0 +1,12 @@
+-- Devices of proof: what the machine that says the lines of messages keeps.
+use Rattle.std.specs.Prelude.{◌≡◌, List}
+use Rattle.isotp_receive.specs.declared.TheConstants.{MESSAGE_LIMIT}
+use Rattle.isotp_receive.specs.Trace.{Entry}
+use Rattle.trace_canon.specs.ReceptionStarts.{AreStartsAfter}
+use Rattle.trace_canon.specs.declared.reception_starts.ReceptionStarts.{ReceptionStarts}
+use Rattle.trace_text.specs.declared.notation.Notation.{Notation}
+
+-- This is what the machine that says the lines of messages in a notation keeps of the frames T.
+pub record SaysMessages (notation : Notation) (T : List Entry) (own_notation : Notation) (starts : ReceptionStarts) : Type 0 where
+  pub same : own_notation ≡ notation
+  pub begun : AreStartsAfter MESSAGE_LIMIT T starts

@@ -1,0 +1,56 @@
+//! `find`: the credit lines of a log (`specs/CreditLines.antt` says what they are), written once it has ended. `hearer`
+//! reads the log and gives them, `credit_lines` has their text, and here the one is joined to the other.
+ghost use Rattle.trace_canon.specs.Finding.{RanToFind};
+ghost use Rattle.trace_io.specs.Counted.{IsLowCount};
+ghost use Rattle.trace_log.specs.Devices.{HasLowCounts};
+
+use crate::credit_lines::say_credit_lines;
+use crate::hearer::found_in;
+use std::alloc::Global;
+use text_parts::Part;
+use trace_io::{Source, Target, TextSink};
+use trace_log::{Config, Fault, Summary};
+use trace_run::print;
+use trace_text::Notation;
+use uds_find::CreditLine;
+
+/// Reads a log, and then writes its credit lines in this notation. Of the configuration the limit alone counts.
+///
+/// The writer is not flushed.
+pub fn find<R: Source, W: Target>(
+    alloc: Global,
+    config: &Config,
+    notation: Notation,
+    reader: &mut R,
+    writer: &mut W,
+) -> Result<Summary, Fault>
+    requires reader { HasLowCounts R.Source reader.old }
+    requires writer { IsLowCount (W.failures writer.old) }
+
+    ensures ran { RanToFind R.Source W.Target notation config.now reader.old writer.old result reader.new writer.new }
+{
+    let found = found_in(alloc, config, reader)?;
+    let lines = CreditLines {
+        lines: &found.credit_lines,
+        notation,
+    };
+    print(lines, writer)?;
+    Ok(found.summary)
+}
+
+/// The text of credit lines, in order, in a notation.
+#[derive(Clone, Copy)]
+struct CreditLines<'a> {
+    lines: &'a Vec<CreditLine>,
+    notation: Notation,
+}
+
+impl<'a> Part for CreditLines<'a> {
+    ghost use Rattle.trace_canon.specs.CreditLines.{credit_lines_text};
+
+    ghost text = { λ part. credit_lines_text part.notation part.lines.now.items };
+
+    fn say<S: TextSink>(self, out: &mut S) {
+        say_credit_lines(self.lines, self.notation, out);
+    }
+}

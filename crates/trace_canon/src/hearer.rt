@@ -1,0 +1,133 @@
+//! The credit lines of a log, for [`find`](crate::find), which writes them. What is *heard* is every frame, whatever
+//! its identifier: so this stands on the lines of a log, and no machine does it. What is *found* at the end are the
+//! credit lines, and the counts of the log.
+ghost use Rattle.std.specs.Prelude.{◌≡◌, List, ℕ, [], length, IfErr, IfOk, Option};
+ghost use Rattle.can_log.specs.declared.frame.Stamped.{Stamped as StampedValue};
+ghost use Rattle.trace_canon.specs.Finding.{GivesFound, IsFoundOf, summary_of_lines};
+ghost use Rattle.trace_canon.specs.CreditLines.{frames_in};
+ghost use Rattle.trace_canon.specs.WaysOfReading.{reading_to_find};
+ghost use Rattle.trace_canon.specs.ReadOnly.{RanToRead};
+ghost use Rattle.trace_canon.specs.proving.Hearing.{HasHeard};
+ghost use Rattle.trace_log.specs.Devices.{HasLowCounts};
+ghost use Rattle.trace_log.specs.Summing as Spec;
+ghost use Rattle.uds_find.specs.Credit.{HasCredit};
+
+use can_log::{Stamped, Wanted};
+use std::alloc::Global;
+use trace_io::Source;
+use trace_log::{Config, Fault, LineTaker, Summary, feed_lines};
+use uds_find::{CreditLine, Finder};
+
+/// The credit lines of a log, in their order, and what was counted in it.
+#[derive(Debug, Drop)]
+pub(crate) struct FoundCreditLines {
+    pub credit_lines: Vec<CreditLine>,
+    pub summary: Summary,
+}
+
+/// Reads a log, and gives its credit lines and its counts.
+pub(crate) fn found_in<R: Source>(
+    alloc: Global,
+    config: &Config,
+    reader: &mut R,
+) -> Result<FoundCreditLines, Fault>
+    requires reader { HasLowCounts R.Source reader.old }
+    ensures ran { RanToRead R.Source (GivesFound config.now) (reading_to_find config.now) reader.old result reader.new }
+{
+    let mut hearer = Hearer::start(alloc);
+    let ends_in_line_feed = feed_lines(config.max_bytes(), reader, &mut hearer, &mut ())?;
+    hearer.finish(alloc, ends_in_line_feed)
+}
+
+/// What hears every frame of a log.
+#[derive(Drop)]
+pub(crate) struct Hearer {
+    pub finder: Finder,
+    pub lines: u64,
+}
+
+impl Hearer {
+    /// Before the first line.
+    fn start(alloc: Global) -> Hearer
+        ensures { HasHeard [] result.finder result.lines }
+    {
+        Hearer {
+            finder: Finder::new(alloc),
+            lines: 0,
+        }
+    }
+
+    /// The credit lines of all that was heard. The log ended in a line feed, or not.
+    fn finish(self, alloc: Global, ends_in_line_feed: bool) -> Result<FoundCreditLines, Fault>
+        ensures found { IfOk result (λ found. (log : List ℕ) (meanings : List (Option StampedValue))
+            → HasHeard meanings self.finder self.lines
+            → ends_in_line_feed ≡ Spec.ends_in_line_feed log
+            → IsFoundOf log meanings found.credit_lines.items found.summary) }
+        ensures fault { IfErr result (λ fault. fault ≡ Fault.Memory) }
+        ensures needs { IfErr result (λ fault. (meanings : List (Option StampedValue))
+            → HasHeard meanings self.finder self.lines → HasCredit (frames_in meanings)) }
+    {
+        let Hearer { finder, lines } = self;
+        let credit_lines = finder.finish(alloc)?;
+        Ok(FoundCreditLines {
+            credit_lines,
+            summary: summary(lines, ends_in_line_feed),
+        })
+    }
+}
+
+/// What is counted in a log of so many lines. Where nobody told the identifiers, no frame is of a side.
+fn summary(lines: u64, ends_in_line_feed: bool) -> Summary
+    ensures { (log : List ℕ) (meanings : List (Option StampedValue)) → lines ≡ length meanings
+        → ends_in_line_feed ≡ Spec.ends_in_line_feed log → result ≡ summary_of_lines log meanings }
+{
+    Summary {
+        lines,
+        ends_in_line_feed,
+        ..Summary::nothing()
+    }
+}
+
+impl LineTaker for Hearer {
+    ghost use Rattle.std.specs.Prelude.{◌≡◌, ⊤, [], ◌∷◌, ◌++◌};
+    ghost use Rattle.trace_canon.specs.CreditLines.{frames_in};
+    ghost use Rattle.trace_log.specs.declared.fault.Fault.TheVariants.{Memory};
+    ghost use Rattle.trace_canon.specs.proving.Hearing.{HasHeard};
+    ghost use Rattle.uds_find.specs.Credit.{HasCredit};
+
+    type Device = ();
+
+    // `s` and `t` are this and its device, before and after lines with these meanings.
+    ghost took = { λ s meanings t. HasHeard [] s.0.finder s.0.lines → HasHeard meanings t.0.finder t.0.lines };
+
+    ghost rested = { λ s meanings t. HasHeard [] s.0.finder s.0.lines → HasHeard meanings t.0.finder t.0.lines };
+
+    ghost broke = { λ s meanings t. ⊥ };
+
+    ghost stopped = { λ s meanings what fault t. HasHeard [] s.0.finder s.0.lines
+        → (fault ≡ Memory) × HasCredit (frames_in (meanings ++ what ∷ [])) };
+
+    ghost sure = { λ s first t. ⊤ };
+
+    ghost wants = { λ s first second. ⊥ };
+
+    fn wanted(&self) -> Option<&Wanted> {
+        None
+    }
+
+    fn pass(&mut self, line: u64) {
+        self.lines = line;
+    }
+
+    fn rest(&mut self, _device: &mut ()) -> bool {
+        true
+    }
+
+    fn take(&mut self, _device: &mut (), line: u64, what: &Option<Stamped>) -> Result<(), Fault> {
+        self.lines = line;
+        match what {
+            Some(stamped) => Ok(self.finder.take(&stamped.frame)?),
+            None => Ok(()),
+        }
+    }
+}

@@ -1,0 +1,147 @@
+//! `messages`: a machine that says the line of each message, as it is delivered: with the places of its first frame and
+//! of its last one, which are where these stand in the log.
+ghost use Rattle.isotp_receive.specs.declared.TheConstants.{MESSAGE_LIMIT};
+ghost use Rattle.trace_canon.specs.MessagesScript.{judged_at, placed_line, placed_text, messages_script};
+ghost use Rattle.trace_run.specs.Script.{answers_counts, command, needs_none, says_no_refusal};
+ghost use Rattle.trace_run.specs.Ran.{RanLenient};
+ghost use Rattle.trace_io.specs.Counted.{IsLowCount};
+ghost use Rattle.trace_log.specs.Devices.{HasLowCounts};
+
+use crate::message_objects::say_message_object;
+use crate::message_parts::{FrameExtent, Role};
+use crate::reception_starts::{FramePlace, ReceptionStarts};
+use isotp_receive::Pair;
+use std::alloc::{AllocError, Global};
+use text_parts::say;
+use trace_io::{Source, Target, TextSink};
+use trace_log::{Config, Fault, Summary};
+use trace_run::{Glimpse, Machine, NoAnswer, Seen, run_lenient};
+use trace_text::{HexBytes, Notation, Number, Sender};
+use uds_exchange::Judged;
+
+/// Reads a log and writes a line for each message that is delivered, as it comes, in words or as an object of JSON: the
+/// number that [`list`](crate::list) gives its item, its role in that item, its direction, the lines and the time
+/// stamps of its first frame and its last one, and its bytes.
+///
+/// The writer is not flushed.
+pub fn messages<R: Source, W: Target>(
+    alloc: Global,
+    config: &Config,
+    notation: Notation,
+    reader: &mut R,
+    writer: &mut W,
+) -> Result<Summary, Fault>
+    requires reader { HasLowCounts R.Source reader.old }
+    requires writer { IsLowCount (W.failures writer.old) }
+
+    // What is answered and written; that it is written before more is read; and what was done with the devices.
+    ensures ran { RanLenient R.Source W.Target
+        (command (messages_script notation MESSAGE_LIMIT) says_no_refusal answers_counts needs_none)
+        config.now reader.old writer.old result reader.new writer.new }
+{
+    let machine = Messenger {
+        notation,
+        starts: ReceptionStarts::start(),
+    };
+    run_lenient(alloc, config, machine, reader, writer)
+}
+
+/// Says the line of each message. It keeps no message.
+#[derive(Drop)]
+pub(crate) struct Messenger {
+    pub notation: Notation,
+    pub starts: ReceptionStarts,
+}
+
+impl Machine for Messenger {
+    ghost use Rattle.isotp_receive.specs.declared.TheConstants.{MESSAGE_LIMIT};
+    ghost use Rattle.trace_canon.specs.proving.MessageSaying.{SaysMessages};
+    ghost use Rattle.trace_canon.specs.MessagesScript.{messages_script};
+    ghost use Rattle.trace_run.specs.Script.{answers_counts, needs_none};
+
+    type Answer = Summary;
+
+    ghost stands = { λ start T now. SaysMessages start.notation T now.notation now.starts };
+
+    ghost script = { λ start. messages_script start.notation MESSAGE_LIMIT };
+
+    ghost answers = { λ start. answers_counts };
+
+    ghost needs = { λ start. needs_none };
+
+    #[inline(always)]
+    fn is_strict(&self) -> bool {
+        false
+    }
+
+    #[inline(always)]
+    fn event<S: TextSink>(&mut self, seen: Seen<'_>, out: &mut S) -> Result<(), AllocError> {
+        let here = FramePlace {
+            line: seen.line,
+            micros: seen.micros,
+        };
+        let first = self.starts.take(here, seen.dir, seen.event);
+        if let Some(message) = seen.message {
+            say_message(self.notation, &message, first, here, out);
+        }
+        Ok(())
+    }
+
+    fn end<S: TextSink>(
+        self,
+        _pair: &Pair,
+        summary: &Summary,
+        _out: &mut S,
+    ) -> Result<Summary, NoAnswer> {
+        Ok(*summary)
+    }
+
+    fn refused<S: TextSink>(
+        self,
+        _summary: &Summary,
+        _why: Fault,
+        _glimpse: Glimpse<'_>,
+        _out: &mut S,
+    ) {}
+}
+
+/// Says the line of a message that has its first frame and its last one in these places.
+fn say_message<S: TextSink>(
+    notation: Notation,
+    message: &Judged<'_>,
+    first: FramePlace,
+    last: FramePlace,
+    out: &mut S,
+)
+    ensures { S.says out.old (placed_text notation (judged_at message.now first last)) out.new }
+{
+    match notation {
+        Notation::Text => say_message_line(message, first, last, out),
+        Notation::Json => say_message_object(message, first, last, out),
+    }
+}
+
+/// Says the line of a message in words.
+fn say_message_line<S: TextSink>(
+    message: &Judged<'_>,
+    first: FramePlace,
+    last: FramePlace,
+    out: &mut S,
+)
+    ensures { S.says out.old (placed_line (judged_at message.now first last)) out.new }
+{
+    say(
+        out,
+        (
+            Number(message.item_number),
+            " ",
+            Role(message.step),
+            " ",
+            Sender(message.dir),
+            FrameExtent { first, last },
+            " ",
+            HexBytes(message.bytes),
+            "\n",
+        ),
+    );
+}

@@ -1,0 +1,19 @@
+-- What the lines of a list are.
+use Rattle.std.proofs.Common.{◌≡◌, ℕ, ◌+◌, List, [], ◌∷◌, ◌++◌, ap, refl}
+use Rattle.std.specs.List.{flat_map}
+use Rattle.uds_exchange.specs.Meaning.{ItemValue}
+use Rattle.trace_text.specs.ItemLines.{list_text_from}
+use Rattle.trace_text.specs.declared.item_style.ItemStyle.{ItemStyle}
+use Rattle.trace_text.specs.declared.item_style.Numbering.TheVariants.{Hidden}
+use Rattle.trace_text.specs.declared.notation.Notation.TheVariants.{Text}
+use Rattle.trace_difference.specs.Laws.{ListedLinesAreTheList}
+use Rattle.trace_difference.specs.Lines.{listed}
+
+-- the lines of items, whatever number comes first
+lines : (number : ℕ) (items : List ItemValue) → let style : ItemStyle = record { numbering = Hidden; notation = Text } in
+    flat_map listed items ≡ list_text_from style number items
+lines number [] = refl
+lines number (item ∷ items) = ap (λ (l : List ℕ). listed item ++ l) (lines (number + 1) items)
+
+pub listed_lines_are_the_list : ListedLinesAreTheList
+listed_lines_are_the_list items = lines 1 items

@@ -1,0 +1,265 @@
+-- The rows of a chart are a piece of the log's, and have the row with which the item begins and its answer.
+use Rattle.std.proofs.Common.{◌≡◌, ℕ, zero, suc, ◌+◌, ◌-◌, ◌≤◌, ◌<◌, ◌⊎◌, Bool, true, false, List, [], ◌∷◌, ◌++◌, length, take, drop, Option, Some, None, ap, sym, ◌∙◌, refl, arith, inl, inr}
+use Rattle.std.specs.Prelude.{◌||◌, min, slice_get, if◌then◌else◌}
+use Rattle.std.specs.List.{list_any}
+use Rattle.std.proofs.lemmas.Bool.{cases_Bool, cases_lt}
+use Rattle.std.proofs.lemmas.List.{drop-append-le, drop-drop, drop_all, length-drop, length-take, take-append-drop}
+use Rattle.std.proofs.Math.Seq.{take-add}
+use Rattle.isotp_receive.proofs.Promises.{get-drop}
+use Rattle.trace_report.specs.Blocks.{begins_exchange}
+use Rattle.trace_report.specs.Items.{RowMessageValue, answer_by, answer_in, begins, message_in, rows_before}
+use Rattle.trace_report.specs.Roles.{is_answer_role, is_request_role}
+use Rattle.trace_report.specs.Rows.{RowValue, message, no_answer, dropped, ended, unfinished}
+use Rattle.trace_pair.specs.First.{asks, before_request, chart_from, chart_to, last_request, most_before, rows_more}
+use Rattle.trace_pair.specs.Laws.{ChartHasTheItem}
+use Rattle.trace_pair.proofs.ChartPlaces.{first-asks, first-later, first-to, from-first, get-past, last-below, last-earlier, last-there, to-within, up-by}
+use Rattle.trace_pair.proofs.LossPlaces.{begins-first, begins-next, begins-none}
+
+-- the row with which an item begins stands before that of the next one
+before-next : (item : ℕ) (rows : List RowValue) → rows_before item rows < length rows → rows_before item rows < rows_before (item + 1) rows
+before-next item [] there = absurd (omega (arith, there))
+before-next item (row ∷ rows) there = elim (cases_Bool (begins row)) [
+  | inl begun ↦ of-begun item (λ n. before-next n rows) there begun
+  | inr none ↦
+      let here = begins-none row rows item none in
+      omega (arith, here, begins-none row rows (item + 1) none, before-next item rows (omega (arith, here, there)))
+]
+  where
+    of-begun : (item : ℕ) → ((n : ℕ) → rows_before n rows < length rows → rows_before n rows < rows_before (n + 1) rows)
+        → rows_before item (row ∷ rows) < suc (length rows) → begins row ≡ true → rows_before item (row ∷ rows) < rows_before (item + 1) (row ∷ rows)
+    of-begun zero rest there begun =
+        omega (arith, begins-first row rows begun, begins-next row rows 0 begun)
+    of-begun (suc n) rest there begun =
+        let next : suc n ≡ n + 1 = omega arith in
+        let is = ap (λ (m : ℕ). rows_before m (row ∷ rows)) next ∙ begins-next row rows n begun in
+        let later = begins-next row rows (suc n) begun in
+        let again = ap (λ (m : ℕ). rows_before m rows) next in
+        omega (arith, is, later, again, rest n (omega (arith, is, there)))
+
+-- what stands there among the first ones
+get-taken : {X : Type 0} (count : ℕ) (xs : List X) (at : ℕ) → at < count → slice_get (take count xs) at ≡ slice_get xs at
+get-taken zero xs at low = absurd (omega (arith, low))
+get-taken (suc count) [] at low = refl
+get-taken (suc count) (x ∷ xs) zero low = refl
+get-taken (suc count) (x ∷ xs) (suc at) low = get-taken count xs at (omega (arith, low))
+
+-- Answers before the next request.
+
+-- behind a request no answer to one before it is looked for
+asked-none : (sent : RowMessageValue) (later : Option RowMessageValue) → is_request_role sent.role ≡ true → answer_by (Some sent) later ≡ None
+asked-none sent later there = ap (λ (b : Bool). if b then None else if is_answer_role sent.role then Some sent else later) there
+
+asks-none : (row : RowValue) (later : Option RowMessageValue) → begins_exchange row ≡ true → answer_by (message_in row) later ≡ None
+asks-none (message is d place bytes) later there = asked-none (record { role = is; dir = d; place = place; bytes = bytes }) later there
+asks-none (no_answer number silent) later there = absurd (cc there)
+asks-none (dropped place d linked why) later there = absurd (cc there)
+asks-none (ended place end) later there = absurd (cc there)
+asks-none (unfinished d line len) later there = absurd (cc there)
+
+none-answered : (rows : List RowValue) → answer_in (drop (before_request rows) rows) ≡ None
+none-answered [] = refl
+none-answered (row ∷ rows) = elim (cases_Bool (begins_exchange row)) [
+  | inl there ↦ ap (λ (n : ℕ). answer_in (drop n (row ∷ rows))) (first-asks row rows there) ∙ asks-none row (answer_in rows) there
+  | inr none ↦ ap (λ (n : ℕ). answer_in (drop n (row ∷ rows))) (first-later row rows none) ∙ none-answered rows
+]
+
+answered-before : (xs ys : List RowValue) → answer_in ys ≡ None → answer_in (xs ++ ys) ≡ answer_in xs
+answered-before [] ys none = none
+answered-before (row ∷ xs) ys none = ap (answer_by (message_in row)) (answered-before xs ys none)
+
+-- Requests.
+
+last-asks : (count : ℕ) (rows : List RowValue) → 0 < last_request count rows → asks (slice_get rows (last_request count rows)) ≡ true
+last-asks zero rows some = absurd (omega (arith, some))
+last-asks (suc count) rows some = elim (cases_Bool (asks (slice_get rows count))) [
+  | inl there ↦ ap (λ (n : ℕ). asks (slice_get rows n)) (last-there count rows there) ∙ there
+  | inr none ↦
+      let earlier = last-earlier count rows none in
+      ap (λ (n : ℕ). asks (slice_get rows n)) earlier ∙ last-asks count rows (omega (arith, some, earlier))
+]
+
+asks-within : (rows : List RowValue) (at : ℕ) → asks (slice_get rows at) ≡ true → at < length rows
+asks-within [] at there = absurd (cc there)
+asks-within (row ∷ rows) zero there = omega arith
+asks-within (row ∷ rows) (suc at) there = omega (arith, asks-within rows at there)
+
+-- a request among the first rows stands at the last one, or before it
+asks-before : (count at : ℕ) (rows : List RowValue) → asks (slice_get rows at) ≡ true → at < count → at ≤ last_request count rows
+asks-before zero at rows there low = absurd (omega (arith, low))
+asks-before (suc count) at rows there low = elim (cases_Bool (asks (slice_get rows count))) [
+  | inl last ↦ omega (arith, low, last-there count rows last)
+  | inr none ↦ elim (cases_lt at count) [
+    | inl before ↦ omega (arith, last-earlier count rows none, asks-before count at rows there before)
+    | inr past ↦
+        let same : at ≡ count = omega (arith, low, past) in
+        let clash : true ≡ false = sym there ∙ ap (λ (n : ℕ). asks (slice_get rows n)) same ∙ none in
+        absurd (cc clash)
+  ]
+]
+
+none-asks : (rows : List RowValue) (count : ℕ) → ((at : ℕ) → at < count → asks (slice_get rows at) ≡ false) → list_any begins_exchange (take count rows) ≡ false
+none-asks rows zero each = refl
+none-asks [] (suc count) each = refl
+none-asks (row ∷ rows) (suc count) each =
+    let first = each 0 (omega arith) in
+    let later = none-asks rows count (λ at low. each (suc at) (omega (arith, low))) in
+    ap (λ (b : Bool). b || list_any begins_exchange (take count rows)) first ∙ later
+
+module _ (item : ℕ) (rows : List RowValue) where
+  abbrev from : ℕ
+  from = chart_from item rows
+
+  abbrev to : ℕ
+  to = chart_to item rows
+
+  abbrev first : ℕ
+  first = rows_before item rows
+
+  abbrev count : ℕ
+  count = min 40 (to - from)
+
+  abbrev rest : List RowValue
+  rest = drop from rows
+
+  up : from ≤ first
+  up = from-first item rows
+
+  on : first ≤ to
+  on = first-to item rows
+
+  all : to ≤ length rows
+  all = to-within item rows
+
+  long : length (take from rows) ≡ from
+  long = omega (arith, length-take from rows, up, on, all)
+
+  left : length rest ≡ length rows - from
+  left = length-drop from rows
+
+  near : first ≤ from + 8
+  near = omega arith
+
+  first-before : first < length rows → first < to
+  first-before is =
+      let third : item + 1 + 1 ≡ item + 2 = omega arith in
+      omega (arith, before-next item rows is, up-by (item + 1) 1 rows, ap (λ (n : ℕ). rows_before n rows) third)
+
+  whole : rows ≡ take from rows ++ (take count rest ++ drop count rest)
+  whole = sym (ap (λ (l : List RowValue). take from rows ++ l) (take-append-drop count rest) ∙ take-append-drop from rows)
+
+  -- how far the item's row stands behind that with which the chart begins
+  abbrev far : ℕ
+  far = first - length (take from rows)
+
+  far-is : first ≡ from + far
+  far-is = omega (arith, long, up)
+
+  row-there : slice_get (take count rest) far ≡ slice_get rows first
+  row-there = elim (cases_lt first (length rows)) [
+    | inl is ↦
+        let low : far < count = omega (arith, far-is, near, first-before is) in
+        get-taken count rest far low ∙ sym (get-drop from rows far first far-is)
+    | inr past ↦
+        let none : length (take count rest) ≤ far = omega (arith, length-take count rest, left, far-is, past) in
+        get-past (take count rest) far none ∙ sym (get-past rows first past)
+  ]
+
+  answer-there : answer_in (drop (suc far) (take count rest ++ take (rows_more item rows) (drop count rest))) ≡ answer_in (drop (suc first) rows)
+  answer-there =
+      let many : count + rows_more item rows ≡ to - from = omega arith in
+      let joined = sym (take-add count (rows_more item rows) rest) ∙ ap (λ (n : ℕ). take n rest) many in
+      ap (λ (l : List RowValue). answer_in (drop (suc far) l)) joined ∙ elim (cases_lt first (length rows)) [
+        | inl is ↦ there is
+        | inr past ↦
+            let few : length (take (to - from) rest) ≤ suc far = omega (arith, length-take (to - from) rest, left, far-is, past) in
+            let none : length rows ≤ suc first = omega (arith, past) in
+            ap answer_in (drop_all (suc far) (take (to - from) rest) few) ∙ sym (ap answer_in (drop_all (suc first) rows none))
+      ]
+    where
+      there : first < length rows → answer_in (drop (suc far) (take (to - from) rest)) ≡ answer_in (drop (suc first) rows)
+      there is =
+          let span = take (to - from) rest in
+          let behind = drop (to - from) rest in
+          let place : from + suc far ≡ suc first = omega (arith, far-is) in
+          let end : from + (to - from) ≡ to = omega (arith, up, on) in
+          let within : suc far ≤ length span = omega (arith, length-take (to - from) rest, left, far-is, first-before is, all, up) in
+          let second = rows_before (item + 2) rows in
+          let ended : behind ≡ drop (before_request (drop second rows)) (drop second rows) =
+          drop-drop (to - from) from rows ∙ ap (λ (n : ℕ). drop n rows) end ∙ sym (drop-drop (before_request (drop second rows)) second rows) in
+          let none : answer_in behind ≡ None = ap answer_in ended ∙ none-answered (drop second rows) in
+          let parted : drop (suc first) rows ≡ drop (suc far) span ++ behind =
+          sym (drop-drop (suc far) from rows ∙ ap (λ (n : ℕ). drop n rows) place)
+          ∙ ap (drop (suc far)) (sym (take-append-drop (to - from) rest)) ∙ drop-append-le (suc far) span behind within in
+          sym (ap answer_in parted ∙ answered-before (drop (suc far) span) behind none)
+
+  begins-there : (take from rows ≡ [])
+      ⊎ (((asks (slice_get (take count rest) 0) ≡ true) × (length (take from rows) ≤ rows_before (item - 1) rows)) ⊎ (length (take from rows) + most_before ≡ first))
+  begins-there = elim (cases_lt 0 from) [
+    | inr none ↦ let nothing : from ≡ 0 = omega (arith, none) in inl (ap (λ (n : ℕ). take n rows) nothing)
+    | inl some ↦ elim (cases_lt (first - 8) (last_request (suc (rows_before (item - 1) rows)) rows)) [
+      | inr cut ↦ inr (inr (omega (arith, long, some, cut)))
+      | inl asked ↦ inr (inl (of-request (omega (arith, asked)) some, omega (arith, long, asked, last-below (rows_before (item - 1) rows) rows)))
+    ]
+  ]
+    where
+      of-request : from ≡ last_request (suc (rows_before (item - 1) rows)) rows → 0 < from → asks (slice_get (take count rest) 0) ≡ true
+      of-request is some =
+          let here : asks (slice_get rows from) ≡ true =
+          ap (λ (n : ℕ). asks (slice_get rows n)) is ∙ last-asks (suc (rows_before (item - 1) rows)) rows (omega (arith, is, some)) in
+          let within = asks-within rows from here in
+          let low : 0 < count = elim (cases_lt first (length rows)) [
+            | inl before ↦ omega (arith, up, first-before before)
+            | inr past ↦ omega (arith, within, past, on)
+          ] in
+          let same : from ≡ from + 0 = omega arith in
+          ap asks (get-taken count rest 0 low ∙ sym (get-drop from rows 0 from same)) ∙ here
+
+  -- how far the row of the item before stands behind it
+  abbrev nearer : ℕ
+  nearer = rows_before (item - 1) rows - length (take from rows)
+
+  none-between : list_any begins_exchange (take nearer (drop 1 (take count rest))) ≡ false
+  none-between = none-asks (drop 1 (take count rest)) nearer each
+    where
+      of-log : (at : ℕ) → at < nearer → asks (slice_get rows (from + suc at)) ≡ false
+      of-log at low = elim (cases_Bool (asks (slice_get rows (from + suc at)))) [
+        | inr none ↦ none
+        | inl there ↦ absurd (omega (arith, long, low, asks-before (suc (rows_before (item - 1) rows)) (from + suc at) rows there (omega (arith, long, low))))
+      ]
+
+      of-chart : (at : ℕ) → at < nearer → asks (slice_get (take count rest) (suc at)) ≡ false
+      of-chart at low = elim (cases_lt (suc at) count) [
+        | inl within ↦ ap asks (get-taken count rest (suc at) within ∙ sym (get-drop from rows (suc at) (from + suc at) refl)) ∙ of-log at low
+        | inr past ↦ ap asks (get-past (take count rest) (suc at) (omega (arith, length-take count rest, past)))
+      ]
+
+      each : (at : ℕ) → at < nearer → asks (slice_get (drop 1 (take count rest)) at) ≡ false
+      each at low =
+          let next : suc at ≡ 1 + at = omega arith in
+          ap asks (sym (get-drop 1 (take count rest) at (suc at) next)) ∙ of-chart at low
+
+  cut-there : (rows_more item rows ≡ 0) ⊎ (length (take count rest) ≡ 40)
+  cut-there = elim (cases_lt 40 (to - from)) [
+    | inl more ↦ inr (omega (arith, length-take count rest, left, more, all))
+    | inr none ↦ inl (omega (arith, none))
+  ]
+
+  few-there : rows_more item rows ≤ length (drop count rest)
+  few-there = omega (arith, length-drop count rest, left, all, up, on)
+
+pub has-the-item : ChartHasTheItem
+has-the-item item rows = (
+  take (from item rows) rows,
+  drop (count item rows) (rest item rows),
+  record {
+    piece = whole item rows;
+    begins = begins-there item rows;
+    last = none-between item rows;
+    before = omega (arith, long item rows, up item rows);
+    near = omega (arith, long item rows, near item rows);
+    row = row-there item rows;
+    answer = answer-there item rows;
+    cut = cut-there item rows;
+    few = few-there item rows;
+  },
+)

@@ -1,0 +1,66 @@
+-- The columns that count are those in which a log has a byte.
+use Rattle.std.proofs.Common.{◌≡◌, ℕ, Bool, List, [], ◌∷◌, ◌++◌, codes, length, Option, Some, None, ap, ◌∙◌, append_assoc, refl, arith}
+use Rattle.std.specs.Prelude.{◌==◌, if◌then◌else◌, cond}
+use Rattle.std.specs.List.{filter, flat_map, range_with_len}
+use Rattle.byte_columns.specs.declared.column.Column.{Column}
+use Rattle.byte_columns.specs.Laws.{listed}
+use Rattle.byte_columns.specs.Lines.{folded, columns_from}
+use Rattle.trace_pair.specs.declared.column_lines.ShownLogs.{ShownLogs}
+use Rattle.trace_pair.specs.declared.column_lines.ShownLogs.TheVariants.{Both, Only}
+use Rattle.trace_pair.specs.declared.log.PairLog.{PairLog}
+use Rattle.trace_pair.specs.ColumnLines.{bytes_in, counted, has_byte, line_text, stretch_text}
+use Rattle.trace_pair.specs.ColumnLaws.{EachByteIsCounted, fold_told, has_byte_of, hidden_told, own_columns}
+use Rattle.trace_pair.specs.Logs.{byte_of}
+
+all-count : (columns : List Column) → counted Both columns ≡ columns
+all-count [] = refl
+all-count (here ∷ later) = ap (λ (l : List Column). here ∷ l) (all-count later)
+
+-- a column in front of others, by what the log has there
+in-front : (byte : Option ℕ) (here : Column) (one other : List Column) → one ≡ other
+    → (if has_byte byte then here ∷ one else one) ≡ cond (length (listed byte) == 1) (here ∷ other) other
+in-front None here one other same = same
+in-front (Some b) here one other same = ap (λ (l : List Column). here ∷ l) same
+
+own-count : (log : PairLog) (columns : List Column) → counted (Only log) columns ≡ filter (has_byte_of log) columns
+own-count log [] = refl
+own-count log (here ∷ later) = in-front (byte_of log here) here (counted (Only log) later) (filter (has_byte_of log) later) (own-count log later)
+
+counted-own : (sides : ShownLogs) (columns : List Column) → counted sides columns ≡ own_columns sides columns
+counted-own Both columns = all-count columns
+counted-own (Only log) columns = own-count log columns
+
+one-more : (byte : Option ℕ) (here : Column) (rest : List Column) (bytes : List ℕ) → length rest ≡ length bytes
+    → length (cond (length (listed byte) == 1) (here ∷ rest) rest) ≡ length (listed byte ++ bytes)
+one-more None here rest bytes same = same
+one-more (Some b) here rest bytes same = omega (arith, same)
+
+as-many : (log : PairLog) (columns : List Column) → length (own_columns (Only log) columns) ≡ length (bytes_in log columns)
+as-many log [] = refl
+as-many log (here ∷ later) = one-more (byte_of log here) here (own_columns (Only log) later) (bytes_in log later) (as-many log later)
+
+-- What is told.
+
+apart : (a b c d e : List ℕ) → a ++ b ++ c ++ d ++ e ≡ (a ++ b ++ c) ++ (d ++ e)
+apart a b c d e = simp append_assoc
+
+module _ (sides : ShownLogs) (lettered : Bool) (columns : List Column) (first count : ℕ) where
+  abbrev folded_columns : List Column
+  folded_columns = columns_from columns first count
+
+  abbrev own_lines : List ℕ
+  own_lines = flat_map (line_text sides lettered columns) (range_with_len first count)
+
+  fold-tells : stretch_text sides lettered columns (folded first count)
+      ≡ (codes "<details><summary>" ++ fold_told (own_columns sides folded_columns) ++ codes "</summary>") ++ (own_lines ++ codes "</details>")
+  fold-tells =
+      ap (λ (l : List Column). codes "<details><summary>" ++ fold_told l ++ codes "</summary>" ++ own_lines ++ codes "</details>") (counted-own sides folded_columns)
+      ∙ apart (codes "<details><summary>") (fold_told (own_columns sides folded_columns)) (codes "</summary>") own_lines (codes "</details>")
+
+pub each_byte_is_counted : EachByteIsCounted
+each_byte_is_counted columns = (
+  λ sides. counted-own sides columns,
+  λ log. as-many log columns,
+  λ sides lettered first count. (own_lines sides lettered columns first count ++ codes "</details>", fold-tells sides lettered columns first count),
+  λ sides. ap hidden_told (counted-own sides columns),
+)

@@ -1,0 +1,41 @@
+pub mod Pieces
+pub mod Cells
+pub mod LineCells
+mod SeenMarks
+mod OwnLines
+mod CountedBytes
+pub mod CountedColumns
+pub mod LastDigits
+pub mod Stretches
+pub mod Tables
+pub mod Standings
+pub mod FoldParts
+pub mod SeenTables
+pub mod WalkedRows
+pub mod ItemPlaces
+pub mod RowsOnce
+mod UnfoldedRows
+mod NumberedChanges
+mod LinkNames
+mod RowsWith
+mod FoundRows
+mod CountedRows
+pub mod ChartRows
+pub mod ChangeSteps
+pub mod ListedChanges
+pub mod LossyChanges
+pub mod LossPlaces
+mod LossesOnce
+pub mod LostRows
+pub mod ChartPlaces
+pub mod Asking
+mod Beside
+mod OwnItems
+mod FirstChanges
+mod Agreeing
+mod ChartItems
+mod DifferingOutcomes
+mod ToldOutcomes
+mod ComparedChanges
+mod PagesInMemory
+mod PageStyle

@@ -1,0 +1,32 @@
+-- Each column adds what it counts.
+use Rattle.std.proofs.Common.{List, length, ap, arith}
+use Rattle.byte_columns.specs.declared.column.Column.{Column}
+use Rattle.byte_columns.specs.Columns.{differing}
+use Rattle.trace_pair.proofs.CountedColumns.{differing-first, length-first, none-left}
+use Rattle.trace_pair.proofs.column_counts.counts_between.Goals as goal
+
+pub columns-init : goal.columns-init
+columns-init c = record { few = omega arith; fewer = omega arith; all = omega arith; differ = omega arith }
+
+pub columns-preserved : goal.columns-preserved
+columns-preserved c =
+    let inv = c.columns.invariant in
+    let columns = c.args.columns.now in
+    let more = length-first c.args.sides columns c.args.to c.columns.at c.column-column.result c.columns-test.true c.column-column.ensures in
+    let others = differing-first c.args.sides columns c.args.to c.columns.at c.column-column.result c.columns-test.true c.column-column.ensures in
+    record {
+      few = omega (arith, inv.few, c.one_if_counted-all.ensures.one, c.columns.auto.at);
+      fewer = omega (arith, inv.fewer, c.one_if_differing-differing.ensures.one, c.columns.auto.at);
+      all = omega (arith, inv.all, more, c.one_if_counted-all.ensures.value);
+      differ = omega (arith, inv.differ, others, c.one_if_differing-differing.ensures.value);
+    }
+
+pub returns-clause-all : goal.returns-clause-all
+returns-clause-all c =
+    let none = ap (λ (l : List Column). length l) (none-left c.args.sides c.args.columns.now c.args.to c.columns.at c.columns-test.false) in
+    omega (arith, c.columns.invariant.all, none)
+
+pub returns-clause-differing : goal.returns-clause-differing
+returns-clause-differing c =
+    let none = ap differing (none-left c.args.sides c.args.columns.now c.args.to c.columns.at c.columns-test.false) in
+    omega (arith, c.columns.invariant.differ, none)

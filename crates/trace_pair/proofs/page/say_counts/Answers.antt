@@ -1,0 +1,5 @@
+-- The counts are those of the session.
+use Rattle.trace_pair.proofs.page.say_counts.Goals as goal
+
+pub returns : goal.returns
+returns g c = rw (c.summary-summary.ensures, c.counts.ensures, c.rows.ensures, c.first.ensures, c.last.ensures) at c.say.ensures

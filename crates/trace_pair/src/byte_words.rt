@@ -1,0 +1,230 @@
+//! How two messages differ, in words.
+ghost use Rattle.std.specs.Prelude.{◌≡◌, drop, slice_get, take};
+ghost use Rattle.byte_columns.specs.Columns.{differing};
+ghost use Rattle.trace_pair.specs.ByteWords as Spec;
+
+use crate::log::PairLog;
+use byte_columns::{Beside, Column};
+use text_parts::{Either, Part, say};
+use trace_io::TextSink;
+use trace_report::BytesApart;
+use trace_text::{Byte, Number, Ordinal};
+
+/// So many bytes that one message has alone are told.
+const TOLD: usize = 8;
+
+/// How two messages differ.
+#[derive(Clone, Copy)]
+pub(crate) struct ByteWords<'a>(pub &'a [u8], pub &'a [u8]);
+
+impl<'a> Part for ByteWords<'a> {
+    ghost use Rattle.trace_pair.specs.ByteWords.{byte_words};
+
+    ghost text = { λ words. byte_words words.0.now words.1.now };
+
+    fn say<S: TextSink>(self, out: &mut S) {
+        let ByteWords(left, right) = self;
+        let columns = Beside::of(left, right);
+        say_where(left, right, &columns, out);
+        say(out, LengthsWords(left.len(), right.len()));
+    }
+}
+
+/// Says where two messages differ: one has bytes more than the other, or they are others.
+fn say_where<S: TextSink>(left: &[u8], right: &[u8], columns: &Beside<'_>, out: &mut S)
+    ensures { S.says out.old (Spec.where_words left.now right.now columns.now) out.new }
+{
+    let count = count_differing(columns);
+    let place = columns.first_differing();
+    if has_alone(left, right, count) {
+        say(out, AloneWords(PairLog::A, count, place, left));
+    } else if has_alone(right, left, count) {
+        say(out, AloneWords(PairLog::B, count, place, right));
+    } else {
+        let here = column_at(columns, place);
+        say(out, (FirstWords(place, here), OthersWords(count)));
+    }
+}
+
+/// How many columns differ.
+fn count_differing(columns: &Beside<'_>) -> usize
+    ensures { result ≡ differing columns.now }
+{
+    columns.differing(0, columns.len())
+}
+
+/// Whether a message has bytes that the other one, which is shorter, has not, and they are else the same, where so many
+/// columns differ.
+fn has_alone(own: &[u8], other: &[u8], count: usize) -> bool
+    ensures { result ≡ Spec.has_alone own.now other.now count }
+{
+    other.len() < own.len() && count == own.len() - other.len()
+}
+
+/// So many bytes that one log has alone, from a place of its message on.
+#[derive(Clone, Copy)]
+struct AloneWords<'a>(PairLog, usize, usize, &'a [u8]);
+
+impl<'a> Part for AloneWords<'a> {
+    ghost use Rattle.trace_pair.specs.ByteWords.{alone_words};
+
+    ghost text = { λ t. alone_words t.0 t.1 t.2 t.3.now };
+
+    fn say<S: TextSink>(self, out: &mut S) {
+        let AloneWords(log, count, place, bytes) = self;
+        say(
+            out,
+            (
+                AloneWhere(log, count, place),
+                "<b>",
+                BytesApart(piece(bytes, place, count.min(TOLD))),
+                "</b>",
+                UntoldWords(count),
+            ),
+        );
+    }
+}
+
+/// So many bytes of a message from a place on, if it has so many.
+fn piece(bytes: &[u8], place: usize, count: usize) -> &[u8]
+    ensures { result.now ≡ take count (drop place bytes.now) }
+{
+    let behind = &bytes[place.min(bytes.len())..];
+    &behind[..count.min(behind.len())]
+}
+
+/// Where so many bytes stand that one log has alone, from a place of its message on.
+#[derive(Clone, Copy)]
+struct AloneWhere(PairLog, usize, usize);
+
+impl Part for AloneWhere {
+    ghost use Rattle.trace_pair.specs.ByteWords.{alone_where};
+
+    ghost text = { λ t. alone_where t.0 t.1 t.2 };
+
+    fn say<S: TextSink>(self, out: &mut S) {
+        let AloneWhere(log, count, place) = self;
+        let one = (": byte ", Ordinal(place), " only in ", log, ": ");
+        let several = (
+            ": ",
+            Number(count as u64),
+            " bytes only in ",
+            log,
+            ", from byte ",
+            Ordinal(place),
+            " on: ",
+        );
+        say(out, Either(count == 1, one, several));
+    }
+}
+
+/// How many of so many bytes are not told, if some are not.
+#[derive(Clone, Copy)]
+struct UntoldWords(usize);
+
+impl Part for UntoldWords {
+    ghost use Rattle.trace_pair.specs.ByteWords.{untold_words};
+
+    ghost text = { λ t. untold_words t.0 };
+
+    fn say<S: TextSink>(self, out: &mut S) {
+        if self.0 > TOLD {
+            say(out, (" and ", Number((self.0 - TOLD) as u64), " more"));
+        }
+    }
+}
+
+/// The column at a place, if there is one.
+fn column_at(columns: &Beside<'_>, place: usize) -> Option<Column>
+    ensures { result ≡ slice_get columns.now place }
+{
+    if place < columns.len() {
+        Some(columns.column(place))
+    } else {
+        None
+    }
+}
+
+/// The first column that differs, at this place.
+#[derive(Clone, Copy)]
+struct FirstWords(usize, Option<Column>);
+
+impl Part for FirstWords {
+    ghost use Rattle.trace_pair.specs.ByteWords.{first_words};
+
+    ghost text = { λ words. first_words words.0 words.1 };
+
+    fn say<S: TextSink>(self, out: &mut S) {
+        if let Some(here) = self.1 {
+            say(
+                out,
+                (
+                    " byte ",
+                    Ordinal(self.0),
+                    ": ",
+                    ByteName(here.left),
+                    " in A, ",
+                    ByteName(here.right),
+                    " in B",
+                ),
+            );
+        }
+    }
+}
+
+/// The byte that a log has in a column.
+#[derive(Clone, Copy)]
+struct ByteName(Option<u8>);
+
+impl Part for ByteName {
+    ghost use Rattle.trace_pair.specs.ByteWords.{byte_name};
+
+    ghost text = { λ name. byte_name name.0 };
+
+    fn say<S: TextSink>(self, out: &mut S) {
+        match self.0 {
+            Some(byte) => say(out, ("<b>", Byte(byte), "</b>")),
+            None => say(out, "no byte"),
+        }
+    }
+}
+
+/// How many more columns differ, where so many do.
+#[derive(Clone, Copy)]
+struct OthersWords(usize);
+
+impl Part for OthersWords {
+    ghost use Rattle.trace_pair.specs.ByteWords.{others_words};
+
+    ghost text = { λ words. others_words words.0 };
+
+    fn say<S: TextSink>(self, out: &mut S) {
+        match self.0 {
+            0 | 1 => {}
+            2 => say(out, "; and 1 more byte"),
+            several => say(out, ("; and ", Number(several as u64 - 1), " more bytes")),
+        }
+    }
+}
+
+/// How long both messages are, where that is not the same.
+#[derive(Clone, Copy)]
+struct LengthsWords(usize, usize);
+
+impl Part for LengthsWords {
+    ghost use Rattle.trace_pair.specs.ByteWords.{lengths_words};
+
+    ghost text = { λ words. lengths_words words.0 words.1 };
+
+    fn say<S: TextSink>(self, out: &mut S) {
+        let LengthsWords(left, right) = self;
+        let words = (
+            "; ",
+            Number(left as u64),
+            Either(left == 1, " byte in A, ", " bytes in A, "),
+            Number(right as u64),
+            " in B",
+        );
+        say(out, Either(left == right, "", words));
+    }
+}

@@ -1,0 +1,250 @@
+//! A chart of one log: the rows around an item, with a mark at each byte that differs.
+ghost use Rattle.std.specs.Prelude.{◌≡◌, ◌-◌, None, drop, false, max, option_map, slice_get, take};
+ghost use Rattle.shown_rows.specs.Rows.{changes_within};
+ghost use Rattle.trace_report.specs.Blocks.{begins_exchange as asks};
+ghost use Rattle.trace_report.specs.Rows.{missing_of, row_of};
+ghost use Rattle.trace_pair.specs.First as Spec;
+ghost use Rattle.trace_pair.specs.proving.Marks.{charted_of};
+
+use crate::chart_words::{BodyStart, ChartEnd, MessageEnd, PairChartHead};
+use crate::column_lines::{ShownLogs, have_word, say_columns};
+use crate::counterparts::{Charted, counterpart, is_other, marks_at};
+use crate::log::PairLog;
+use crate::widths::SessionClasses;
+use byte_columns::Beside;
+use text_parts::say;
+use trace_io::TextSink;
+use trace_report::{
+    CellFront, Data, KeptRows, KeptSession, MessageFront, Missing, Note, RoleWords, SentMessage,
+    SessionRow, begins_item, is_request_role, say_missing_row,
+};
+
+/// A chart has so many rows at most.
+const MOST_ROWS: usize = 40;
+
+/// And of these so many at most before the row with which the item begins.
+const MOST_BEFORE: usize = 8;
+
+/// Which rows of a log its chart has: around the item of a place, counted from 0, from one place up to another.
+#[derive(Clone, Copy)]
+struct Around {
+    item: usize,
+    from: usize,
+    to: usize,
+}
+
+/// Says the chart of a log around the item of a place, counted from 0.
+pub(crate) fn say_chart<S: TextSink>(
+    chart: Charted<'_>,
+    item: usize,
+    session: &KeptSession,
+    out: &mut S,
+)
+    requires { changes_within chart.same chart.rows.now ≡ false }
+    ensures { S.says out.old (Spec.chart_text (charted_of chart.entry) item session.now) out.new }
+{
+    let rows = session.rows();
+    let from = chart_from(rows, item);
+    let to = chart_to(rows, item);
+    let end = to.min(from.saturating_add(MOST_ROWS));
+    say(out, PairChartHead(SessionClasses(session)));
+    let around = Around {
+        item,
+        from,
+        to: end,
+    };
+    say_rows(chart, session.first(), rows, around, out);
+    let rest = ChartEnd {
+        more: to.saturating_sub(end),
+        ends: to == rows.len(),
+    };
+    say(out, rest);
+    say(out, "</table>\n");
+}
+
+/// Where the rows of a chart around an item begin: with the last request at or before the item before it.
+fn chart_from(rows: &KeptRows, item: usize) -> usize
+    ensures { result ≡ Spec.chart_from item rows.now }
+{
+    let low = rows.rows_before(item).saturating_sub(MOST_BEFORE);
+    let before = rows.rows_before(item.saturating_sub(1));
+    let end = before.saturating_add(1).min(rows.len());
+    let mut from = low;
+    'rows: for at in low..end {
+        if asks_at(rows, at) {
+            from = at;
+        }
+    }
+    from
+}
+
+/// Where they end: before the first request at or behind the second item behind it.
+fn chart_to(rows: &KeptRows, item: usize) -> usize
+    ensures { result ≡ Spec.chart_to item rows.now }
+{
+    let second = rows.rows_before(item.saturating_add(2));
+    'rows: for at in second..rows.len() {
+        if asks_at(rows, at) {
+            return at;
+        }
+    }
+    rows.len()
+}
+
+/// Whether an exchange begins with the row at a place, where there is one.
+fn asks_at(rows: &KeptRows, at: usize) -> bool
+    ensures { result ≡ Spec.asks (slice_get rows.now at) }
+{
+    match rows.row(at) {
+        Some(row) => begins_exchange(row),
+        None => false,
+    }
+}
+
+/// Says the rows around an item, in bodies of the table.
+fn say_rows<S: TextSink>(
+    chart: Charted<'_>,
+    origin: u64,
+    rows: &KeptRows,
+    around: Around,
+    out: &mut S,
+)
+    requires { changes_within chart.same chart.rows.now ≡ false }
+    ensures { S.says out.old (Spec.rows_text (charted_of chart.entry) origin None (max around.item 1) (take (around.to - around.from) (drop around.from rows.now))) out.new }
+{
+    let mut front: Option<bool> = None;
+    let mut last = around.item.max(1) as u64;
+    'rows: for at in around.from..around.to {
+        let Some(row) = rows.row(at) else {
+            return;
+        };
+        let other = is_other(chart, number_of(last, row));
+        say(out, BodyStart(begins_body(front, row, other), other));
+        say_row(chart, origin, row, out);
+        front = Some(other);
+        last = last_begun(last, row);
+    }
+}
+
+/// The number of the item that a row is of: what is lost is of the one that began last before it.
+fn number_of(last: u64, row: SessionRow<'_>) -> u64
+    ensures { result ≡ Spec.number_of last (row_of row.entry) }
+{
+    match row {
+        SessionRow::Message { sent, .. } => sent.place.item,
+        SessionRow::Missing(missing) => number_of_missing(last, missing),
+    }
+}
+
+/// The number of the item of which something is missing.
+fn number_of_missing(last: u64, missing: Missing) -> u64
+    ensures { result ≡ Spec.number_of last (missing_of missing) }
+{
+    match missing {
+        Missing::NoAnswer { number, .. } => number,
+        Missing::Dropped { .. } => last,
+        Missing::Ended { .. } => last,
+        Missing::Unfinished { .. } => last,
+    }
+}
+
+/// The number of the item that began last, behind a row.
+fn last_begun(last: u64, row: SessionRow<'_>) -> u64
+    ensures { result ≡ Spec.last_begun last (row_of row.entry) }
+{
+    match row {
+        SessionRow::Message { sent, .. } => {
+            if begins_item(sent.role) {
+                sent.place.item
+            } else {
+                last
+            }
+        }
+        SessionRow::Missing(_) => last,
+    }
+}
+
+/// Whether a body of the table begins with a row, behind one whose items are others than in the other log, or not.
+fn begins_body(front: Option<bool>, row: SessionRow<'_>, other: bool) -> bool
+    ensures { result ≡ Spec.begins_body front (asks (row_of row.entry)) other }
+{
+    match front {
+        Some(before) => begins_exchange(row) || is_another(before, other),
+        None => true,
+    }
+}
+
+/// Whether one of both is so, and the other one isn't.
+fn is_another(before: bool, other: bool) -> bool
+    ensures { result ≡ Spec.is_another before other }
+{
+    if before { !other } else { other }
+}
+
+/// Whether an exchange begins with a row.
+fn begins_exchange(row: SessionRow<'_>) -> bool
+    ensures { result ≡ asks (row_of row.entry) }
+{
+    match row {
+        SessionRow::Message { sent, .. } => is_request_role(sent.role),
+        SessionRow::Missing(_) => false,
+    }
+}
+
+/// Says a row, to which no link leads.
+fn say_row<S: TextSink>(chart: Charted<'_>, origin: u64, row: SessionRow<'_>, out: &mut S)
+    requires { changes_within chart.same chart.rows.now ≡ false }
+    ensures { S.says out.old (Spec.chart_row (charted_of chart.entry) origin (row_of row.entry)) out.new }
+{
+    match row {
+        SessionRow::Message { sent, message } => {
+            let SentMessage { role, dir, place } = sent;
+            say(
+                out,
+                (
+                    MessageFront {
+                        linked: false,
+                        origin,
+                        role,
+                        place,
+                    },
+                    CellFront(dir),
+                    RoleWords(role, dir, message),
+                ),
+            );
+            let marked = marks_at(chart, place.item);
+            say_data(chart.log, message, counterpart(marked, role), out);
+            say(out, Note(role, place, message.len() as u64));
+            say(out, MessageEnd(dir));
+        }
+        SessionRow::Missing(missing) => say_missing_row(false, origin, missing, out),
+    }
+}
+
+/// Says the bytes of a message: beside the one of the other log, where there is one.
+fn say_data<S: TextSink>(log: PairLog, message: &[u8], other: Option<&[u8]>, out: &mut S)
+    ensures { S.says out.old (Spec.chart_data log message.now (option_map (λ bytes. bytes.now) other.entry)) out.new }
+{
+    match other {
+        Some(other) => {
+            let columns = beside_of(log, message, other);
+            say_columns(
+                ShownLogs::Only(log),
+                have_word(message, other),
+                &columns,
+                out,
+            );
+        }
+        None => say(out, Data(message)),
+    }
+}
+
+/// Two messages beside each other, of which the first one is of this log.
+fn beside_of<'a>(log: PairLog, own: &'a [u8], other: &'a [u8]) -> Beside<'a>
+    ensures { result ≡ Spec.beside_of log own.now other.now }
+{
+    match log {
+        PairLog::A => Beside::of(own, other),
+        PairLog::B => Beside::of(other, own),
+    }
+}

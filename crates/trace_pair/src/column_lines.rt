@@ -1,0 +1,146 @@
+//! Two messages byte under byte, in lines of sixteen columns.
+ghost use Rattle.std.specs.Prelude.{◌≡◌, ◌+◌, ◌-◌, ◌||◌, ◌≤◌, ◌<◌};
+ghost use Rattle.std.specs.List.{flat_map, range_with_len};
+ghost use Rattle.trace_pair.specs.declared.column_lines.ShownLogs.TheVariants.{Both};
+ghost use Rattle.byte_columns.specs.Lines.{folded, line_count, stretches};
+ghost use Rattle.trace_report.specs.Letters.{has_word};
+ghost use Rattle.trace_pair.specs.ColumnLines.{line_text, lines_text, stretch_text};
+
+use crate::column_cells::{ColumnLine, say_line_of};
+use crate::column_counts::{counts_from, hidden_counts};
+use crate::column_words::{FoldWords, Hidden, Whose};
+use crate::log::PairLog;
+use byte_columns::Beside;
+use text_parts::say;
+use trace_io::TextSink;
+use trace_report::has_word;
+
+/// Of which log a page shows the lines.
+#[derive(Clone, Copy, Debug)]
+pub(crate) enum ShownLogs {
+    /// Of both: a line that differs stands twice.
+    Both,
+    /// Of one alone.
+    Only(PairLog),
+}
+
+/// Says two messages byte under byte: each line with its letters, where they may be text.
+pub(crate) fn say_columns<S: TextSink>(
+    sides: ShownLogs,
+    lettered: bool,
+    columns: &Beside<'_>,
+    out: &mut S,
+)
+    ensures { S.says out.old (lines_text sides lettered columns.now) out.new }
+{
+    say(out, "<div class=\"hx\">");
+    say_stretches(sides, lettered, columns, out);
+    say(out, Hidden(hidden_counts(sides, columns)));
+    say(out, "</div>");
+}
+
+/// Whether one of two messages may be text.
+pub(crate) fn have_word(one: &[u8], other: &[u8]) -> bool
+    ensures { result ≡ (has_word one.now || has_word other.now) }
+{
+    has_word(one) || has_word(other)
+}
+
+/// Says all lines, shown or folded.
+fn say_stretches<S: TextSink>(sides: ShownLogs, lettered: bool, columns: &Beside<'_>, out: &mut S)
+    ensures { S.says out.old (flat_map (stretch_text sides lettered columns.now) (stretches columns.now)) out.new }
+{
+    let count = columns.lines();
+    let mut before: usize = 0;
+    let mut at: usize = 0;
+    'lines: while at < count {
+        let folded = columns.folded(at, before);
+        if folded == 0 {
+            say_line(sides, lettered, columns, at, out);
+            before = columns.differing_behind(at, before, 1);
+            at += 1;
+        } else {
+            let fold = LineRange {
+                columns: &*columns,
+                first: at,
+                count: folded,
+            };
+            say_fold(sides, lettered, fold, out);
+            before = columns.differing_behind(at, before, folded);
+            at += folded;
+        }
+    }
+}
+
+/// So many lines, from one on.
+#[derive(Clone, Copy)]
+struct LineRange<'a> {
+    columns: &'a Beside<'a>,
+    first: usize,
+    count: usize,
+}
+
+/// Says lines that are folded together.
+fn say_fold<S: TextSink>(sides: ShownLogs, lettered: bool, fold: LineRange<'_>, out: &mut S)
+    requires { fold.first + fold.count ≤ line_count fold.columns.now }
+    ensures { S.says out.old (stretch_text sides lettered fold.entry.columns.now (folded fold.entry.first fold.entry.count)) out.new }
+{
+    let LineRange {
+        columns,
+        first,
+        count,
+    } = fold;
+    let counts = counts_from(sides, columns, first, count);
+    say(out, ("<details><summary>", FoldWords(counts), "</summary>"));
+    say_lines(sides, lettered, fold, out);
+    say(out, "</details>");
+}
+
+/// Says lines, one after another.
+fn say_lines<S: TextSink>(sides: ShownLogs, lettered: bool, fold: LineRange<'_>, out: &mut S)
+    requires { fold.first + fold.count ≤ line_count fold.columns.now }
+    ensures { S.says out.old (flat_map (line_text sides lettered fold.entry.columns.now) (range_with_len fold.entry.first fold.entry.count)) out.new }
+{
+    let LineRange {
+        columns,
+        first,
+        count,
+    } = fold;
+    'lines: for at in first..first + count {
+        say_line(sides, lettered, columns, at, out);
+    }
+}
+
+/// Says a line.
+fn say_line<S: TextSink>(
+    sides: ShownLogs,
+    lettered: bool,
+    columns: &Beside<'_>,
+    number: usize,
+    out: &mut S,
+)
+    requires { number < line_count columns.now }
+    ensures { S.says out.old (line_text sides lettered columns.now number) out.new }
+{
+    match sides {
+        ShownLogs::Only(log) => {
+            let line = ColumnLine { columns, number };
+            say_line_of(lettered, Whose::Untold, log, line, out);
+        }
+        ShownLogs::Both => say_line_of_both(lettered, columns, number, out),
+    }
+}
+
+/// Says a line of both logs: twice, where it differs.
+fn say_line_of_both<S: TextSink>(lettered: bool, columns: &Beside<'_>, number: usize, out: &mut S)
+    requires { number < line_count columns.now }
+    ensures { S.says out.old (line_text Both lettered columns.now number) out.new }
+{
+    let line = ColumnLine { columns, number };
+    if columns.differing_in(number) > 0 {
+        say_line_of(lettered, Whose::Of(PairLog::A), PairLog::A, line, out);
+        say_line_of(lettered, Whose::Of(PairLog::B), PairLog::B, line, out);
+    } else {
+        say_line_of(lettered, Whose::OfBoth, PairLog::A, line, out);
+    }
+}

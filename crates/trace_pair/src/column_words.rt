@@ -1,0 +1,192 @@
+//! The words beside two messages byte under byte.
+use crate::column_counts::ColumnCounts;
+use crate::log::PairLog;
+use text_parts::{Either, Part, say};
+use trace_io::TextSink;
+use trace_text::{Byte, Number, Ordinal};
+
+/// Whose a line is.
+#[derive(Clone, Copy)]
+pub(crate) enum Whose {
+    Of(PairLog),
+    OfBoth,
+    Untold,
+}
+
+impl Part for Whose {
+    ghost use Rattle.trace_pair.specs.ColumnLines.{whose_text};
+
+    ghost text = { λ whose. whose_text whose };
+
+    fn say<S: TextSink>(self, out: &mut S) {
+        match self {
+            Whose::Of(log) => say(out, ("<span class=\"who\">", log, "</span> ")),
+            Whose::OfBoth => say(out, "<span class=\"who eq\">=</span> "),
+            Whose::Untold => {}
+        }
+    }
+}
+
+/// The number of a line's first byte, of so many lines: where several are there.
+#[derive(Clone, Copy)]
+pub(crate) struct LineNumber(pub usize, pub FirstNumber);
+
+impl Part for LineNumber {
+    ghost use Rattle.trace_pair.specs.ColumnLines.{number_text};
+
+    ghost text = { λ number. number_text number.0 number.1.0 number.1.1 number.1.2 };
+
+    fn say<S: TextSink>(self, out: &mut S) {
+        if self.0 > 1 {
+            say(out, self.1);
+        }
+    }
+}
+
+/// The number of a line's first byte, by how many the log has before, and how many the other log has.
+#[derive(Clone, Copy)]
+pub(crate) struct FirstNumber(pub Whose, pub usize, pub usize);
+
+impl Part for FirstNumber {
+    ghost use Rattle.trace_pair.specs.ColumnLines.{first_number};
+
+    ghost text = { λ number. first_number number.0 number.1 number.2 };
+
+    fn say<S: TextSink>(self, out: &mut S) {
+        let FirstNumber(whose, before, there) = self;
+        let other = (", ", Ordinal(there));
+        match whose {
+            Whose::Of(_) => say(out, Ordinal(before)),
+            Whose::OfBoth => say(out, (Ordinal(before), Either(before == there, (), other))),
+            Whose::Untold => say(out, Ordinal(before)),
+        }
+    }
+}
+
+/// The start of a mark: of a column that differs or does not, behind one that has a mark or has none.
+#[derive(Clone, Copy)]
+pub(crate) struct MarkStart(pub bool, pub bool);
+
+impl Part for MarkStart {
+    ghost use Rattle.trace_pair.specs.ColumnLines.{mark_start};
+
+    ghost text = { λ mark. mark_start mark.0 mark.1 };
+
+    fn say<S: TextSink>(self, out: &mut S) {
+        if self.1 {
+            if !self.0 {
+                say(out, "<mark>");
+            }
+        }
+    }
+}
+
+/// The end of a mark: behind a column that has one or has none, before one that differs or does not.
+#[derive(Clone, Copy)]
+pub(crate) struct MarkEnd(pub bool, pub bool);
+
+impl Part for MarkEnd {
+    ghost use Rattle.trace_pair.specs.ColumnLines.{mark_end};
+
+    ghost text = { λ mark. mark_end mark.0 mark.1 };
+
+    fn say<S: TextSink>(self, out: &mut S) {
+        if self.0 {
+            if !self.1 {
+                say(out, "</mark>");
+            }
+        }
+    }
+}
+
+/// A byte, or a gap.
+#[derive(Clone, Copy)]
+pub(crate) struct ByteOrGap(pub Option<u8>);
+
+impl Part for ByteOrGap {
+    ghost use Rattle.trace_pair.specs.ColumnLines.{byte_or_gap};
+
+    ghost text = { λ cell. byte_or_gap cell.0 };
+
+    fn say<S: TextSink>(self, out: &mut S) {
+        match self.0 {
+            Some(byte) => say(out, Byte(byte)),
+            None => say(out, "--"),
+        }
+    }
+}
+
+/// How many bytes are folded, and how many of them differ.
+#[derive(Clone, Copy)]
+pub(crate) struct FoldWords(pub ColumnCounts);
+
+impl Part for FoldWords {
+    ghost use Rattle.trace_pair.specs.ColumnLines.{fold_words};
+
+    ghost text = { λ words. fold_words words.0.all words.0.differing };
+
+    fn say<S: TextSink>(self, out: &mut S) {
+        let ColumnCounts { all, differing } = self.0;
+        let some = (BytesMore(all), ", ", Differ(differing));
+        say(out, Either(all == 0, "no byte more", some));
+    }
+}
+
+/// How many bytes are not shown, if some are not, and how many of them differ.
+#[derive(Clone, Copy)]
+pub(crate) struct Hidden(pub ColumnCounts);
+
+impl Part for Hidden {
+    ghost use Rattle.trace_pair.specs.ColumnLines.{hidden_words};
+
+    ghost text = { λ words. hidden_words words.0.all words.0.differing };
+
+    fn say<S: TextSink>(self, out: &mut S) {
+        let ColumnCounts { all, differing } = self.0;
+        let some = (
+            "<p class=\"rest\"><i>",
+            BytesMore(all),
+            ", not shown; ",
+            Differ(differing),
+            "</i></p>",
+        );
+        say(out, Either(all == 0, (), some));
+    }
+}
+
+/// So many bytes more.
+#[derive(Clone, Copy)]
+struct BytesMore(usize);
+
+impl Part for BytesMore {
+    ghost use Rattle.trace_pair.specs.ColumnLines.{bytes_more};
+
+    ghost text = { λ more. bytes_more more.0 };
+
+    fn say<S: TextSink>(self, out: &mut S) {
+        let several = (Number(self.0 as u64), " bytes more");
+        say(out, Either(self.0 == 1, "1 byte more", several));
+    }
+}
+
+/// How many of some bytes differ.
+#[derive(Clone, Copy)]
+struct Differ(usize);
+
+impl Part for Differ {
+    ghost use Rattle.trace_pair.specs.ColumnLines.{differ_words};
+
+    ghost text = { λ differ. differ_words differ.0 };
+
+    fn say<S: TextSink>(self, out: &mut S) {
+        let several = (Number(self.0 as u64), " of them differ");
+        say(
+            out,
+            Either(
+                self.0 == 0,
+                "the same",
+                Either(self.0 == 1, "1 of them differs", several),
+            ),
+        );
+    }
+}

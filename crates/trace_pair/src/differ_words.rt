@@ -1,0 +1,90 @@
+//! How two items differ, in words.
+ghost use Rattle.std.specs.Prelude.{Some};
+ghost use Rattle.trace_pair.specs.ItemWords.{answer_bytes};
+
+use crate::byte_words::ByteWords;
+use crate::outcome::{Outcome, OutcomesDiffer, came_of, same_outcome};
+use text_parts::{Part, say};
+use trace_io::TextSink;
+use uds_exchange::Item;
+
+/// How two items of one service differ: in the request, in the answer, or in both.
+#[derive(Clone, Copy)]
+pub(crate) struct DifferWords<'a>(pub Item<'a>, pub Item<'a>);
+
+impl<'a> Part for DifferWords<'a> {
+    ghost use Rattle.uds_exchange.specs.ItemSeen.{item_value};
+    ghost use Rattle.trace_pair.specs.ItemWords.{differ};
+
+    ghost text = { λ items. differ (item_value items.0) (item_value items.1) };
+
+    fn say<S: TextSink>(self, out: &mut S) {
+        match (self.0, self.1) {
+            (
+                Item::Exchange { request, answer },
+                Item::Exchange {
+                    request: other,
+                    answer: reply,
+                },
+            ) => {
+                let one = came_of(request, answer);
+                let came = came_of(other, reply);
+                if request == other {
+                    say(out, AnswersDiffer("", one, came, answer, reply));
+                } else {
+                    say(
+                        out,
+                        (
+                            "request",
+                            ByteWords(request, other),
+                            AnswersDiffer("; ", one, came, answer, reply),
+                        ),
+                    );
+                }
+            }
+            (Item::Stray { bytes, .. }, Item::Stray { bytes: others, .. }) => say(
+                out,
+                ("message", ByteWords(bytes, others)),
+            ),
+            (Item::Exchange { .. }, Item::Stray { .. })
+            | (Item::Stray { .. }, Item::Exchange { .. }) => {}
+        }
+    }
+}
+
+/// How the answers of two exchanges differ, behind what stands before: in what came of the request, or else in bytes.
+#[derive(Clone, Copy)]
+struct AnswersDiffer<'a>(
+    &'static str,
+    Outcome,
+    Outcome,
+    Option<&'a [u8]>,
+    Option<&'a [u8]>,
+);
+
+impl<'a> Part for AnswersDiffer<'a> {
+    ghost use Rattle.std.specs.Prelude.{option_map};
+    ghost use Rattle.trace_pair.specs.ItemWords.{answers_differ};
+
+    ghost text = { λ t. answers_differ t.0.now t.1 t.2 (option_map (λ answer. answer.now) t.3) (option_map (λ reply. reply.now) t.4) };
+
+    fn say<S: TextSink>(self, out: &mut S) {
+        let AnswersDiffer(before, one, other, answer, reply) = self;
+        if same_outcome(one, other) {
+            if let (Some(answer), Some(reply)) = (answer, reply) {
+                say_answer_bytes(before, answer, reply, out);
+            }
+        } else {
+            say(out, (before, OutcomesDiffer(one, other)));
+        }
+    }
+}
+
+/// Says at which bytes two answers differ, where they do.
+fn say_answer_bytes<S: TextSink>(before: &'static str, answer: &[u8], reply: &[u8], out: &mut S)
+    ensures { S.says out.old (answer_bytes before.now (Some answer.now) (Some reply.now)) out.new }
+{
+    if answer != reply {
+        say(out, (before, "answer", ByteWords(answer, reply)));
+    }
+}

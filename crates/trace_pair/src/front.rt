@@ -1,0 +1,87 @@
+//! The front of a page of two logs.
+use crate::log::{LetteredName, PairLog};
+use crate::title::Title;
+use text_parts::{Either, Part, say};
+use trace_io::TextSink;
+use trace_report::{Identifiers, Name, PageStart, Shapes};
+
+/// What stands before the verdict, where there are so many differences.
+#[derive(Clone, Copy)]
+pub(crate) struct PairFront<'a>(pub &'a Title<'a>, pub usize);
+
+impl<'a> Part for PairFront<'a> {
+    ghost use Rattle.trace_pair.specs.Page.{front};
+    ghost use Rattle.trace_pair.specs.Titles.{title_of};
+
+    ghost text = { λ t. front (title_of t.0.now) t.1 };
+
+    fn say<S: TextSink>(self, out: &mut S) {
+        let PairFront(title, count) = self;
+        say(
+            out,
+            (
+                (
+                    PageStart,
+                    "<title>",
+                    Name(title.left),
+                    " and ",
+                    Name(title.right),
+                    " - udsnorm report</title>\n<style>\n",
+                    title.style,
+                    "</style>\n</head>\n<body>\n<svg class=\"defs\" aria-hidden=\"true\" width=\"0\" height=\"0\">\n",
+                    Shapes,
+                ),
+                "</svg>\n<div class=\"page wide\">\n<header>\n<p class=\"brand\">udsnorm report</p>\n<h1>",
+                LetteredName(PairLog::A, title.left),
+                "<br>",
+                LetteredName(PairLog::B, title.right),
+                "</h1>\n",
+                Identifiers(title.tester, title.unit),
+                PairLinks(count),
+                PairCutNotice,
+            ),
+        );
+    }
+}
+
+/// The notice of a page that breaks off, which the style shows where the end of the page is missing; and the end of the
+/// header.
+#[derive(Clone, Copy)]
+struct PairCutNotice;
+
+impl Part for PairCutNotice {
+    ghost use Rattle.trace_pair.specs.Page.{cut_notice};
+
+    ghost text = { λ notice. cut_notice };
+
+    fn say<S: TextSink>(self, out: &mut S) {
+        say(
+            out,
+            "<p id=\"cut\" role=\"status\" hidden>This page has no end. What wrote it was stopped, or the file was cut, or the page is still loading: it tells nothing of the rest of the sessions.</p>\n</header>\n",
+        );
+    }
+}
+
+/// The links of the head, by how many differences there are.
+#[derive(Clone, Copy)]
+struct PairLinks(usize);
+
+impl Part for PairLinks {
+    ghost use Rattle.trace_pair.specs.Page.{links};
+
+    ghost text = { λ t. links t.0 };
+
+    fn say<S: TextSink>(self, out: &mut S) {
+        let one = "<a href=\"#difference\">The difference</a> ";
+        let first = "<a href=\"#difference\">The first</a> ";
+        say(
+            out,
+            (
+                "<p class=\"skip\"><a href=\"#verdict\">Verdict</a> ",
+                Either(self.0 <= 1, (), "<a href=\"#differences\">Differences</a> "),
+                Either(self.0 == 0, (), Either(self.0 == 1, one, first)),
+                "<a href=\"#items\">Items</a> <a href=\"#help\">How to read this page</a></p>\n",
+            ),
+        );
+    }
+}

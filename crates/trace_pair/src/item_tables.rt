@@ -1,0 +1,243 @@
+//! The table of items: each row of both sessions once.
+ghost use Rattle.std.specs.Prelude.{◌≡◌, ◌==◌, ◌+◌, ◌<◌, ◌&&◌, not, ◌∷◌, List, codes, length, if◌then◌else◌};
+ghost use Rattle.uds_difference.specs.declared.row.Row.{Row as RowValue};
+ghost use Rattle.uds_difference.specs.declared.row.Row.TheVariants as RowKind;
+ghost use Rattle.shown_rows.specs.Rows.{count_of, differs};
+ghost use Rattle.trace_pair.specs.ItemTables.{items_text, losses_of_no_item, stretches_text};
+ghost use Rattle.trace_pair.specs.RowStretches.{begun, placed, stretches};
+ghost use Rattle.trace_pair.specs.proving.Standings.{IsRoomy, row_or_fold, seen_text};
+
+use crate::folds::{Fold, say_fold};
+use crate::item_row::{Begun, RowPlace, say_item_row};
+use crate::log::PairLog;
+use crate::losses::say_losses;
+use crate::sessions::Sessions;
+use crate::standing::{Standing, Table};
+use crate::widths::ItemsClass;
+use shown_rows::{change_at, count_changes, count_of, differs, folded, is_shown};
+use text_parts::{Either, Part, When, say};
+use trace_io::TextSink;
+use trace_report::KeptSession;
+use trace_text::Ordinal;
+use uds_difference::Row;
+
+/// Of the tables that fold, so many are open.
+const OPEN_BLOCKS: usize = 4;
+
+/// Says all items of two sessions with these rows.
+pub(crate) fn say_items<S: TextSink>(sessions: Sessions<'_>, rows: &[Row], out: &mut S)
+    ensures { S.says out.old (items_text sessions.entry.left.now sessions.entry.right.now rows.now) out.new }
+{
+    say(
+        out,
+        (
+            "<section id=\"items\" class=\"",
+            ItemsClass(sessions),
+            "\">\n<h2>Items</h2>\n",
+            When(
+                is_filtered(rows),
+                "<p class=\"filter\"><input type=\"checkbox\" id=\"apart\"> <label for=\"apart\">Show only differences</label></p>\n",
+            ),
+        ),
+    );
+    say_losses_of_no_item(PairLog::A, sessions.left, out);
+    say_losses_of_no_item(PairLog::B, sessions.right, out);
+    say_rows_or_none(sessions, rows, out);
+    say(out, "</section>\n");
+}
+
+/// Says what is missing of a log without an item.
+fn say_losses_of_no_item<S: TextSink>(log: PairLog, session: &KeptSession, out: &mut S)
+    ensures { S.says out.old (losses_of_no_item log session.now) out.new }
+{
+    if session.rows().items() == 0 {
+        say_losses(log, session, 0, out);
+    }
+}
+
+/// Whether a box can leave the differences alone: something differs, and something is the same.
+fn is_filtered(rows: &[Row]) -> bool
+    ensures { result ≡ (differs rows.now && not (count_of RowKind.Same rows.now == 0)) }
+{
+    differs(rows) && count_of(Row::Same, rows) != 0
+}
+
+/// Says all rows, or that there are none.
+fn say_rows_or_none<S: TextSink>(sessions: Sessions<'_>, rows: &[Row], out: &mut S)
+    ensures { S.says out.old (if length rows.now == 0 then codes "<p>None.</p>\n" else stretches_text sessions.entry.left.now sessions.entry.right.now 0 (stretches (placed rows.now))) out.new }
+{
+    if rows.is_empty() {
+        say(out, "<p>None.</p>\n");
+    } else {
+        say_rows(sessions, rows, out);
+    }
+}
+
+/// Says all rows.
+fn say_rows<S: TextSink>(sessions: Sessions<'_>, rows: &[Row], out: &mut S)
+    ensures { S.says out.old (stretches_text sessions.entry.left.now sessions.entry.right.now 0 (stretches (placed rows.now))) out.new }
+{
+    let all = count_changes(rows);
+    let mut at = Standing::at_start();
+    'rows: for k in 0..rows.len() {
+        let rest = &rows[k..];
+        say_row_or_fold(sessions, all, at, rest, out);
+        at = at.behind(rest);
+    }
+    say(out, TableEnd(at.table));
+}
+
+/// Says the first of these rows, where it is shown, or the fold that begins with it, behind the end of the table.
+fn say_row_or_fold<S: TextSink>(
+    sessions: Sessions<'_>,
+    all: usize,
+    at: Standing,
+    rows: &[Row],
+    out: &mut S,
+)
+    requires { IsRoomy at (length rows.now) }
+    ensures { (row : RowValue) (later : List RowValue) → rows.now ≡ row ∷ later
+        → S.says out.old (row_or_fold sessions.entry.left.now sessions.entry.right.now all at row later) out.new }
+{
+    if at.folded == 0 {
+        if is_shown(at.context, rows) {
+            say_shown(sessions, all, at, rows, out);
+        } else {
+            say(out, TableEnd(at.table));
+            let fold = Fold {
+                left: at.left,
+                right: at.right,
+                count: folded(rows),
+            };
+            say_fold(sessions, fold, out);
+        }
+    }
+}
+
+/// Says the first of these rows, and what begins before it.
+fn say_shown<S: TextSink>(
+    sessions: Sessions<'_>,
+    all: usize,
+    at: Standing,
+    rows: &[Row],
+    out: &mut S,
+)
+    requires { IsRoomy at (length rows.now) }
+    ensures { (row : RowValue) (later : List RowValue) → rows.now ≡ row ∷ later
+        → S.says out.old (seen_text sessions.entry.left.now sessions.entry.right.now all at row later) out.new }
+{
+    let Some(kind) = rows.first() else {
+        return;
+    };
+    let place = RowPlace {
+        kind: *kind,
+        left: at.left,
+        right: at.right,
+    };
+    say(out, TableOpening(at));
+    let begun = change_begun(at, all, rows);
+    say_item_row(sessions, place, begun, out);
+}
+
+/// The change that begins with the first of these rows, if one does.
+fn change_begun(at: Standing, all: usize, rows: &[Row]) -> Option<Begun>
+    requires { IsRoomy at (length rows.now) }
+    ensures { (row : RowValue) (later : List RowValue) → rows.now ≡ row ∷ later
+        → result ≡ begun at.front at.changes all row later }
+{
+    let change = change_at(at.front, at.left, at.right, rows)?;
+    Some(Begun {
+        number: at.changes as u64 + 1,
+        all: all as u64,
+        count: change.count,
+    })
+}
+
+/// What begins before a row.
+#[derive(Clone, Copy)]
+struct TableOpening(Standing);
+
+impl Part for TableOpening {
+    ghost use Rattle.trace_pair.specs.proving.Standings.{opening};
+
+    ghost text = { λ t. opening t.0.table t.0.blocks t.0.left t.0.right };
+
+    fn say<S: TextSink>(self, out: &mut S) {
+        let at = self.0;
+        match at.table {
+            Table::Closed => say(out, TableStart),
+            Table::Open(_) | Table::Block(_) => {
+                if at.table.is_full() {
+                    say(
+                        out,
+                        (TableEnd(at.table), BlockStart(at.blocks, at.left, at.right)),
+                    );
+                }
+            }
+        }
+    }
+}
+
+/// The start of a table that folds, by how many such stand before it, and by how many items of both.
+#[derive(Clone, Copy)]
+struct BlockStart(usize, usize, usize);
+
+impl Part for BlockStart {
+    ghost use Rattle.trace_pair.specs.ItemTables.{block_start};
+
+    ghost text = { λ t. block_start t.0 t.1 t.2 };
+
+    fn say<S: TextSink>(self, out: &mut S) {
+        let BlockStart(blocks, left, right) = self;
+        say(
+            out,
+            (
+                Either(
+                    blocks < OPEN_BLOCKS,
+                    "<details class=\"b\" open>\n<summary>From A&#160;",
+                    "<details class=\"b\">\n<summary>From A&#160;",
+                ),
+                Ordinal(left),
+                ", B&#160;",
+                Ordinal(right),
+                "</summary>\n",
+                TableStart,
+            ),
+        );
+    }
+}
+
+/// The start of a table.
+#[derive(Clone, Copy)]
+pub(crate) struct TableStart;
+
+impl Part for TableStart {
+    ghost use Rattle.trace_pair.specs.ItemTables.{table_start};
+
+    ghost text = { λ start. table_start };
+
+    fn say<S: TextSink>(self, out: &mut S) {
+        say(
+            out,
+            "<table class=\"pair\">\n<thead><tr><th scope=\"col\">A<th scope=\"col\">B<th scope=\"col\">Item</thead>\n<tbody>\n",
+        );
+    }
+}
+
+/// The end of the table that stands.
+#[derive(Clone, Copy)]
+struct TableEnd(Table);
+
+impl Part for TableEnd {
+    ghost use Rattle.trace_pair.specs.proving.Standings.{table_end};
+
+    ghost text = { λ end. table_end end.0 };
+
+    fn say<S: TextSink>(self, out: &mut S) {
+        match self.0 {
+            Table::Closed => {}
+            Table::Open(_) => say(out, "</table>\n"),
+            Table::Block(_) => say(out, "</table>\n</details>\n"),
+        }
+    }
+}

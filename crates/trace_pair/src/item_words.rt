@@ -1,0 +1,118 @@
+//! Items in the words of a technician.
+ghost use Rattle.std.specs.Prelude.{◌≡◌, take};
+ghost use Rattle.trace_pair.specs.ItemWords as Spec;
+
+use crate::outcome::came_of;
+use direction::Dir;
+use text_parts::{Either, Part, say};
+use trace_io::TextSink;
+use trace_report::{BytesApart, MoreWords};
+use trace_text::{Number, Sender, ServiceName};
+use uds_exchange::Item;
+use uds_message::{TesterKind, sid, tester_kind};
+
+/// How many bytes of a message are told in a sentence.
+const TOLD: usize = 8;
+
+/// What an item is, and how it begins.
+#[derive(Clone, Copy)]
+pub(crate) struct ItemTitle<'a>(pub Item<'a>);
+
+impl<'a> Part for ItemTitle<'a> {
+    ghost use Rattle.uds_exchange.specs.ItemSeen.{item_value};
+    ghost use Rattle.trace_pair.specs.ItemWords.{item_title};
+
+    ghost text = { λ t. item_title (item_value t.0) };
+
+    fn say<S: TextSink>(self, out: &mut S) {
+        match self.0 {
+            Item::Exchange { request, .. } => say(
+                out,
+                (
+                    "<b>",
+                    ServiceName(sid(request)),
+                    "</b> ",
+                    FirstBytes(request),
+                ),
+            ),
+            Item::Stray { dir, bytes } => {
+                if keeps_alive(dir, bytes) {
+                    say(out, ("<b>keep-alive</b> ", FirstBytes(bytes)));
+                } else {
+                    say(
+                        out,
+                        (
+                            "<b>stray</b> <i>from the ",
+                            Sender(dir),
+                            "</i> ",
+                            FirstBytes(bytes),
+                        ),
+                    );
+                }
+            }
+        }
+    }
+}
+
+/// Whether a stray is a keep-alive: the tester sent it, and it is one.
+pub(crate) fn keeps_alive(dir: Dir, bytes: &[u8]) -> bool
+    ensures { result ≡ Spec.keeps_alive dir bytes.now }
+{
+    match dir {
+        Dir::Tester => matches!(tester_kind(bytes), TesterKind::KeepAlive),
+        Dir::Unit => false,
+    }
+}
+
+/// The first bytes of a message, and how many more it has.
+#[derive(Clone, Copy)]
+struct FirstBytes<'a>(&'a [u8]);
+
+impl<'a> Part for FirstBytes<'a> {
+    ghost use Rattle.trace_pair.specs.ItemWords.{first_bytes};
+
+    ghost text = { λ bytes. first_bytes bytes.0.now };
+
+    fn say<S: TextSink>(self, out: &mut S) {
+        let bytes = self.0;
+        let more = bytes.len().saturating_sub(TOLD) as u64;
+        say(
+            out,
+            (
+                "<code>",
+                BytesApart(told(bytes)),
+                "</code>",
+                Either(
+                    bytes.len() <= TOLD,
+                    (),
+                    (" <i>and ", Number(more), MoreWords(more), "</i>"),
+                ),
+            ),
+        );
+    }
+}
+
+/// The first bytes of a message.
+fn told(bytes: &[u8]) -> &[u8]
+    ensures { result.now ≡ take Spec.told_bytes bytes.now }
+{
+    &bytes[..TOLD.min(bytes.len())]
+}
+
+/// What came of an item, behind its title, where it is an exchange.
+#[derive(Clone, Copy)]
+pub(crate) struct OutcomeNote<'a>(pub Item<'a>);
+
+impl<'a> Part for OutcomeNote<'a> {
+    ghost use Rattle.uds_exchange.specs.ItemSeen.{item_value};
+    ghost use Rattle.trace_pair.specs.ItemWords.{outcome_note};
+
+    ghost text = { λ t. outcome_note (item_value t.0) };
+
+    fn say<S: TextSink>(self, out: &mut S) {
+        match self.0 {
+            Item::Exchange { request, answer } => say(out, (": ", came_of(request, answer))),
+            Item::Stray { .. } => {}
+        }
+    }
+}

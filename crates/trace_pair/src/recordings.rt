@@ -1,0 +1,127 @@
+//! What was found of both logs.
+ghost use Rattle.trace_pair.specs.Recordings.{recording, recordings};
+
+use crate::dates::Moment;
+use crate::log::{LetteredName, PairLog};
+use crate::sessions::Sessions;
+use text_parts::{Part, say};
+use trace_io::TextSink;
+use trace_log::Summary;
+use trace_report::{KeptSession, Seconds, UncleanReasons, is_called_clean};
+use trace_text::Number;
+
+/// Says the table of both recordings.
+pub(crate) fn say_recordings<S: TextSink>(
+    left_name: &[u8],
+    right_name: &[u8],
+    sessions: Sessions<'_>,
+    out: &mut S,
+)
+    ensures { S.says out.old (recordings left_name.now right_name.now sessions.entry.left.now sessions.entry.right.now) out.new }
+{
+    say(
+        out,
+        "<table class=\"recs\">\n<thead><tr><th scope=\"col\">Recording<th scope=\"col\">State<th scope=\"col\">Items<th scope=\"col\">First frame<th scope=\"col\">Length</thead>\n<tbody>\n",
+    );
+    say_recording(PairLog::A, left_name, sessions.left, out);
+    say_recording(PairLog::B, right_name, sessions.right, out);
+    say(out, "</table>\n");
+}
+
+/// Says the row of a log.
+fn say_recording<S: TextSink>(log: PairLog, name: &[u8], session: &KeptSession, out: &mut S)
+    ensures { S.says out.old (recording log name.now session.now) out.new }
+{
+    let summary = session.summary();
+    say(
+        out,
+        (
+            "<tr><th scope=\"row\">",
+            LetteredName(log, name),
+            "<td>",
+            State(&summary),
+            "<td>",
+            Number(session.rows().items() as u64),
+            RecordingTimes {
+                frames: summary.frames,
+                first: session.first(),
+                last: session.last(),
+            },
+            "\n",
+        ),
+    );
+}
+
+/// Whether a recording is called clean, and each reason why it isn't.
+#[derive(Clone, Copy)]
+struct State<'a>(pub &'a Summary);
+
+impl<'a> Part for State<'a> {
+    ghost use Rattle.trace_pair.specs.Recordings.{state};
+
+    ghost text = { λ t. state t.0.now };
+
+    fn say<S: TextSink>(self, out: &mut S) {
+        let summary = self.0;
+        if is_called_clean(summary) {
+            say(out, "clean");
+        } else {
+            say(out, (StateStart(summary), UncleanReasons(summary)));
+        }
+    }
+}
+
+/// What is said in front of the reasons: that a recording is not clean, that its sides look exchanged, or both.
+#[derive(Clone, Copy)]
+struct StateStart<'a>(&'a Summary);
+
+impl<'a> Part for StateStart<'a> {
+    ghost use Rattle.trace_pair.specs.Recordings.{state_start};
+
+    ghost text = { λ start. state_start start.0.now };
+
+    fn say<S: TextSink>(self, out: &mut S) {
+        let summary = self.0;
+        if !summary.looks_exchanged {
+            say(out, "<b class=\"bd\">not clean:</b> ");
+        } else if summary.is_clean() {
+            say(out, "<b class=\"bd\">tester and unit look exchanged:</b> ");
+        } else {
+            say(
+                out,
+                "<b class=\"bd\">not clean, and tester and unit look exchanged:</b> ",
+            );
+        }
+    }
+}
+
+/// When the frames of a log were, where it has some.
+#[derive(Clone, Copy)]
+struct RecordingTimes {
+    frames: u64,
+    first: u64,
+    last: u64,
+}
+
+impl Part for RecordingTimes {
+    ghost use Rattle.trace_pair.specs.Recordings.{times_text};
+
+    ghost text = { λ t. times_text t.frames t.first t.last };
+
+    fn say<S: TextSink>(self, out: &mut S) {
+        if self.frames == 0 {
+            say(out, "<td>&#8211;<td>&#8211;");
+        } else {
+            say(
+                out,
+                (
+                    "<td>",
+                    Moment(self.first),
+                    "<td>",
+                    Seconds(self.first, self.last),
+                    "&#160;s",
+                ),
+            );
+        }
+    }
+}

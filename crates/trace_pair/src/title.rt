@@ -1,0 +1,12 @@
+//! What a page of two logs is made for.
+use can_log::Id;
+
+/// Its style, the names of the logs, and the identifiers.
+#[derive(Clone, Copy)]
+pub struct Title<'a> {
+    pub style: &'a str,
+    pub left: &'a [u8],
+    pub right: &'a [u8],
+    pub tester: Id,
+    pub unit: Id,
+}

@@ -1,0 +1,150 @@
+//! Items as rows tell them.
+use crate::log::{LetterMark, PairLog};
+use text_parts::{Part, When, say};
+use trace_io::TextSink;
+use trace_report::{
+    Data, FurtherNote, MessagePlace, NamedLines, PlacedItem, RoleWords, RowMessage, Seconds,
+    asked_at, is_request_role,
+};
+use uds_message::is_suppressing;
+
+/// A message: what it is, and its bytes.
+#[derive(Clone, Copy)]
+pub(crate) struct ToldMessage<'a>(pub RowMessage<'a>);
+
+impl<'a> Part for ToldMessage<'a> {
+    ghost use Rattle.trace_report.specs.Items.{message_of};
+    ghost use Rattle.trace_pair.specs.ToldItems.{told_message};
+
+    ghost text = { λ t. told_message (message_of t.0) };
+
+    fn say<S: TextSink>(self, out: &mut S) {
+        let sent = self.0.sent;
+        let bytes = self.0.bytes;
+        say(out, (RoleWords(sent.role, sent.dir, bytes), Data(bytes)));
+    }
+}
+
+/// The answer to a request, or what stands in its place.
+#[derive(Clone, Copy)]
+pub(crate) struct ToldAnswer<'a>(pub &'a [u8], pub Option<RowMessage<'a>>);
+
+impl<'a> Part for ToldAnswer<'a> {
+    ghost use Rattle.std.specs.Prelude.{option_map};
+    ghost use Rattle.trace_report.specs.Items.{message_of};
+    ghost use Rattle.trace_pair.specs.ToldItems.{told_answer};
+
+    ghost text = { λ t. told_answer t.0.now (option_map message_of t.1) };
+
+    fn say<S: TextSink>(self, out: &mut S) {
+        match self.1 {
+            Some(reply) => say(out, ToldMessage(reply)),
+            None => say(out, MissingAnswer(is_suppressing(self.0))),
+        }
+    }
+}
+
+/// What stands in place of an answer.
+#[derive(Clone, Copy)]
+struct MissingAnswer(bool);
+
+impl Part for MissingAnswer {
+    ghost use Rattle.trace_pair.specs.ToldItems.{no_answer_text};
+
+    ghost text = { λ t. no_answer_text t.0 };
+
+    fn say<S: TextSink>(self, out: &mut S) {
+        if self.0 {
+            say(out, "<b>silent</b>");
+        } else {
+            say(out, "<b class=\"no\">no answer</b>");
+        }
+    }
+}
+
+/// An item: a request with its answer behind an arrow, or a message.
+#[derive(Clone, Copy)]
+pub(crate) struct ToldItem<'a>(pub PlacedItem<'a>);
+
+impl<'a> Part for ToldItem<'a> {
+    ghost use Rattle.trace_report.specs.Items.{item_of};
+    ghost use Rattle.trace_pair.specs.ToldItems.{told_item};
+
+    ghost text = { λ t. told_item (item_of t.0) };
+
+    fn say<S: TextSink>(self, out: &mut S) {
+        let PlacedItem { begin, answer } = self.0;
+        let reply = (" &#8594; ", ToldAnswer(begin.bytes, answer));
+        say(
+            out,
+            (
+                ToldMessage(begin),
+                When(is_request_role(begin.sent.role), reply),
+            ),
+        );
+    }
+}
+
+/// When an item was, in a log whose first frame has this time.
+#[derive(Clone, Copy)]
+pub(crate) struct NoteOf<'a>(pub PairLog, pub u64, pub PlacedItem<'a>);
+
+impl<'a> Part for NoteOf<'a> {
+    ghost use Rattle.trace_report.specs.Items.{item_of};
+    ghost use Rattle.trace_pair.specs.ToldItems.{note_of};
+
+    ghost text = { λ t. note_of t.0 t.1 (item_of t.2) };
+
+    fn say<S: TextSink>(self, out: &mut S) {
+        let NoteOf(log, origin, item) = self;
+        match item.answer {
+            Some(reply) => say(out, ItemNote(log, origin, item.begin, reply)),
+            None => say(out, ItemNote(log, origin, item.begin, item.begin)),
+        }
+    }
+}
+
+/// When an item was that begins with one message and ends with another.
+#[derive(Clone, Copy)]
+struct ItemNote<'a>(PairLog, u64, RowMessage<'a>, RowMessage<'a>);
+
+impl<'a> Part for ItemNote<'a> {
+    ghost use Rattle.trace_report.specs.Items.{message_of};
+    ghost use Rattle.trace_pair.specs.ToldItems.{item_note};
+
+    ghost text = { λ t. item_note t.0 t.1 (message_of t.2) (message_of t.3) };
+
+    fn say<S: TextSink>(self, out: &mut S) {
+        let ItemNote(log, origin, begin, last) = self;
+        say(
+            out,
+            (
+                "<i>",
+                LetterMark(log),
+                LinesOfBoth(begin.sent.place, last.sent.place),
+                ", ",
+                Seconds(origin, begin.sent.place.last.micros),
+                "&#160;s",
+                FurtherNote(asked_at(last.sent.role), last.sent.place.first.micros),
+                "</i>",
+            ),
+        );
+    }
+}
+
+/// The lines of two messages, each of which may begin or end outside the other one.
+#[derive(Clone, Copy)]
+struct LinesOfBoth(MessagePlace, MessagePlace);
+
+impl Part for LinesOfBoth {
+    ghost use Rattle.trace_pair.specs.ToldItems.{lines_of_both};
+
+    ghost text = { λ lines. lines_of_both lines.0 lines.1 };
+
+    fn say<S: TextSink>(self, out: &mut S) {
+        let LinesOfBoth(begin, last) = self;
+        let first = begin.first.line.min(last.first.line);
+        let last = begin.last.line.max(last.last.line);
+        say(out, NamedLines(first, last));
+    }
+}

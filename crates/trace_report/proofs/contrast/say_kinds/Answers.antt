@@ -1,8 +1,0 @@
-use Rattle.trace_report.proofs.contrast.say_kinds.Goals as goal
-
-pub returns : goal.returns
-returns g c =
-    g.met.S.TextSink.onward _ _ _ _ _ (g.met.S.TextSink.onward _ _ _ _ _ (g.met.S.TextSink.onward _ _ _ _ _ (g.met.S.TextSink.onward _ _ _ _ _ c.say_text.ensures c.say_log_letter.ensures)
-    c.say_text-2.ensures)
-    c.say_other_letter.ensures)
-    c.say_text-3.ensures

@@ -1,7 +1,0 @@
-use Rattle.trace_report.proofs.marks.say_marked_byte.Goals as goal
-
-pub returns : goal.returns
-returns g c =
-    g.met.S.TextSink.onward _ _ _ _ _ (g.met.S.TextSink.onward _ _ _ _ _ (g.met.S.TextSink.onward _ _ _ _ _ c.say_text.ensures c.say_byte.ensures)
-    c.say_text-2.ensures)
-    c.say_bytes_behind.ensures
