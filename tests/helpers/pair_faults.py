@@ -39,6 +39,7 @@ def told_otherwise(page, came):
         *recording_faults(read, came),
         *chart_faults(read, came),
         *loss_faults(read, came),
+        *unclean_faults(read, came, rows, changes),
     ]
 
 
@@ -157,6 +158,15 @@ def note_faults(read, came, rows, changes):
     """Whether it is said below the heading where a log is not clean, that there may be a shorter difference, and of a large page its size."""
     notes = pair_facts.notes_of(came, rows, changes)
     return [] if read.notes == notes else [f"the notes are {read.notes}, not {notes}"]
+
+
+def unclean_faults(read, came, rows, changes):
+    """Whether list and first difference say of each change which log is not clean there."""
+    notes = pair_facts.unclean_notes(came, rows, changes)[:LISTED]
+    told = [line.note for line in read.listed]
+    wrong = [] if told == notes or not told else [f"of the differences it is said that {told}, not {notes}"]
+    first = [read.first.note] if read.first else []
+    return wrong + ([] if first == notes[:1] else [f"of the first difference it is said that {first}, not {notes[:1]}"])
 
 
 def loss_faults(read, came):

@@ -25,8 +25,8 @@ Line = namedtuple("Line", "whose first cells letters is_folded")
 # A fold of equal items: how many, the first and last numbers of both logs, and how much is missing of each log.
 Fold = namedtuple("Fold", "count left right losses")
 
-# A line of the list: the number of the difference, where it stands, what kind it is of, and what it says.
-Listed = namedtuple("Listed", "number place tag words")
+# A line of the list: the number of the difference, where it stands, what kind it is of, what it says, and which log is not clean there.
+Listed = namedtuple("Listed", "number place tag words note")
 
 # A chart: its rows, how many more it says that there are, and whether it says that the log ends; and of a row how it looks, its item, its
 # lines, its time, whether its item is told as another one than in the other log, and the lines of bytes that stand in it with marks, with how
@@ -147,15 +147,16 @@ def fold_spans(page):
     return spans
 
 
-def words_of(text):
-    """The words of a text, without what is said of a loss behind them."""
-    return TAG.sub("", re.sub(r' <em class="loss">.*?</em>', "", text))
+def listed_of(number, place, tag, text):
+    """A line of the list, with what is said of a loss behind its words."""
+    words, note = re.fullmatch(r'(.*?)(?: <em class="loss">(.*)</em>)?', text).groups()
+    return Listed(number, place, tag, TAG.sub("", words), note)
 
 
 def first_of(page):
     """What the first difference is said to be, if there is one."""
     match = FIRST.search(page)
-    return Listed(1, match[2], match[3], words_of(match[4])) if match else None
+    return listed_of(1, match[2], match[3], match[4]) if match else None
 
 
 def charts_of(page):
@@ -207,7 +208,7 @@ def read(page):
         paragraphs[0] if paragraphs else None,
         paragraphs[1:],
         [Recording(plain(match[1]), int(match[2]), plain(match[3]), plain(match[4])) for match in RECORDING.finditer(page)],
-        [Listed(int(match[1]), match[2], match[3], words_of(match[4])) for match in LISTED.finditer(page)],
+        [listed_of(int(match[1]), match[2], match[3], match[4]) for match in LISTED.finditer(page)],
         first_of(page),
         charts_of(page),
         losses_in(alone[1]),

@@ -87,6 +87,13 @@ DIFFERENCES = [
     ("more than that", [REQUEST], [REQUEST, *21 * [UNKNOWN], FIRST], None),
     ("more than that before any item", [*22 * [UNKNOWN], REQUEST], [REQUEST], None),
     ("more than that, and no item", [*22 * [UNKNOWN]], [STRAY], (1, "only in B", "stray from the unit 41")),
+    ("an item before the first one of A, behind which a frame is dropped", [REQUEST, ANSWER, UNKNOWN], [STRAY, REQUEST, ANSWER], (1, "only in B", "stray from the unit 41")),
+    ("an item before the first one of A, before which a frame is dropped", [UNKNOWN, REQUEST, ANSWER], [STRAY, REQUEST, ANSWER], (1, "only in B", "stray from the unit 41")),
+    ("an item behind the first one of A, before which a frame is dropped", [UNKNOWN, REQUEST, ANSWER], [REQUEST, ANSWER, STRAY], (1, "only in B", "stray from the unit 41")),
+    ("other answers in the first item, before which frames are dropped", [*3 * [UNKNOWN], REQUEST, ANSWER], [REQUEST, OTHER_ANSWER], (1, "changed", "ReadDataByIdentifier 22 F1 90: answer byte 4: 41 in A, 42 in B")),
+    ("other answers in the second item, before both of which a frame is dropped", [UNKNOWN, STRAY, UNKNOWN, REQUEST, ANSWER], [STRAY, REQUEST, OTHER_ANSWER], (1, "changed", "ReadDataByIdentifier 22 F1 90: answer byte 4: 41 in A, 42 in B")),
+    ("other answers in the third item, before the first of which a frame is dropped", [UNKNOWN, *2 * [REQUEST, ANSWER], SILENT], [*2 * [REQUEST, ANSWER], SILENT, SILENT_ANSWER], (1, "changed", "DiagnosticSessionControl 10 83: silent in A, as the request asks; positive in B")),
+    ("other answers behind more dropped frames than a chart goes back", [*9 * [UNKNOWN], REQUEST, ANSWER], [REQUEST, OTHER_ANSWER], (1, "changed", "ReadDataByIdentifier 22 F1 90: answer byte 4: 41 in A, 42 in B")),
     ("more than that, and no item in both", [FIRST, *23 * [UNKNOWN]], [*20 * [UNKNOWN]], None),
 ]
 
@@ -99,6 +106,7 @@ PLANTED = [
     ("a bound that was not passed", "request_changed", r'<table class="recs">', '<p>Perhaps not the shortest: more than 2000 items would be removed or added.</p>\n\\g<0>'),
     ("a loss of an item", "request_changed", r'(?<=<tr class="d ch)(.*)\n', '\\1<p class="lost"><span class="who">A</span> line 1: <b>dropped</b></p>\n'),
     ("a loss above the items", "none_in_a", r"<h2>Items</h2>\n", '\\g<0><p class="lost"><span class="who">A</span> line 1: <b>dropped</b></p>'),
+    ("a loss at a difference", "request_changed", r'(<p><span class="where">.*)(</span></p>\n<div class="two">)', '\\1 <em class="loss">A is not clean here</em>\\2'),
     ("a loss of a fold", "request_changed", r"</i></summary>", '</i> <em class="loss">1 dropped, ended or unfinished in B</em></summary>'),
     ("a mark of a byte that is the same", "request_changed", r'(?s)(<section id="items".*?<div class="hx">.*?<code>)22', "\\1<mark>22</mark>"),
     ("a folded byte that differs", "bytes_put_in", r'(?s)(<section id="items".*?bytes more, )the same', "\\g<1>1 of them differs"),

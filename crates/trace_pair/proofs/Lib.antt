@@ -26,6 +26,7 @@ pub mod ListedChanges
 pub mod LossyChanges
 pub mod LossPlaces
 mod LossesOnce
+mod LossyRows
 pub mod LostRows
 pub mod ChartPlaces
 pub mod Asking

@@ -26,6 +26,7 @@ use Rattle.trace_pair.specs.ChangeWords.{change_line}
 use Rattle.trace_pair.specs.ColumnLines.{lines_text}
 use Rattle.trace_pair.specs.Counterparts.{Charted, counterpart, is_other, marks_at}
 use Rattle.trace_pair.specs.Logs.{lettered_name}
+use Rattle.trace_pair.specs.Losses.{first_row}
 use Rattle.trace_pair.specs.Sessions.{values_in}
 use Rattle.trace_pair.specs.Verdict.{is_lossy}
 use Rattle.trace_pair.specs.Widths.{session_classes}
@@ -55,10 +56,11 @@ abbrev pub before_request : List RowValue → ℕ
 before_request [] = 0
 before_request (row ∷ rows) = if begins_exchange row then 0 else 1 + before_request rows
 
--- a chart around the item of a place begins with the last request that stands at or before the row with which the item
--- before it begins, or where there is none, with the first row; but no farther before the item's own than a chart goes
+-- A chart around the item of a place begins with the last request that stands at or before the row with which the item
+-- before it begins, or where there is none, with the first row; but no farther before the item's own than a chart goes. To the
+-- first item of a log belongs what is lost in front of it: so a chart that has that item begins with the log's first row.
 abbrev pub chart_from : ℕ → List RowValue → ℕ
-chart_from item rows = max (rows_before item rows - most_before) (last_request (suc (rows_before (item - 1) rows)) rows)
+chart_from item rows = max (rows_before item rows - most_before) (last_request (suc (first_row (item - 1) rows)) rows)
 
 -- a chart around the item of a place ends before the first request that stands at or behind the row with which the
 -- second item behind it begins

@@ -43,7 +43,7 @@ use Rattle.trace_pair.specs.ItemRows.{begun_number, message_of_both, outcome_lin
 use Rattle.trace_pair.specs.ItemWords.{between, came_of, differ, outcome_in, outcome_mark, outcome_note, outcome_words}
 use Rattle.trace_pair.specs.Logs.{byte_of, has_item, letter, letter_mark}
 use Rattle.trace_pair.specs.Links.{NumberedChange, difference_in, linked_numbers, listed_line, numbered}
-use Rattle.trace_pair.specs.Losses.{is_loss, losses_of}
+use Rattle.trace_pair.specs.Losses.{first_row, is_loss, losses_of}
 use Rattle.trace_pair.specs.RowStretches.{PlacedRow, Stretch, shown, folded, fold_rows, parts, placed, stretches, tables}
 use Rattle.trace_pair.specs.Sessions.{values_in}
 use Rattle.trace_pair.specs.Style.{page_style}
@@ -70,11 +70,14 @@ AgreesWithCompare = (settings : Settings) (one other : List ℕ) (held : TwoValu
 -- A chart around the item of a place, as a piece of the log's rows between those before it and those behind it.
 pub record IsAround (item : ℕ) (rows front behind : List RowValue) : Type 0 where
   pub piece : rows ≡ front ++ (chart_rows item rows ++ behind)
-  -- it begins with the log's first row, with a request at or before the row with which the item before begins, or so
-  -- many rows before the item's own as it has there at most
-  pub begins : (front ≡ []) ⊎ (((asks (slice_get (chart_rows item rows) 0) ≡ true) × (length front ≤ rows_before (item - 1) rows)) ⊎ (length front + most_before ≡ rows_before item rows))
-  -- and behind its first row none is a request up to the one with which the item before begins
-  pub last : list_any begins_exchange (take (rows_before (item - 1) rows - length front) (drop 1 (chart_rows item rows))) ≡ false
+  -- it begins with the log's first row, with a request at or before the rows that belong to the item before, or so many
+  -- rows before the item's own as it has there at most
+  pub begins : (front ≡ []) ⊎ (((asks (slice_get (chart_rows item rows) 0) ≡ true) × (length front ≤ first_row (item - 1) rows)) ⊎ (length front + most_before ≡ rows_before item rows))
+  -- and behind its first row none is a request up to the first one that belongs to the item before
+  pub last : list_any begins_exchange (take (first_row (item - 1) rows - length front) (drop 1 (chart_rows item rows))) ≡ false
+  -- around the log's first item, or the second, it begins with the log's first row, and so has what is lost in front of them;
+  -- or it has so many rows before the item's own as it has there at most
+  pub lost : item ≤ 1 → ((front ≡ []) ⊎ (length front + most_before ≡ rows_before item rows))
   pub before : length front ≤ rows_before item rows
   pub near : rows_before item rows ≤ length front + most_before
   -- the row with which the item begins stands in it

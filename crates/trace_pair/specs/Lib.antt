@@ -26,4 +26,5 @@ pub mod InMemory
 pub mod Laws
 pub mod ColumnLaws
 pub mod RowLaws
+pub mod LossLaws
 pub mod proving

@@ -10,6 +10,7 @@ use crate::chart_words::{BodyStart, ChartEnd, MessageEnd, PairChartHead};
 use crate::column_lines::{ShownLogs, have_word, say_columns};
 use crate::counterparts::{Charted, counterpart, is_other, marks_at};
 use crate::log::PairLog;
+use crate::losses::first_row;
 use crate::widths::SessionClasses;
 use byte_columns::Beside;
 use text_parts::say;
@@ -62,12 +63,13 @@ pub(crate) fn say_chart<S: TextSink>(
     say(out, "</table>\n");
 }
 
-/// Where the rows of a chart around an item begin: with the last request at or before the item before it.
+/// Where the rows of a chart around an item begin: with the last request at or before the item before it, and with what is
+/// lost in front of the log's first item, where that is the item before.
 fn chart_from(rows: &KeptRows, item: usize) -> usize
     ensures { result ≡ Spec.chart_from item rows.now }
 {
     let low = rows.rows_before(item).saturating_sub(MOST_BEFORE);
-    let before = rows.rows_before(item.saturating_sub(1));
+    let before = first_row(rows, item.saturating_sub(1));
     let end = before.saturating_add(1).min(rows.len());
     let mut from = low;
     'rows: for at in low..end {

@@ -3,6 +3,7 @@
 ghost use Rattle.trace_pair.specs.Laws.{AgreesWithCompare, ChangesAreOfComparison, ChartHasTheItem, ComparisonIsOfItems, DifferencesAreTheChanges, EachItemStandsOnce, EachLossStandsOnce, EachRowStandsOnce, LinksHaveTargets, LinksNameIdentifiers, LinksSpellIdentifiers, ListLeadsToTheTable, MarksAreOfColumnsThatDiffer, StyleHoldsNoTag, UnansweredHasNone, UnfoldedRowsAreThoseOfHunks};
 ghost use Rattle.trace_pair.specs.ColumnLaws.{EachByteIsCounted, EachLogHasItsLine};
 ghost use Rattle.trace_pair.specs.RowLaws.{EachItemHasItsRow, HeadingCountsTheRows};
+ghost use Rattle.trace_pair.specs.LossLaws.{LossyWhereLost};
 
 use trace_report::laws::items_are_the_meaning;
 
@@ -68,6 +69,11 @@ pub fn unfolded_rows_are_those_of_hunks()
 /// What is missing of a log stands with one of its items, once.
 pub fn each_loss_stands_once()
     ensures { EachLossStandsOnce }
+{}
+
+/// A log is said to be not clean at a change exactly where its rows there tell that something is missing.
+pub fn lossy_where_lost()
+    ensures { LossyWhereLost }
 {}
 
 /// Each byte that differs has a mark, and no other.
