@@ -262,14 +262,17 @@ def cut(columns):
 
 def counts_of(one, other, only=None):
     """Of each longest run of lines that are folded, and of what stands behind all lines, how many bytes there are, and how many of them
-    differ: columns, where both messages are told, and else the bytes of one of them. Nothing is said of none behind all lines."""
+    differ: columns, where both messages are told, and else the bytes of one of them; then also how many the other one has alone, with its
+    letter, if there are some. Nothing is said of none behind all lines."""
     columns = columns_of(one, other)
     runs = [[]]
     for _, line, _, is_shown in cut(columns):
         runs = [*runs, []] if is_shown else [*runs[:-1], runs[-1] + line]
-    counted = [[pair for pair in run if only is None or pair[only] is not None] for run in [*filter(None, runs), columns[MOST_COLUMNS:]]]
-    counts = [(len(run), sum(left != right for left, right in run)) for run in counted]
-    return counts if counts[-1][0] else counts[:-1]
+    runs = [*filter(None, runs), columns[MOST_COLUMNS:]]
+    counted = [[pair for pair in run if only is None or pair[only] is not None] for run in runs]
+    alone = [(len(run) - len(own), "BA"[only]) if len(own) < len(run) else None for run, own in zip(runs, counted)]
+    counts = [(len(own), sum(left != right for left, right in own), others) for own, others in zip(counted, alone)]
+    return counts if runs[-1] else counts[:-1]
 
 
 # --- What is missing ----------------------------------------------------------------------------------------------------

@@ -68,8 +68,9 @@ RECORDING = re.compile(r'<tr><th scope="row"><span class="who">[AB]</span> [^<\n
 ALONE = re.compile(r'<section id="items" class="[^"\n]*">\n<h2>Items</h2>\n(?:<p class="filter">[^\n]*\n)?((?:<p class="lost">.*?</p>)*)<')
 LINES = re.compile(r'<div class="hx">(.*?)</div>')
 LINE = re.compile(r'<p><i>(\d*)(?:, (\d+))?</i> (?:<span class="who(?: eq)?">([AB=])</span> )?<code>(.*?)</code>(?: <samp>([^<]*)</samp>)?</p>')
-MORE = re.compile(r"<details><summary>(?:no byte more|(\d+) bytes? more, (the same|(\d+) of them differs?))</summary>(.*?)</details>")
-HIDDEN = re.compile(r'<p class="rest"><i>(\d+) bytes? more, not shown; (the same|(\d+) of them differs?)</i></p>')
+ALONE_THERE = r"(?:; (?:(1) byte|(\d+) bytes) only in ([AB]))?"
+MORE = re.compile(rf"<details><summary>(?:no byte more|(\d+) bytes? more, (?:the same|(\d+) of them differs?)){ALONE_THERE}</summary>(.*?)</details>")
+HIDDEN = re.compile(rf'<p class="rest"><i>(?:no byte more|(\d+) bytes? more, not shown; (?:the same|(\d+) of them differs?)){ALONE_THERE}</i></p>')
 
 
 def cells_of(text):
@@ -90,22 +91,28 @@ def cells_of(text):
 
 
 def lines_of(text, is_folded=False):
-    """The lines of bytes of a text, which holds nothing else, and of each fold of them how many bytes it tells, and how many differ."""
+    """The lines of bytes of a text, which holds nothing else, and of each fold of them how many bytes it tells, how many differ, and how many
+    another log has alone, with its letter, if it tells some."""
     lines, told, rest = [], [], text
     while rest:
         more, line, hidden = MORE.match(rest), LINE.match(rest), HIDDEN.match(rest)
         if line:
             lines.append(Line(line[3], tuple(int(part) for part in line.group(1, 2) if part), cells_of(line[4]), line[5], is_folded))
         elif more:
-            inner, _ = lines_of(more[4], True)
+            inner, _ = lines_of(more[6], True)
             lines += inner
-            told.append((int(more[1] or 0), int(more[3] or 0)))
+            told.append(counts_in(more))
         elif hidden:
-            told.append((int(hidden[1]), int(hidden[3] or 0)))
+            told.append(counts_in(hidden))
         else:
             raise ValueError(f"no line of bytes: {rest[:80]!r}")
         rest = rest[(more or line or hidden).end() :]
     return lines, told
+
+
+def counts_in(match):
+    count, differing, one, several, log = match.groups()[:5]
+    return int(count or 0), int(differing or 0), (int(one or several), log) if log else None
 
 
 def number(text):

@@ -109,6 +109,7 @@ PLANTED = [
     ("a loss at a difference", "request_changed", r'(<p><span class="where">.*)(</span></p>\n<div class="two">)', '\\1 <em class="loss">A is not clean here</em>\\2'),
     ("a loss of a fold", "request_changed", r"</i></summary>", '</i> <em class="loss">1 dropped, ended or unfinished in B</em></summary>'),
     ("a mark of a byte that is the same", "request_changed", r'(?s)(<section id="items".*?<div class="hx">.*?<code>)22', "\\1<mark>22</mark>"),
+    ("folded bytes that one log lacks", "bytes_put_in", r'(?s)(<section id="difference".*?bytes more, the same)', "\\1; 3 bytes only in B"),
     ("a folded byte that differs", "bytes_put_in", r'(?s)(<section id="items".*?bytes more, )the same', "\\g<1>1 of them differs"),
 ]
 
@@ -443,6 +444,10 @@ def known_texts(cases):
             "message: 60 bytes only in B, from byte 41 on: <b>28 29 2A 2B 2C 2D 2E 2F</b> and 52 more; 40 bytes in A, 100 in B",
             "<code>20 21 22 23 24 25 26 27 <mark>-- -- -- -- -- -- -- --</mark></code>",
             "<code><mark>no byte</mark></code>",
+        ]),
+        ("an end of many lines", strays(long[:40]), strays(bytes(range(250))), [
+            "<summary>no byte more; 90 bytes only in B</summary>",
+            "<summary>90 bytes more, 90 of them differ</summary>",
         ]),
         ("an item that is the same", log_of(REQUEST, ANSWER), log_of("123#00", REQUEST, PENDING, ANSWER), [
             "</span> The two sessions are the same</h2>\n<p>One item is equal in both, byte for byte.</p>\n",

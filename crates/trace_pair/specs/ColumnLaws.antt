@@ -1,6 +1,6 @@
 -- What holds of two messages byte under byte on a page, whatever they are: what a line has of each, and what is told of lines that are
 -- folded or not shown.
-use Rattle.std.specs.Prelude.{◌≡◌, ◌==◌, ℕ, Bool, true, false, List, [], ◌∷◌, ◌++◌, codes, length}
+use Rattle.std.specs.Prelude.{◌≡◌, ◌==◌, ℕ, Bool, true, false, not, List, [], ◌∷◌, ◌++◌, codes, length}
 use Rattle.std.specs.List.{filter}
 use Rattle.byte_columns.specs.declared.column.Column.{Column}
 use Rattle.byte_columns.specs.Columns.{differing}
@@ -24,23 +24,33 @@ abbrev pub own_columns : ShownLogs → List Column → List Column
 own_columns Both columns = columns
 own_columns (Only log) columns = filter (has_byte_of log) columns
 
--- how many columns a fold has, and how many of them differ, in words
-abbrev pub fold_told : List Column → List ℕ
-fold_told columns = fold_words (length columns) (differing columns)
+-- the log has no byte in a column
+abbrev pub lacks_byte_of : PairLog → Column → Bool
+lacks_byte_of log here = not (has_byte_of log here)
+
+-- the columns that don't count: of both logs none, of one alone each in which it has no byte
+abbrev pub other_columns : ShownLogs → List Column → List Column
+other_columns Both columns = []
+other_columns (Only log) columns = filter (lacks_byte_of log) columns
+
+-- how many columns of a fold count, how many of these differ, and how many don't count, in words
+abbrev pub fold_told : ShownLogs → List Column → List ℕ
+fold_told sides columns = fold_words sides (length (own_columns sides columns)) (differing (own_columns sides columns)) (length (other_columns sides columns))
 
 -- the same of columns that are not shown
-abbrev pub hidden_told : List Column → List ℕ
-hidden_told columns = hidden_words (length columns) (differing columns)
+abbrev pub hidden_told : ShownLogs → List Column → List ℕ
+hidden_told sides columns = hidden_words sides (length (own_columns sides columns)) (differing (own_columns sides columns)) (length (other_columns sides columns))
 
 -- Of lines that are folded, and of what is not shown, each column counts where they are of both logs; where they are of one
--- alone, as many as it has bytes there. How many these are, and how many of them differ, is told: a fold begins with it.
+-- alone, as many as it has bytes there. How many these are, how many of them differ, and how many are bytes of the other log
+-- alone, is told: a fold begins with it.
 abbrev pub EachByteIsCounted : Type 0
 EachByteIsCounted = (columns : List Column)
     → ((sides : ShownLogs) → counted sides columns ≡ own_columns sides columns)
     × ((log : PairLog) → length (own_columns (Only log) columns) ≡ length (bytes_in log columns))
     × ((sides : ShownLogs) (lettered : Bool) (first count : ℕ) → (behind : List ℕ) × (stretch_text sides lettered columns (folded_lines first count)
-    ≡ (codes "<details><summary>" ++ fold_told (own_columns sides (columns_from columns first count)) ++ codes "</summary>") ++ behind))
-    × ((sides : ShownLogs) → hidden_text sides columns ≡ hidden_told (own_columns sides columns))
+    ≡ (codes "<details><summary>" ++ fold_told sides (columns_from columns first count) ++ codes "</summary>") ++ behind))
+    × ((sides : ShownLogs) → hidden_text sides columns ≡ hidden_told sides columns)
 
 -- what is to be seen of a log in a line, where it has these bytes there: its columns, or that it has none
 abbrev pub own_cells : List ℕ → PairLog → List Column → List ℕ

@@ -35,7 +35,7 @@ pub(crate) fn say_columns<S: TextSink>(
 {
     say(out, "<div class=\"hx\">");
     say_stretches(sides, lettered, columns, out);
-    say(out, Hidden(hidden_counts(sides, columns)));
+    say(out, Hidden(sides, hidden_counts(sides, columns)));
     say(out, "</div>");
 }
 
@@ -91,7 +91,8 @@ fn say_fold<S: TextSink>(sides: ShownLogs, lettered: bool, fold: LineRange<'_>, 
         count,
     } = fold;
     let counts = counts_from(sides, columns, first, count);
-    say(out, ("<details><summary>", FoldWords(counts), "</summary>"));
+    let told = FoldWords(sides, counts);
+    say(out, ("<details><summary>", told, "</summary>"));
     say_lines(sides, lettered, fold, out);
     say(out, "</details>");
 }

@@ -1,5 +1,6 @@
 //! The words beside two messages byte under byte.
 use crate::column_counts::ColumnCounts;
+use crate::column_lines::ShownLogs;
 use crate::log::PairLog;
 use text_parts::{Either, Part, say};
 use trace_io::TextSink;
@@ -116,41 +117,105 @@ impl Part for ByteOrGap {
     }
 }
 
-/// How many bytes are folded, and how many of them differ.
+/// How many bytes are folded, how many of them differ, and how many only the other log has, where one is shown.
 #[derive(Clone, Copy)]
-pub(crate) struct FoldWords(pub ColumnCounts);
+pub(crate) struct FoldWords(pub ShownLogs, pub ColumnCounts);
 
 impl Part for FoldWords {
     ghost use Rattle.trace_pair.specs.ColumnLines.{fold_words};
 
-    ghost text = { λ words. fold_words words.0.all words.0.differing };
+    ghost text = { λ words. fold_words words.0 words.1.all words.1.differing words.1.others };
 
     fn say<S: TextSink>(self, out: &mut S) {
-        let ColumnCounts { all, differing } = self.0;
+        let ColumnCounts {
+            all,
+            differing,
+            others,
+        } = self.1;
         let some = (BytesMore(all), ", ", Differ(differing));
-        say(out, Either(all == 0, "no byte more", some));
+        say(
+            out,
+            (
+                Either(all == 0, "no byte more", some),
+                OtherWords(self.0, others),
+            ),
+        );
     }
 }
 
-/// How many bytes are not shown, if some are not, and how many of them differ.
+/// How many bytes are not shown, if some are not, how many of them differ, and how many only the other log has, where one is
+/// shown.
 #[derive(Clone, Copy)]
-pub(crate) struct Hidden(pub ColumnCounts);
+pub(crate) struct Hidden(pub ShownLogs, pub ColumnCounts);
 
 impl Part for Hidden {
     ghost use Rattle.trace_pair.specs.ColumnLines.{hidden_words};
 
-    ghost text = { λ words. hidden_words words.0.all words.0.differing };
+    ghost text = { λ words. hidden_words words.0 words.1.all words.1.differing words.1.others };
 
     fn say<S: TextSink>(self, out: &mut S) {
-        let ColumnCounts { all, differing } = self.0;
-        let some = (
+        let ColumnCounts {
+            all,
+            differing,
+            others,
+        } = self.1;
+        let some = (BytesMore(all), ", not shown; ", Differ(differing));
+        let told = (
             "<p class=\"rest\"><i>",
-            BytesMore(all),
-            ", not shown; ",
-            Differ(differing),
+            Either(all == 0, "no byte more", some),
+            OtherWords(self.0, others),
             "</i></p>",
         );
-        say(out, Either(all == 0, (), some));
+        say(out, Either(all == 0 && others == 0, (), told));
+    }
+}
+
+/// So many bytes that only the other log has, where one is shown.
+#[derive(Clone, Copy)]
+struct OtherWords(ShownLogs, usize);
+
+impl Part for OtherWords {
+    ghost use Rattle.trace_pair.specs.ColumnLines.{other_words};
+
+    ghost text = { λ words. other_words words.0 words.1 };
+
+    fn say<S: TextSink>(self, out: &mut S) {
+        match self.0 {
+            ShownLogs::Both => {}
+            ShownLogs::Only(PairLog::A) => say(out, OnlyIn(PairLog::B, self.1)),
+            ShownLogs::Only(PairLog::B) => say(out, OnlyIn(PairLog::A, self.1)),
+        }
+    }
+}
+
+/// So many bytes that only this log has, if it has some.
+#[derive(Clone, Copy)]
+struct OnlyIn(PairLog, usize);
+
+impl Part for OnlyIn {
+    ghost use Rattle.trace_pair.specs.ColumnLines.{only_words};
+
+    ghost text = { λ words. only_words words.0 words.1 };
+
+    fn say<S: TextSink>(self, out: &mut S) {
+        let OnlyIn(log, count) = self;
+        let some = ("; ", BytesWord(count), " only in ", log);
+        say(out, Either(count == 0, (), some));
+    }
+}
+
+/// So many bytes.
+#[derive(Clone, Copy)]
+struct BytesWord(usize);
+
+impl Part for BytesWord {
+    ghost use Rattle.trace_pair.specs.ColumnLines.{bytes_word};
+
+    ghost text = { λ bytes. bytes_word bytes.0 };
+
+    fn say<S: TextSink>(self, out: &mut S) {
+        let several = (Number(self.0 as u64), " bytes");
+        say(out, Either(self.0 == 1, "1 byte", several));
     }
 }
 
