@@ -82,12 +82,22 @@ page_of title left right =
     body title (is_shortest (values_in left) (values_in right)) (bound_for (length (values_in left) + length (values_in right)))
     (rows_of (values_in left) (values_in right)) left right
 
+-- that the lines before are shown elsewhere, where some stand before what refuses the log; no other fault has a page
+abbrev pub before_words : Fault → List ℕ
+before_words (BadLine line column) = if line == 1 then [] else codes " A report of this log alone shows the lines before that."
+before_words LogLimit = codes " A report of this log alone shows the lines before that."
+before_words (Oversize line announced) = []
+before_words OutputLimit = []
+before_words Read = []
+before_words Write = []
+before_words Memory = []
+
 -- the page where this log is refused
 abbrev pub refused_page : TitleValue → PairLog → Fault → Option RefusalCause → List ℕ
 refused_page title log why cause =
     front title 0 ++ verdict_head (codes "bad") (codes "&#10005;") ++ letter log
     ++ codes " is refused, so nothing is compared</h2>\n<p><em>" ++ refusal_words why
-    ++ codes ".</em> A report of this log alone shows the lines before that.</p>\n" ++ cause_line cause
+    ++ codes ".</em>" ++ before_words why ++ codes "</p>\n" ++ cause_line cause
     ++ codes "</section>\n<main>\n<section id=\"items\">\n<h2>Items</h2>\n<p>Nothing is compared.</p>\n</section>\n</main>\n" ++ help_text
 
 -- a line or the limit refuses the log; no other fault has a page
