@@ -24,8 +24,8 @@ Row = namedtuple("Row", "kind left right")
 # A change: what kind its rows are of, the first of them, and how many they are.
 Change = namedtuple("Change", "kind first count")
 
-# A chart: what each of its rows is told as, how many rows it leaves out, and whether it says that the log ends.
-Chart = namedtuple("Chart", "rows more is_end")
+# A chart: what each of its rows is told as, how many rows it leaves out, how many items of the difference, and whether it says that the log ends.
+Chart = namedtuple("Chart", "rows more items is_end")
 
 # A row of a chart: how it looks, its item, its lines, its time, whether the item that it is of is not the same in both logs, and the lines
 # of its bytes, where some of them have marks, with how many are told of each fold.
@@ -111,8 +111,10 @@ def changes_of(rows):
 def charts_of(frames, items):
     """The charts of two logs around their first difference."""
     rows = rows_of(*items)
-    same = rows[: changes_of(rows)[0].first]
-    return [chart_of(trace, len(same), beside(rows, items, side)) for side, trace in enumerate(frames)]
+    first = changes_of(rows)[0]
+    lacking = {ADDED: 0, REMOVED: 1}.get(first.kind)
+    counts = [0 if side == lacking else first.count for side in (0, 1)]
+    return [chart_of(trace, first.first, counts[side], beside(rows, items, side)) for side, trace in enumerate(frames)]
 
 
 def beside(rows, items, side):
@@ -123,10 +125,10 @@ def beside(rows, items, side):
     return pairs, side
 
 
-def chart_of(frames, item, others):
-    """The chart of a log around the item of this place, counted from 0. It goes from the row with which the item before begins, or from the
-    request in whose exchange that row stands, to before the first request at or behind the row with which the second item behind begins. With
-    the first item it has what is lost in front of it."""
+def chart_of(frames, item, count, others):
+    """The chart of a log around the item of this place, counted from 0, of so many that the difference has from that on. It goes from the row
+    with which the item before begins, or from the request in whose exchange that row stands, to before the first request at or behind the
+    row with which the second item behind begins. With the first item it has what is lost in front of it."""
     rows = all_rows(frames)
     begun = [place for place, row in enumerate(rows) if isinstance(row, report_facts.Message) and row.asked is None]
     begun += 3 * [len(rows)]
@@ -137,7 +139,8 @@ def chart_of(frames, item, others):
     last = min(end, begin + MOST_ROWS)
     numbers = numbers_of(rows)
     told = [chart_row(frames[0].micros, rows[place], numbers[place], others) for place in range(begin, last)]
-    return Chart(told, end - last, last == len(rows))
+    left = sum(place >= end for place in begun[item : item + count])
+    return Chart(told, end - last, left, last == len(rows))
 
 
 def all_rows(frames):

@@ -59,8 +59,7 @@ def chart_faults(read, came):
     wrong = []
     for log, told, wanted in zip("AB", read.charts, came.charts):
         wrong += [] if [plain(row) for row in told.rows] == [plain(row) for row in wanted.rows] else [f"the chart of {log} has other rows"]
-        if (told.more, told.is_end) != (wanted.more, wanted.is_end):
-            wrong.append(f"the chart of {log} ends with {told.more} rows more, {told.is_end}, not {wanted.more}, {wanted.is_end}")
+        wrong += [] if told[1:] == wanted[1:] else [f"the chart of {log} ends with {told[1:]}, not {wanted[1:]}"]
     return wrong
 
 

@@ -28,10 +28,10 @@ Fold = namedtuple("Fold", "count left right losses")
 # A line of the list: the number of the difference, where it stands, what kind it is of, what it says, and which log is not clean there.
 Listed = namedtuple("Listed", "number place tag words note")
 
-# A chart: its rows, how many more it says that there are, and whether it says that the log ends; and of a row how it looks, its item, its
-# lines, its time, whether its item is told as another one than in the other log, and the lines of bytes that stand in it with marks, with how
-# many of them are told of each fold.
-Chart = namedtuple("Chart", "rows more is_end")
+# A chart: its rows, how many more it says that there are, how many items more of the difference, and whether it says that the log ends; and of
+# a row how it looks, its item, its lines, its time, whether its item is told as another one than in the other log, and the lines of bytes that
+# stand in it with marks, with how many of them are told of each fold.
+Chart = namedtuple("Chart", "rows more items is_end")
 ChartRow = namedtuple("ChartRow", "look item lines time is_other bytes")
 
 KINDS = {"same": "same", "d ch": "changed", "d oa": "removed", "d ob": "added"}
@@ -51,10 +51,12 @@ CHARTS = re.compile(r'<section id="difference">\n.*?\n<div class="two">\n(.*?)</
 CHART = re.compile(r'<section>\n<h3>[^\n]*</h3>\n<table class="ch w[2-7] l[2-8] s[2-7]">\n<thead>[^\n]*</thead>\n((?:<[^\n]*\n)*?)</table>\n</section>\n')
 CHART_ROW = re.compile(
     r'<tr class="(\w+)">(?:<th scope="row">(\d+)|<td>(\d*))<td>(?:(\d+)(?:&#8211;(\d+))?)?<td>((?:-?\d+\.\d{6})?)<td><div class="[tu]"><div>(.*)'
-    r'</div><svg aria-hidden="true"(?: width="32" height="12")?><use href="#\w+"/></svg></div>'
+    r'</div><svg aria-hidden="true" width="32" height="12"><use href="#\w+"/></svg></div>'
 )
-WORDS_ROW = re.compile(
-    r'<tr class="p(?: end)?"><td><td><td><td><div class="t"><div>(?:<i>(\d+) rows? more, not shown here</i>|<b>end</b> <i>of the log</i>)</div></div>'
+WORDS_ROW = re.compile(r'<tr class="p(?: end)?"><td><td><td><td><div class="t"><div>(.*)</div></div>')
+CHART_END = re.compile(
+    r"(?:<i>(\d+) (?:(?<=>1 )row|(?<!>1 )rows) more, not shown here</i>)?"
+    r"(?:<i>(\d+) (?:(?<=>1 )item|(?<!>1 )items) more of this difference, not shown here</i>)?(<b>end</b> <i>of the log</i>)?"
 )
 # The groups of rows of a chart: of items that are the same in both logs, and of others.
 BODIES = {"<tbody>": False, '<tbody class="df">': True}
@@ -178,12 +180,14 @@ def charts_of(page):
 
 
 def chart_of(text):
-    """A chart, by its lines: rows, and then perhaps one of words alone."""
-    lines, words, rows, is_other = text.splitlines(), None, [], None
-    if lines and (words := WORDS_ROW.fullmatch(lines[-1])):
+    """A chart, by its lines: rows, and then perhaps some of words alone."""
+    lines, words, rows, is_other = text.splitlines(), "", [], None
+    while lines and (told := WORDS_ROW.fullmatch(lines[-1])):
         if lines[-2:-1] != ["<tbody>"]:
             raise ValueError("the words at the end of a chart have no group of their own")
-        lines = lines[:-2]
+        lines, words = lines[:-2], told[1] + words
+    if not (end := CHART_END.fullmatch(words)):
+        raise ValueError(f"a chart ends in other words: {words!r}")
     for line in lines:
         if line in BODIES:
             is_other = BODIES[line]
@@ -193,7 +197,7 @@ def chart_of(text):
             bytes_told = [lines_of(block) for block in LINES.findall(match[7])]
             numbers = tuple(line for line in match.group(4, 5) if line)
             rows.append(ChartRow(match[1], match[2] or match[3], numbers, match[6], is_other, bytes_told))
-    return Chart(rows, int(words[1] or 0) if words else 0, bool(words and not words[1]))
+    return Chart(rows, int(end[1] or 0), int(end[2] or 0), bool(end[3]))
 
 
 def read(page):

@@ -106,6 +106,7 @@ PLANTED = [
     ("a bound that was not passed", "request_changed", r'<table class="recs">', '<p>Perhaps not the shortest: more than 2000 items would be removed or added.</p>\n\\g<0>'),
     ("a loss of an item", "request_changed", r'(?<=<tr class="d ch)(.*)\n', '\\1<p class="lost"><span class="who">A</span> line 1: <b>dropped</b></p>\n'),
     ("a loss above the items", "none_in_a", r"<h2>Items</h2>\n", '\\g<0><p class="lost"><span class="who">A</span> line 1: <b>dropped</b></p>'),
+    ("an item of a run that is not counted", "none_in_a", "28 items more of", "27 items more of"),
     ("a loss at a difference", "request_changed", r'(<p><span class="where">.*)(</span></p>\n<div class="two">)', '\\1 <em class="loss">A is not clean here</em>\\2'),
     ("a loss of a fold", "request_changed", r"</i></summary>", '</i> <em class="loss">1 dropped, ended or unfinished in B</em></summary>'),
     ("a mark of a byte that is the same", "request_changed", r'(?s)(<section id="items".*?<div class="hx">.*?<code>)22', "\\1<mark>22</mark>"),
@@ -429,7 +430,7 @@ def known_texts(cases):
     long, other = bytes(range(100)), bytes(range(99)) + b"\xFF"
     for name, left, right, texts in [
         ("other answers", log_of(REQUEST, ANSWER), log_of(REQUEST, OTHER_ANSWER), [
-            '<h2><span aria-hidden="true">&#8800;</span> 1 difference: 1 item changed</h2>\n<p>No item is the same. <a href="#difference">See it.</a></p>\n',
+            '<h2><span aria-hidden="true">&#8800;</span> 1 difference: 1 item changed</h2>\n<p>No item is the same. <a href="#difference">See the difference.</a></p>\n',
             '<p><i></i> <span class="who">A</span> <code>62 F1 90 <mark>41</mark></code>',
             '<p><i></i> <span class="who">B</span> <code>62 F1 90 <mark>42</mark></code>',
             "<title>left.log and right.log - udsnorm report</title>",
@@ -508,6 +509,7 @@ def refused_logs(cases):
         texts = [f"{letter} is refused, so nothing is compared</h2>\n<p><em>{reason}.</em>", "<p>Nothing is compared.</p>"]
         wrong = differences("how it ends", (found.status, found.error), (REFUSAL, told))
         wrong += [f"{text!r} is not there" for text in texts if text not in found.output.decode()]
+        wrong += differences("whether lines before are shown", b"shows the lines before that" in found.output, not reason.startswith("line 1 "))
         cases.report(f"refused: {name}", wrong + (["it has a row"] if b"<tr" in found.output else []))
 
 

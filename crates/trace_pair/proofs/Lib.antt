@@ -29,6 +29,7 @@ mod LossesOnce
 mod LossyRows
 pub mod LostRows
 pub mod ChartPlaces
+pub mod LeftItems
 pub mod Asking
 mod Beside
 mod OwnItems

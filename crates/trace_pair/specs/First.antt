@@ -5,18 +5,18 @@ use Rattle.std.specs.Fmt.{decimal}
 use Rattle.byte_columns.specs.declared.column.Column.{Column}
 use Rattle.byte_columns.specs.Columns.{beside}
 use Rattle.direction.specs.declared.Dir.{Dir}
-use Rattle.direction.specs.declared.Dir.TheVariants as dir
 use Rattle.shown_rows.specs.declared.changes.Change.{Change}
 use Rattle.shown_rows.specs.Changes.{changes}
 use Rattle.uds_difference.specs.declared.row.Row.{Row}
 use Rattle.trace_report.specs.Blocks.{begins_exchange}
 use Rattle.trace_report.specs.Items.{begins, rows_before}
-use Rattle.trace_report.specs.Rows.{RowValue, message, no_answer, dropped, ended, unfinished, cell_front}
+use Rattle.trace_report.specs.Rows.{RowValue, message, no_answer, dropped, ended, unfinished, cell_front, cell_end}
 use Rattle.trace_report.specs.LostRows.{dropped_row, ended_row, no_answer_row, unfinished_row}
 use Rattle.trace_report.specs.MessageRows.{message_front, note_text, role_words}
 use Rattle.trace_report.specs.Session.{SessionValue}
 use Rattle.trace_report.specs.Data.{data_text}
 use Rattle.trace_report.specs.Letters.{has_word}
+use Rattle.trace_report.specs.declared.row.Arrow.TheVariants as arrow
 use Rattle.trace_report.specs.declared.row.MessagePlace.{MessagePlace}
 use Rattle.trace_report.specs.declared.roles.MessageRole.{MessageRole}
 use Rattle.trace_pair.specs.declared.column_lines.ShownLogs.TheVariants.{Only}
@@ -25,7 +25,7 @@ use Rattle.trace_pair.specs.declared.log.PairLog.TheVariants.{A, B}
 use Rattle.trace_pair.specs.ChangeWords.{change_line}
 use Rattle.trace_pair.specs.ColumnLines.{lines_text}
 use Rattle.trace_pair.specs.Counterparts.{Charted, counterpart, is_other, marks_at}
-use Rattle.trace_pair.specs.Logs.{lettered_name}
+use Rattle.trace_pair.specs.Logs.{lettered_name, own_count}
 use Rattle.trace_pair.specs.Losses.{first_row}
 use Rattle.trace_pair.specs.Sessions.{values_in}
 use Rattle.trace_pair.specs.Verdict.{is_lossy}
@@ -75,6 +75,15 @@ chart_rows item rows = take (min most_rows (chart_to item rows - chart_from item
 abbrev pub rows_more : ℕ → List RowValue → ℕ
 rows_more item rows = chart_to item rows - chart_from item rows - most_rows
 
+-- how many of so many items are left, from the first on that begins at or behind a place of the rows
+abbrev pub items_left : ℕ → ℕ → ℕ → List RowValue → ℕ
+items_left place item zero rows = 0
+items_left place item (suc more) rows = if nat_le place (rows_before item rows) then suc more else items_left place (item + 1) more rows
+
+-- how many of so many items, from the one of a place on, begin behind the rows that stand around that
+abbrev pub items_more : ℕ → ℕ → List RowValue → ℕ
+items_more item count rows = items_left (chart_to item rows) item count rows
+
 -- Their text.
 
 -- two messages as their columns, by which log the first one is of
@@ -87,16 +96,11 @@ abbrev pub chart_data : PairLog → List ℕ → Option (List ℕ) → List ℕ
 chart_data log bytes None = data_text bytes
 chart_data log bytes (Some other) = lines_text (Only log) (has_word bytes || has_word other) (beside_of log bytes other)
 
--- a cell behind the words of a message: its arrow, which is no smaller than this, and the end of the row
-abbrev pub message_end : Dir → List ℕ
-message_end dir.Tester = codes "</div><svg aria-hidden=\"true\" width=\"32\" height=\"12\"><use href=\"#t\"/></svg></div>\n"
-message_end dir.Unit = codes "</div><svg aria-hidden=\"true\" width=\"32\" height=\"12\"><use href=\"#u\"/></svg></div>\n"
-
 -- the row of a message in a chart: when it was, what it is, its bytes, and its arrow
 abbrev pub chart_message : Charted → ℕ → MessageRole → Dir → MessagePlace → List ℕ → List ℕ
 chart_message chart origin is d place bytes =
     message_front false origin is place ++ cell_front d ++ role_words is d bytes ++ chart_data chart.log bytes (counterpart (marks_at chart place.item) is)
-    ++ note_text is place (length bytes) ++ message_end d
+    ++ note_text is place (length bytes) ++ cell_end d arrow.Headed
 
 -- a row, to which no link leads
 abbrev pub chart_row : Charted → ℕ → RowValue → List ℕ
@@ -151,24 +155,32 @@ chart_end more ends =
     else if ends then words_row (codes "p end") (codes "<b>end</b> <i>of the log</i>")
     else []
 
+-- how many items more the difference has, if it has some
+abbrev pub items_end : ℕ → List ℕ
+items_end count =
+    if count == 0 then []
+    else words_row (codes "p") (codes "<i>" ++ decimal count ++ (if count == 1 then codes " item more of this difference, not shown here</i>" else codes " items more of this difference, not shown here</i>"))
+
 -- the head of a chart, by its classes: the names of its columns
 abbrev pub chart_head : List ℕ → List ℕ
 chart_head classes =
     codes "<table class=\"" ++ classes
     ++ codes "\">\n<thead><tr><th scope=\"col\">Item<th scope=\"col\">Lines<th scope=\"col\">Time<th scope=\"col\"><span class=\"T\">Tester</span> <span class=\"U\">Unit</span></thead>\n"
 
--- The chart of a log around the item of a place. What is lost before its first item is of the item in front of that place,
--- or of the first one.
-abbrev pub chart_text : Charted → ℕ → SessionValue → List ℕ
-chart_text chart item session =
+-- The chart of a log around the item of a place, of so many that the difference has from that on. What is lost before its
+-- first item is of the item in front of that place, or of the first one.
+abbrev pub chart_text : Charted → ℕ → ℕ → SessionValue → List ℕ
+chart_text chart item count session =
     chart_head (session_classes session) ++ rows_text chart session.first None (max item 1) (chart_rows item session.rows)
-    ++ chart_end (rows_more item session.rows) (chart_to item session.rows == length session.rows) ++ codes "</table>\n"
+    ++ chart_end (rows_more item session.rows) (chart_to item session.rows == length session.rows) ++ items_end (items_more item count session.rows)
+    ++ codes "</table>\n"
 
 -- Both charts.
 
 -- the side of a log in the section of the first difference: its letter, its name, and its chart
-abbrev pub side : Charted → List ℕ → ℕ → SessionValue → List ℕ
-side chart name item session = codes "<section>\n<h3>" ++ lettered_name chart.log name ++ codes "</h3>\n" ++ chart_text chart item session ++ codes "</section>\n"
+abbrev pub side : Charted → List ℕ → ℕ → ℕ → SessionValue → List ℕ
+side chart name item count session =
+    codes "<section>\n<h3>" ++ lettered_name chart.log name ++ codes "</h3>\n" ++ chart_text chart item count session ++ codes "</section>\n"
 
 -- what the chart of a log is of
 abbrev pub charted : PairLog → SessionValue → SessionValue → List Row → Charted
@@ -183,7 +195,7 @@ abbrev pub first_of : ℕ → List ℕ → List ℕ → SessionValue → Session
 first_of count left_name right_name left right rows here =
     codes "<section id=\"difference\">\n<h2>" ++ (if count == 1 then codes "The difference, as recorded" else codes "The first difference, as recorded") ++ codes "</h2>\n<p>"
     ++ change_line (count == 1) first_number (is_lossy A left here) (is_lossy B right here) (values_in left) (values_in right) here ++ codes "</p>\n<div class=\"two\">\n"
-    ++ side (charted A left right rows) left_name here.left left ++ side (charted B left right rows) right_name here.right right
+    ++ side (charted A left right rows) left_name here.left (own_count A here) left ++ side (charted B left right rows) right_name here.right (own_count B here) right
     ++ codes "</div>\n</section>\n"
 
 -- the section of the first of these changes, if there is one

@@ -41,7 +41,7 @@ same_words count = if count == 0 then codes "No item is the same." else if count
 abbrev pub different_heading : ℕ → ℕ → ℕ → ℕ → ℕ → List ℕ
 different_heading differences same left right changed =
     verdict_head (codes "warn") (codes "&#8800;") ++ differences_word differences ++ counts_words left right changed
-    ++ codes "</h2>\n<p>" ++ same_words same ++ codes " <a href=\"#difference\">" ++ (if differences == 1 then codes "See it." else codes "See the first.") ++ codes "</a></p>\n"
+    ++ codes "</h2>\n<p>" ++ same_words same ++ codes " <a href=\"#difference\">" ++ (if differences == 1 then codes "See the difference." else codes "See the first difference.") ++ codes "</a></p>\n"
 
 -- Loss.
 

@@ -1,12 +1,13 @@
 //! A chart of one log: the rows around an item, with a mark at each byte that differs.
-ghost use Rattle.std.specs.Prelude.{◌≡◌, ◌-◌, None, drop, false, max, option_map, slice_get, take};
+ghost use Rattle.std.specs.Prelude.{◌≡◌, ◌+◌, ◌-◌, ◌<◌, ◌^◌, None, drop, false, max, nat_le, option_map, slice_get, take};
 ghost use Rattle.shown_rows.specs.Rows.{changes_within};
 ghost use Rattle.trace_report.specs.Blocks.{begins_exchange as asks};
+ghost use Rattle.trace_report.specs.Items.{rows_before};
 ghost use Rattle.trace_report.specs.Rows.{missing_of, row_of};
 ghost use Rattle.trace_pair.specs.First as Spec;
 ghost use Rattle.trace_pair.specs.proving.Marks.{charted_of};
 
-use crate::chart_words::{BodyStart, ChartEnd, MessageEnd, PairChartHead};
+use crate::chart_words::{BodyStart, ChartEnd, ItemsEnd, PairChartHead};
 use crate::column_lines::{ShownLogs, have_word, say_columns};
 use crate::counterparts::{Charted, counterpart, is_other, marks_at};
 use crate::log::PairLog;
@@ -16,8 +17,8 @@ use byte_columns::Beside;
 use text_parts::say;
 use trace_io::TextSink;
 use trace_report::{
-    CellFront, Data, KeptRows, KeptSession, MessageFront, Missing, Note, RoleWords, SentMessage,
-    SessionRow, begins_item, is_request_role, say_missing_row,
+    Arrow, CellEnd, CellFront, Data, KeptRows, KeptSession, MessageFront, Missing, Note, RoleWords,
+    SentMessage, SessionRow, begins_item, is_request_role, say_missing_row,
 };
 
 /// A chart has so many rows at most.
@@ -34,15 +35,17 @@ struct Around {
     to: usize,
 }
 
-/// Says the chart of a log around the item of a place, counted from 0.
+/// Says the chart of a log around the item of a place, counted from 0, of so many that the difference has from that on.
 pub(crate) fn say_chart<S: TextSink>(
     chart: Charted<'_>,
     item: usize,
+    count: usize,
     session: &KeptSession,
     out: &mut S,
 )
-    requires { changes_within chart.same chart.rows.now ≡ false }
-    ensures { S.says out.old (Spec.chart_text (charted_of chart.entry) item session.now) out.new }
+    requires same { changes_within chart.same chart.rows.now ≡ false }
+    requires small { item + count < 2 ^ 63 }
+    ensures { S.says out.old (Spec.chart_text (charted_of chart.entry) item count session.now) out.new }
 {
     let rows = session.rows();
     let from = chart_from(rows, item);
@@ -60,6 +63,7 @@ pub(crate) fn say_chart<S: TextSink>(
         ends: to == rows.len(),
     };
     say(out, rest);
+    say(out, ItemsEnd(items_left(rows, to, item, count)));
     say(out, "</table>\n");
 }
 
@@ -91,6 +95,27 @@ fn chart_to(rows: &KeptRows, item: usize) -> usize
         }
     }
     rows.len()
+}
+
+/// How many of so many items are left, from the first on that begins at or behind a place of the rows.
+fn items_left(rows: &KeptRows, place: usize, item: usize, count: usize) -> usize
+    requires { item + count < 2 ^ 63 }
+    ensures { result ≡ Spec.items_left place item count rows.now }
+{
+    let end = item + count;
+    'items: for at in item..end {
+        if begins_behind(rows, at, place) {
+            return end - at;
+        }
+    }
+    0
+}
+
+/// Whether an item begins at or behind a place of the rows.
+fn begins_behind(rows: &KeptRows, item: usize, place: usize) -> bool
+    ensures { result ≡ nat_le place (rows_before item rows.now) }
+{
+    place <= rows.rows_before(item)
 }
 
 /// Whether an exchange begins with the row at a place, where there is one.
@@ -217,7 +242,7 @@ fn say_row<S: TextSink>(chart: Charted<'_>, origin: u64, row: SessionRow<'_>, ou
             let marked = marks_at(chart, place.item);
             say_data(chart.log, message, counterpart(marked, role), out);
             say(out, Note(role, place, message.len() as u64));
-            say(out, MessageEnd(dir));
+            say(out, CellEnd(dir, Arrow::Headed));
         }
         SessionRow::Missing(missing) => say_missing_row(false, origin, missing, out),
     }

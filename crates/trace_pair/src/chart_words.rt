@@ -1,5 +1,4 @@
 //! What stands around the rows of a chart: its head, its bodies, the ends of its rows, and its own.
-use direction::Dir;
 use text_parts::{Either, Part, When, say};
 use trace_io::TextSink;
 use trace_text::Number;
@@ -41,29 +40,6 @@ impl Part for BodyStart {
     }
 }
 
-/// A cell behind the words of a message: its arrow, which is no smaller than this, and the end of the row.
-#[derive(Clone, Copy)]
-pub(crate) struct MessageEnd(pub Dir);
-
-impl Part for MessageEnd {
-    ghost use Rattle.trace_pair.specs.First.{message_end};
-
-    ghost text = { λ end. message_end end.0 };
-
-    fn say<S: TextSink>(self, out: &mut S) {
-        match self.0 {
-            Dir::Tester => say(
-                out,
-                "</div><svg aria-hidden=\"true\" width=\"32\" height=\"12\"><use href=\"#t\"/></svg></div>\n",
-            ),
-            Dir::Unit => say(
-                out,
-                "</div><svg aria-hidden=\"true\" width=\"32\" height=\"12\"><use href=\"#u\"/></svg></div>\n",
-            ),
-        }
-    }
-}
-
 /// The end of a chart: how many rows more there are, or that the log ends.
 #[derive(Clone, Copy)]
 pub(crate) struct ChartEnd {
@@ -87,6 +63,26 @@ impl Part for ChartEnd {
         } else if self.ends {
             say(out, WordsRow("p end", "<b>end</b> <i>of the log</i>"));
         }
+    }
+}
+
+/// How many items more the difference has, if it has some.
+#[derive(Clone, Copy)]
+pub(crate) struct ItemsEnd(pub usize);
+
+impl Part for ItemsEnd {
+    ghost use Rattle.trace_pair.specs.First.{items_end};
+
+    ghost text = { λ end. items_end end.0 };
+
+    fn say<S: TextSink>(self, out: &mut S) {
+        let items = Either(
+            self.0 == 1,
+            " item more of this difference, not shown here</i>",
+            " items more of this difference, not shown here</i>",
+        );
+        let some = WordsRow("p", ("<i>", Number(self.0 as u64), items));
+        say(out, Either(self.0 == 0, (), some));
     }
 }
 

@@ -1,5 +1,5 @@
 //! The two logs of a page.
-ghost use Rattle.std.specs.Prelude.{◌≡◌};
+ghost use Rattle.std.specs.Prelude.{◌≡◌, ◌≤◌};
 ghost use Rattle.trace_pair.specs.Logs as Spec;
 
 use shown_rows::Change;
@@ -85,5 +85,17 @@ pub(crate) fn items_before(log: PairLog, change: Change) -> usize
     match log {
         PairLog::A => change.left,
         PairLog::B => change.right,
+    }
+}
+
+/// How many items of a log a change has.
+pub(crate) fn own_count(log: PairLog, change: Change) -> usize
+    ensures value { result ≡ Spec.own_count log change }
+    ensures few { result ≤ change.count }
+{
+    if has_item(log, change.kind) {
+        change.count
+    } else {
+        0
     }
 }

@@ -52,7 +52,7 @@ arrow_text arrow.Barred = codes "e"
 abbrev pub cell_front : Dir → List ℕ
 cell_front d = codes "<td><div class=\"" ++ side_text d ++ codes "\"><div>"
 
--- a cell of the chart behind its words: the arrow, and the end of the row
+-- a cell of the chart behind its words: the arrow, which is no smaller than this, and the end of the row
 abbrev pub cell_end : Dir → Arrow → List ℕ
 cell_end d end =
-    codes "</div><svg aria-hidden=\"true\"><use href=\"#" ++ side_text d ++ arrow_text end ++ codes "\"/></svg></div>\n"
+    codes "</div><svg aria-hidden=\"true\" width=\"32\" height=\"12\"><use href=\"#" ++ side_text d ++ arrow_text end ++ codes "\"/></svg></div>\n"

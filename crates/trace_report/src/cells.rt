@@ -18,7 +18,7 @@ impl Part for CellFront {
     }
 }
 
-/// The arrow, and the end of the row.
+/// The arrow, which is no smaller than this, and the end of the row.
 #[derive(Clone, Copy)]
 pub struct CellEnd(pub Dir, pub Arrow);
 
@@ -31,7 +31,7 @@ impl Part for CellEnd {
         say(
             out,
             (
-                "</div><svg aria-hidden=\"true\"><use href=\"#",
+                "</div><svg aria-hidden=\"true\" width=\"32\" height=\"12\"><use href=\"#",
                 Side(self.0),
                 ArrowEnd(self.1),
                 "\"/></svg></div>\n",
