@@ -222,4 +222,6 @@ def text_faults(page):
     """What must not stand in any page: what is no ASCII, what is fetched, or an empty group of rows."""
     wrong = [] if page.isascii() else ["a byte that is no ASCII"]
     wrong += ["something is fetched"] if re.search(r'\b(?:src|href)="(?!#)', page) else []
+    wrong += [f"a long name is not parted: {name}" for name in re.findall(r"<(?:b|em|mark)>[^<]*[a-z][A-Z][^<]*", page)[:1]]
+    wrong += ["something else than a name is parted"] if re.search(r"(?<![a-z])<wbr>|<wbr>(?![A-Z])", page) else []
     return wrong + (["an empty group of rows"] if re.search(r"<tbody[^>]*>\n(?:<tbody|</table>)|</thead>\n</table>", page) else [])

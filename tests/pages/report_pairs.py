@@ -174,7 +174,7 @@ BYTES_BESIDE = 42
 MEASURED_ITEMS = 100_000
 
 # Elements whose end tags HTML lets out, and those that have none.
-OPEN_ENDED = {"tr", "td", "th", "tbody", "p", "li", "meta", "input", "br"}
+OPEN_ENDED = {"tr", "td", "th", "tbody", "p", "li", "meta", "input", "br", "wbr"}
 
 
 # --- Pages beside the oracle --------------------------------------------------------------------------------------------

@@ -1,4 +1,5 @@
 pub mod Pieces
+pub mod NameLetters
 pub mod Cells
 pub mod LineCells
 mod SeenMarks

@@ -9,7 +9,7 @@ use Rattle.uds_difference.specs.declared.row.Row.{Row}
 use Rattle.uds_difference.specs.declared.row.Row.TheVariants.{Same, Changed, OnlyLeft, OnlyRight}
 use Rattle.uds_exchange.specs.Meaning.{ItemValue, exchange, stray}
 use Rattle.trace_report.specs.Items.{PlacedItemValue, RowMessageValue, item_value}
-use Rattle.trace_report.specs.MessageRows.{role_words}
+use Rattle.trace_pair.specs.LongNames.{parted_role_words}
 use Rattle.trace_report.specs.Roles.{is_request_role}
 use Rattle.trace_report.specs.declared.roles.MessageRole.{MessageRole}
 use Rattle.trace_report.specs.declared.roles.MessageRole.TheVariants as role
@@ -110,7 +110,7 @@ too_long name shown is =
     omega (arith, all, whole, front)
 
 -- no message is told so
-told-else : (is : MessageRole) (d : Dir) (bytes shown : List ℕ) (silent : Bool) → role_words is d bytes ++ shown ≡ no_answer_text silent → ⊥
+told-else : (is : MessageRole) (d : Dir) (bytes shown : List ℕ) (silent : Bool) → parted_role_words is d bytes ++ shown ≡ no_answer_text silent → ⊥
 told-else role.Request d bytes shown true same = too_long _ shown same
 told-else (role.Positive asked) d bytes shown true same = never_at 3 same refl
 told-else (role.Negative asked) d bytes shown true same = never_at 3 same refl

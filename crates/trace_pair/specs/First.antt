@@ -12,7 +12,7 @@ use Rattle.trace_report.specs.Blocks.{begins_exchange}
 use Rattle.trace_report.specs.Items.{begins, rows_before}
 use Rattle.trace_report.specs.Rows.{RowValue, message, no_answer, dropped, ended, unfinished, cell_front, cell_end}
 use Rattle.trace_report.specs.LostRows.{dropped_row, ended_row, no_answer_row, unfinished_row}
-use Rattle.trace_report.specs.MessageRows.{message_front, note_text, role_words}
+use Rattle.trace_report.specs.MessageRows.{message_front, note_text}
 use Rattle.trace_report.specs.Session.{SessionValue}
 use Rattle.trace_report.specs.Data.{data_text}
 use Rattle.trace_report.specs.Letters.{has_word}
@@ -26,6 +26,7 @@ use Rattle.trace_pair.specs.ChangeWords.{change_line}
 use Rattle.trace_pair.specs.ColumnLines.{lines_text}
 use Rattle.trace_pair.specs.Counterparts.{Charted, counterpart, is_other, marks_at}
 use Rattle.trace_pair.specs.Logs.{lettered_name, own_count}
+use Rattle.trace_pair.specs.LongNames.{parted_role_words}
 use Rattle.trace_pair.specs.Losses.{first_row}
 use Rattle.trace_pair.specs.Sessions.{values_in}
 use Rattle.trace_pair.specs.Verdict.{is_lossy}
@@ -99,7 +100,7 @@ chart_data log bytes (Some other) = lines_text (Only log) (has_word bytes || has
 -- the row of a message in a chart: when it was, what it is, its bytes, and its arrow
 abbrev pub chart_message : Charted → ℕ → MessageRole → Dir → MessagePlace → List ℕ → List ℕ
 chart_message chart origin is d place bytes =
-    message_front false origin is place ++ cell_front d ++ role_words is d bytes ++ chart_data chart.log bytes (counterpart (marks_at chart place.item) is)
+    message_front false origin is place ++ cell_front d ++ parted_role_words is d bytes ++ chart_data chart.log bytes (counterpart (marks_at chart place.item) is)
     ++ note_text is place (length bytes) ++ cell_end d arrow.Headed
 
 -- a row, to which no link leads

@@ -7,7 +7,6 @@ use Rattle.uds_difference.specs.declared.row.Row.TheVariants.{Same, Changed, Onl
 use Rattle.byte_columns.specs.Columns.{beside}
 use Rattle.trace_report.specs.Roles.{is_request_role}
 use Rattle.trace_report.specs.Items.{PlacedItemValue, RowMessageValue, item_value, items_in}
-use Rattle.trace_report.specs.MessageRows.{role_words}
 use Rattle.trace_report.specs.Session.{SessionValue}
 use Rattle.trace_report.specs.Data.{data_text}
 use Rattle.trace_report.specs.Letters.{has_word}
@@ -21,6 +20,7 @@ use Rattle.trace_pair.specs.ChangeWords.{tag}
 use Rattle.trace_pair.specs.ColumnLines.{lines_text}
 use Rattle.trace_pair.specs.ItemWords.{came_of, differ, outcome_mark, same_outcome}
 use Rattle.trace_pair.specs.Logs.{has_item, letter_mark}
+use Rattle.trace_pair.specs.LongNames.{parted_role_words}
 use Rattle.trace_pair.specs.Losses.{losses_of, losses_text}
 use Rattle.trace_pair.specs.ToldItems.{note_of, told_answer, told_item}
 
@@ -31,7 +31,7 @@ both_bytes xs ys = lines_text Both (has_word xs || has_word ys) (beside xs ys)
 -- a message of two items, once where it is the same in both
 abbrev pub message_of_both : RowMessageValue → RowMessageValue → List ℕ
 message_of_both one other =
-    role_words one.role one.dir one.bytes ++ (if same_bytes one.bytes other.bytes then data_text one.bytes else both_bytes one.bytes other.bytes)
+    parted_role_words one.role one.dir one.bytes ++ (if same_bytes one.bytes other.bytes then data_text one.bytes else both_bytes one.bytes other.bytes)
 
 -- the answers of two exchanges with the same outcome: byte under byte
 abbrev pub same_outcomes : List ℕ → Option RowMessageValue → Option RowMessageValue → List ℕ

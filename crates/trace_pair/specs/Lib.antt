@@ -1,4 +1,5 @@
 pub mod Logs
+pub mod LongNames
 pub mod ColumnLines
 pub mod ByteWords
 pub mod ItemWords

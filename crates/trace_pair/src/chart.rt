@@ -11,13 +11,14 @@ use crate::chart_words::{BodyStart, ChartEnd, ItemsEnd, PairChartHead};
 use crate::column_lines::{ShownLogs, have_word, say_columns};
 use crate::counterparts::{Charted, counterpart, is_other, marks_at};
 use crate::log::PairLog;
+use crate::long_names::PartedRoleWords;
 use crate::losses::first_row;
 use crate::widths::SessionClasses;
 use byte_columns::Beside;
 use text_parts::say;
 use trace_io::TextSink;
 use trace_report::{
-    Arrow, CellEnd, CellFront, Data, KeptRows, KeptSession, MessageFront, Missing, Note, RoleWords,
+    Arrow, CellEnd, CellFront, Data, KeptRows, KeptSession, MessageFront, Missing, Note,
     SentMessage, SessionRow, begins_item, is_request_role, say_missing_row,
 };
 
@@ -236,7 +237,7 @@ fn say_row<S: TextSink>(chart: Charted<'_>, origin: u64, row: SessionRow<'_>, ou
                         place,
                     },
                     CellFront(dir),
-                    RoleWords(role, dir, message),
+                    PartedRoleWords(role, dir, message),
                 ),
             );
             let marked = marks_at(chart, place.item);

@@ -16,7 +16,7 @@
 //! a log (`losses`) stands in the row of its item.
 //!
 //! Items are told by `item_words` and `told_items`, two that changed by `differ_words` in a sentence, and by `pair_bytes` in
-//! a row: byte under byte, in the `column_lines` of `byte_columns`.
+//! a row: byte under byte, in the `column_lines` of `byte_columns`. Their `long_names` may be parted on a narrow screen.
 #![tactic(auto)]
 
 mod aligned;
@@ -45,6 +45,7 @@ mod item_tables;
 mod item_words;
 pub mod laws;
 mod log;
+mod long_names;
 mod losses;
 mod lossy_changes;
 mod outcome;

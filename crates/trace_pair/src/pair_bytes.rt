@@ -5,12 +5,13 @@ ghost use Rattle.trace_pair.specs.ItemRows.{both_bytes, outcome_by};
 
 use crate::column_lines::{ShownLogs, have_word, say_columns};
 use crate::log::{LetterMark, PairLog};
+use crate::long_names::PartedRoleWords;
 use crate::outcome::{Outcome, OutcomeMark, came_of, same_outcome};
 use crate::told_items::ToldAnswer;
 use byte_columns::Beside;
 use text_parts::{Either, Part, When, say};
 use trace_io::TextSink;
-use trace_report::{Data, PlacedItem, RoleWords, RowMessage, is_request_role};
+use trace_report::{Data, PlacedItem, RowMessage, is_request_role};
 
 /// Two items that changed: what is the same once, what differs byte under byte, and other outcomes in lines of their own.
 #[derive(Clone, Copy)]
@@ -65,7 +66,10 @@ impl<'a> Part for OfBoth<'a> {
 
     fn say<S: TextSink>(self, out: &mut S) {
         let OfBoth(one, other) = self;
-        say(out, RoleWords(one.sent.role, one.sent.dir, one.bytes));
+        say(
+            out,
+            PartedRoleWords(one.sent.role, one.sent.dir, one.bytes),
+        );
         if one.bytes == other.bytes {
             say(out, Data(one.bytes));
         } else {

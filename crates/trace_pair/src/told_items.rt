@@ -1,10 +1,11 @@
 //! Items as rows tell them.
 use crate::log::{LetterMark, PairLog};
+use crate::long_names::PartedRoleWords;
 use text_parts::{Part, When, say};
 use trace_io::TextSink;
 use trace_report::{
-    Data, FurtherNote, MessagePlace, NamedLines, PlacedItem, RoleWords, RowMessage, Seconds,
-    asked_at, is_request_role,
+    Data, FurtherNote, MessagePlace, NamedLines, PlacedItem, RowMessage, Seconds, asked_at,
+    is_request_role,
 };
 use uds_message::is_suppressing;
 
@@ -21,7 +22,8 @@ impl<'a> Part for ToldMessage<'a> {
     fn say<S: TextSink>(self, out: &mut S) {
         let sent = self.0.sent;
         let bytes = self.0.bytes;
-        say(out, (RoleWords(sent.role, sent.dir, bytes), Data(bytes)));
+        let words = PartedRoleWords(sent.role, sent.dir, bytes);
+        say(out, (words, Data(bytes)));
     }
 }
 
