@@ -10,7 +10,7 @@
 //! ```
 //!
 //! A line has sixteen columns. Of a long message the first line is shown, and the first eight that differ; the others are
-//! folded, each run of them with its number of bytes and how many of those differ.
+//! folded, as many as stand together.
 #![tactic(auto)]
 
 mod column;
