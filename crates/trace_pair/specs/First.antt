@@ -24,7 +24,7 @@ use Rattle.trace_pair.specs.declared.log.PairLog.{PairLog}
 use Rattle.trace_pair.specs.declared.log.PairLog.TheVariants.{A, B}
 use Rattle.trace_pair.specs.ChangeWords.{change_line}
 use Rattle.trace_pair.specs.ColumnLines.{lines_text}
-use Rattle.trace_pair.specs.Counterparts.{Charted, counterpart, is_other, marks_at}
+use Rattle.trace_pair.specs.Counterparts.{Charted, Marked, counterpart, is_other, marks_at}
 use Rattle.trace_pair.specs.Logs.{lettered_name, own_count}
 use Rattle.trace_pair.specs.LongNames.{parted_role_words}
 use Rattle.trace_pair.specs.Losses.{first_row}
@@ -97,19 +97,20 @@ abbrev pub chart_data : PairLog → List ℕ → Option (List ℕ) → List ℕ
 chart_data log bytes None = data_text bytes
 chart_data log bytes (Some other) = lines_text (Only log) (has_word bytes || has_word other) (beside_of log bytes other)
 
--- the row of a message in a chart: when it was, what it is, its bytes, and its arrow
-abbrev pub chart_message : Charted → ℕ → MessageRole → Dir → MessagePlace → List ℕ → List ℕ
-chart_message chart origin is d place bytes =
-    message_front false origin is place ++ cell_front d ++ parted_role_words is d bytes ++ chart_data chart.log bytes (counterpart (marks_at chart place.item) is)
+-- the row of a message in the chart of a log, which marks so much of its item: when it was, what it is, its bytes, and its
+-- arrow
+abbrev pub chart_message : PairLog → Option Marked → ℕ → MessageRole → Dir → MessagePlace → List ℕ → List ℕ
+chart_message log marked origin is d place bytes =
+    message_front false origin is place ++ cell_front d ++ parted_role_words is d bytes ++ chart_data log bytes (counterpart marked is)
     ++ note_text is place (length bytes) ++ cell_end d arrow.Headed
 
--- a row, to which no link leads
-abbrev pub chart_row : Charted → ℕ → RowValue → List ℕ
-chart_row chart origin (message is d place bytes) = chart_message chart origin is d place bytes
-chart_row chart origin (no_answer number silent) = no_answer_row number silent
-chart_row chart origin (dropped place d linked why) = dropped_row false origin place d why
-chart_row chart origin (ended place end) = ended_row false origin place end
-chart_row chart origin (unfinished d line len) = unfinished_row false d line len
+-- a row, to which no link leads, with these marks of its item
+abbrev pub chart_row : PairLog → Option Marked → ℕ → RowValue → List ℕ
+chart_row log marked origin (message is d place bytes) = chart_message log marked origin is d place bytes
+chart_row log marked origin (no_answer number silent) = no_answer_row number silent
+chart_row log marked origin (dropped place d linked why) = dropped_row false origin place d why
+chart_row log marked origin (ended place end) = ended_row false origin place end
+chart_row log marked origin (unfinished d line len) = unfinished_row false d line len
 
 -- the number of the item that a row is of: what is lost is of the one that began last before it
 abbrev pub number_of : ℕ → RowValue → ℕ
@@ -141,7 +142,8 @@ body_start begins other = if begins then (if other then codes "<tbody class=\"df
 abbrev pub rows_text : Charted → ℕ → Option Bool → ℕ → List RowValue → List ℕ
 rows_text chart origin front last [] = []
 rows_text chart origin front last (row ∷ rows) =
-    body_start (begins_body front (begins_exchange row) (is_other chart (number_of last row))) (is_other chart (number_of last row)) ++ chart_row chart origin row
+    body_start (begins_body front (begins_exchange row) (is_other chart (number_of last row))) (is_other chart (number_of last row))
+    ++ chart_row chart.log (marks_at chart (number_of last row)) origin row
     ++ rows_text chart origin (Some (is_other chart (number_of last row))) (last_begun last row) rows
 
 -- a row of words alone, in a body of its own

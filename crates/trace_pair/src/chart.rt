@@ -5,11 +5,11 @@ ghost use Rattle.trace_report.specs.Blocks.{begins_exchange as asks};
 ghost use Rattle.trace_report.specs.Items.{rows_before};
 ghost use Rattle.trace_report.specs.Rows.{missing_of, row_of};
 ghost use Rattle.trace_pair.specs.First as Spec;
-ghost use Rattle.trace_pair.specs.proving.Marks.{charted_of};
+ghost use Rattle.trace_pair.specs.proving.Marks.{charted_of, marked_of};
 
 use crate::chart_words::{BodyStart, ChartEnd, ItemsEnd, PairChartHead};
 use crate::column_lines::{ShownLogs, have_word, say_columns};
-use crate::counterparts::{Charted, counterpart, is_other, marks_at};
+use crate::counterparts::{Charted, Marked, counterpart, found_item};
 use crate::log::PairLog;
 use crate::long_names::PartedRoleWords;
 use crate::losses::first_row;
@@ -146,9 +146,10 @@ fn say_rows<S: TextSink>(
         let Some(row) = rows.row(at) else {
             return;
         };
-        let other = is_other(chart, number_of(last, row));
+        let found = found_item(chart, number_of(last, row));
+        let other = found.is_other;
         say(out, BodyStart(begins_body(front, row, other), other));
-        say_row(chart, origin, row, out);
+        say_row(chart.log, found.marked, origin, row, out);
         front = Some(other);
         last = last_begun(last, row);
     }
@@ -219,10 +220,15 @@ fn begins_exchange(row: SessionRow<'_>) -> bool
     }
 }
 
-/// Says a row, to which no link leads.
-fn say_row<S: TextSink>(chart: Charted<'_>, origin: u64, row: SessionRow<'_>, out: &mut S)
-    requires { changes_within chart.same chart.rows.now ≡ false }
-    ensures { S.says out.old (Spec.chart_row (charted_of chart.entry) origin (row_of row.entry)) out.new }
+/// Says a row of a log, to which no link leads, with these marks of its item.
+fn say_row<S: TextSink>(
+    log: PairLog,
+    marked: Option<Marked<'_>>,
+    origin: u64,
+    row: SessionRow<'_>,
+    out: &mut S,
+)
+    ensures { S.says out.old (Spec.chart_row log (option_map marked_of marked.entry) origin (row_of row.entry)) out.new }
 {
     match row {
         SessionRow::Message { sent, message } => {
@@ -240,8 +246,7 @@ fn say_row<S: TextSink>(chart: Charted<'_>, origin: u64, row: SessionRow<'_>, ou
                     PartedRoleWords(role, dir, message),
                 ),
             );
-            let marked = marks_at(chart, place.item);
-            say_data(chart.log, message, counterpart(marked, role), out);
+            say_data(log, message, counterpart(marked, role), out);
             say(out, Note(role, place, message.len() as u64));
             say(out, CellEnd(dir, Arrow::Headed));
         }
