@@ -26,10 +26,10 @@ drop-first (first ∷ later) (suc at) here e =
     let next : suc at + 1 ≡ suc (at + 1) = omega arith in
     drop-first later at here e ∙ ap (λ (n : ℕ). here ∷ drop n (first ∷ later)) (sym next)
 
-first-is : (here : Column) (later : List Column) → differs here ≡ true → position_or_len differs (here ∷ later) ≡ 0
+pub first-is : (here : Column) (later : List Column) → differs here ≡ true → position_or_len differs (here ∷ later) ≡ 0
 first-is here later e = rw e refl
 
-first-behind : (here : Column) (later : List Column) → differs here ≡ false → position_or_len differs (here ∷ later) ≡ 1 + position_or_len differs later
+pub first-behind : (here : Column) (later : List Column) → differs here ≡ false → position_or_len differs (here ∷ later) ≡ 1 + position_or_len differs later
 first-behind here later e = rw e refl
 
 -- the first column that differs

@@ -8,5 +8,6 @@ pub mod LineNumbers
 pub mod LinePlaces
 pub mod StretchKinds
 pub mod CommonEnds
+pub mod PutIn
 pub mod LineColumns
 pub mod Promises

@@ -1,5 +1,5 @@
 //! What holds of the columns of any two messages. Each law is its contract; a call does nothing.
-ghost use Rattle.byte_columns.specs.Laws.{ColumnsHaveBothMessages, CommonEndsStandTogether, EqualLengthsPairByPlace, LinesHaveTheColumns, LinesStandOnce, NoneDiffersInTheSame, StretchesAreOfOneKind};
+ghost use Rattle.byte_columns.specs.Laws.{ColumnsHaveBothMessages, CommonEndsStandTogether, EqualLengthsPairByPlace, LinesHaveTheColumns, LinesStandOnce, NoneDiffersInTheSame, OnlyPutIn, StretchesAreOfOneKind};
 
 /// Without gaps the columns are both messages.
 pub fn columns_have_both_messages()
@@ -20,6 +20,11 @@ pub fn common_ends_stand_together()
 /// No column differs exactly where the messages are the same.
 pub fn none_differs_in_the_same()
     ensures { NoneDiffersInTheSame }
+{}
+
+/// Where no more columns differ than one message is longer, it is the other one with these bytes put in.
+pub fn only_put_in()
+    ensures { OnlyPutIn }
 {}
 
 /// Each column stands in one line, in order, or behind all that are shown.

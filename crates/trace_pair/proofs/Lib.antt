@@ -5,6 +5,7 @@ pub mod LineCells
 mod SeenMarks
 mod OwnLines
 mod CountedBytes
+mod AloneBytes
 pub mod CountedColumns
 pub mod LastDigits
 pub mod Stretches

@@ -26,6 +26,7 @@ pub mod Page
 pub mod InMemory
 pub mod Laws
 pub mod ColumnLaws
+pub mod ByteLaws
 pub mod RowLaws
 pub mod LossLaws
 pub mod proving

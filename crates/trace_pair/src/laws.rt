@@ -4,6 +4,7 @@ ghost use Rattle.trace_pair.specs.Laws.{AgreesWithCompare, ChangesAreOfCompariso
 ghost use Rattle.trace_pair.specs.ColumnLaws.{EachByteIsCounted, EachLogHasItsLine};
 ghost use Rattle.trace_pair.specs.RowLaws.{EachItemHasItsRow, HeadingCountsTheRows};
 ghost use Rattle.trace_pair.specs.LossLaws.{LossyWhereLost};
+ghost use Rattle.trace_pair.specs.ByteLaws.{AloneBytesArePutIn};
 
 use trace_report::laws::items_are_the_meaning;
 
@@ -89,6 +90,11 @@ pub fn each_log_has_its_line()
 /// Of what is folded or not shown each byte is counted, and each that differs.
 pub fn each_byte_is_counted()
     ensures { EachByteIsCounted }
+{}
+
+/// Bytes that are said to be in one log alone are put into the message of the other one, and no other differs.
+pub fn alone_bytes_are_put_in()
+    ensures { AloneBytesArePutIn }
 {}
 
 /// Each difference to which a link leads begins with a row of the table of items.
