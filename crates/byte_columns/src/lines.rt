@@ -1,7 +1,7 @@
 //! The lines of columns.
 ghost use Rattle.std.specs.Prelude.{◌≡◌, ◌+◌, ◌-◌, ◌*◌, ◌≤◌, ◌<◌, length, min};
 ghost use Rattle.byte_columns.specs.Columns.{differing};
-ghost use Rattle.byte_columns.specs.Lines.{differing_before, folded_from, is_shown, line, line_count};
+ghost use Rattle.byte_columns.specs.Lines.{differing_before, folded_from, is_shown, line, line_count, line_differs};
 ghost use Rattle.byte_columns.specs.Lines as Spec;
 
 use crate::column::Beside;
@@ -48,7 +48,7 @@ impl<'a> Beside<'a> {
     }
 
     /// How many columns of a line differ.
-    pub fn differing_in(&self, number: usize) -> usize
+    fn differing_in(&self, number: usize) -> usize
         requires { number < line_count self.now }
         ensures value { result ≡ differing (line self.now number) }
         ensures few { result ≤ 16 }
@@ -57,49 +57,68 @@ impl<'a> Beside<'a> {
         self.differing(first, end)
     }
 
-    /// Whether a line is shown, before which so many differ.
-    pub fn is_shown(&self, number: usize, before: usize) -> bool
-        requires inside { number < line_count self.now }
+    /// Whether some column of a line differs.
+    pub fn line_differs(&self, number: usize) -> bool
+        requires { number < line_count self.now }
+        ensures { result ≡ line_differs self.now number }
+    {
+        self.differing_in(number) > 0
+    }
+
+    /// Whether a line is shown that differs or does not, before which so many do.
+    fn is_shown(&self, number: usize, differs: bool, before: usize) -> bool
+        requires differs { differs ≡ line_differs self.now number }
         requires before { before ≡ differing_before self.now number }
         ensures { result ≡ is_shown self.now number }
     {
-        self.len() <= ALL_SHOWN
-            || number == 0
-            || (self.differing_in(number) > 0 && before < LINES_SHOWN)
+        self.len() <= ALL_SHOWN || number == 0 || (differs && before < LINES_SHOWN)
     }
 
-    /// How many lines are folded together, from this one on, before which so many differ.
-    pub fn folded(&self, number: usize, before: usize) -> usize
+    /// The lines that are folded together, from this one on, before which so many differ: none where it is shown.
+    pub fn folded(&self, number: usize, before: usize) -> FoldedLines
         requires inside { number ≤ line_count self.now }
         requires before { before ≡ differing_before self.now number }
-        ensures value { result ≡ folded_from self.now number (line_count self.now - number) }
-        ensures inside { result + number ≤ line_count self.now }
+        ensures value { result.count ≡ folded_from self.now number (line_count self.now - number) }
+        ensures inside { result.count + number ≤ line_count self.now }
+        ensures behind { result.behind ≡ differing_before self.now (number + result.count) }
     {
         let count = self.lines();
-        let mut differ = before;
-        'lines: for at in number..count {
-            if self.is_shown(at, differ) {
-                return at - number;
-            }
-            if self.differing_in(at) > 0 {
-                differ += 1;
-            }
-        }
-        count - number
-    }
-
-    /// How many lines differ before the one behind so many, from this one on, before which so many do.
-    pub fn differing_behind(&self, number: usize, before: usize, count: usize) -> usize
-        requires inside { number + count ≤ line_count self.now }
-        requires before { before ≡ differing_before self.now number }
-        ensures { result ≡ differing_before self.now (number + count) }
-    {
         let mut behind = before;
-        'lines: for at in number..number + count {
-            if self.differing_in(at) > 0 {
+        'lines: for at in number..count {
+            let differs = self.line_differs(at);
+            if self.is_shown(at, differs, behind) {
+                return FoldedLines {
+                    count: at - number,
+                    behind,
+                };
+            }
+            if differs {
                 behind += 1;
             }
         }
-        behind
+        FoldedLines {
+            count: count - number,
+            behind,
+        }
     }
+
+    /// How many lines differ before the one behind a line, before which so many do.
+    pub fn differing_behind(&self, number: usize, before: usize) -> usize
+        requires inside { number < line_count self.now }
+        requires before { before ≡ differing_before self.now number }
+        ensures { result ≡ differing_before self.now (number + 1) }
+    {
+        if self.line_differs(number) {
+            before + 1
+        } else {
+            before
+        }
+    }
+}
+
+/// So many lines that are folded together, and how many lines differ before the one behind them.
+#[derive(Clone, Copy, Debug)]
+pub struct FoldedLines {
+    pub count: usize,
+    pub behind: usize,
 }

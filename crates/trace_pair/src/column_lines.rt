@@ -10,7 +10,7 @@ use crate::column_cells::{ColumnLine, say_line_of};
 use crate::column_counts::{counts_from, hidden_counts};
 use crate::column_words::{FoldWords, Hidden, Whose};
 use crate::log::PairLog;
-use byte_columns::Beside;
+use byte_columns::{Beside, FoldedLines};
 use text_parts::say;
 use trace_io::TextSink;
 use trace_report::has_word;
@@ -54,10 +54,13 @@ fn say_stretches<S: TextSink>(sides: ShownLogs, lettered: bool, columns: &Beside
     let mut before: usize = 0;
     let mut at: usize = 0;
     'lines: while at < count {
-        let folded = columns.folded(at, before);
+        let FoldedLines {
+            count: folded,
+            behind,
+        } = columns.folded(at, before);
         if folded == 0 {
             say_line(sides, lettered, columns, at, out);
-            before = columns.differing_behind(at, before, 1);
+            before = columns.differing_behind(at, before);
             at += 1;
         } else {
             let fold = LineRange {
@@ -66,7 +69,7 @@ fn say_stretches<S: TextSink>(sides: ShownLogs, lettered: bool, columns: &Beside
                 count: folded,
             };
             say_fold(sides, lettered, fold, out);
-            before = columns.differing_behind(at, before, folded);
+            before = behind;
             at += folded;
         }
     }
@@ -138,7 +141,7 @@ fn say_line_of_both<S: TextSink>(lettered: bool, columns: &Beside<'_>, number: u
     ensures { S.says out.old (line_text Both lettered columns.now number) out.new }
 {
     let line = ColumnLine { columns, number };
-    if columns.differing_in(number) > 0 {
+    if columns.line_differs(number) {
         say_line_of(lettered, Whose::Of(PairLog::A), PairLog::A, line, out);
         say_line_of(lettered, Whose::Of(PairLog::B), PairLog::B, line, out);
     } else {

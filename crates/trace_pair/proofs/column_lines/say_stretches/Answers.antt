@@ -27,7 +27,7 @@ lines-preserved-then-folded-eq0 g c =
       inside = omega (arith, inv.inside, count, c.lines-test.true);
       differ = c.differing_behind-before.ensures;
       left = turn-shown g.S.TextSink.says g.met.S.TextSink.onward (stretch_text c.args.sides c.args.lettered columns) columns (line_count columns) c.args.out.now _ c.lines.at c.lines.out _
-          (omega (arith, count, c.lines-test.true)) (sym c.folded-folded.ensures.value ∙ c.if-folded-eq0.true) inv.left c.say_line.ensures;
+          (omega (arith, count, c.lines-test.true)) (sym c.folded.ensures.value ∙ c.if-folded-eq0.true) inv.left c.say_line.ensures;
     }
 
 pub lines-preserved : goal.lines-preserved
@@ -36,10 +36,10 @@ lines-preserved g c =
     let inv = c.lines.invariant in
     let some = c.if-folded-eq0.false in
     record {
-      inside = omega (arith, c.folded-folded.ensures.inside);
-      differ = c.differing_behind-before-else-folded-eq0.ensures;
-      left = turn-folded g.S.TextSink.says g.met.S.TextSink.onward (stretch_text c.args.sides c.args.lettered columns) columns (line_count columns) c.args.out.now _ c.lines.at c.folded-folded.result c.lines.out _
-          c.folded-folded.ensures.value (omega (arith, some)) c.folded-folded.ensures.inside inv.left c.say_fold.ensures;
+      inside = omega (arith, c.folded.ensures.inside);
+      differ = c.folded.ensures.behind;
+      left = turn-folded g.S.TextSink.says g.met.S.TextSink.onward (stretch_text c.args.sides c.args.lettered columns) columns (line_count columns) c.args.out.now _ c.lines.at c.folded.result.count c.lines.out _
+          c.folded.ensures.value (omega (arith, some)) c.folded.ensures.inside inv.left c.say_fold.ensures;
     }
 
 pub returns : goal.returns

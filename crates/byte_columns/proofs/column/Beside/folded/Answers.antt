@@ -1,16 +1,16 @@
-use Rattle.std.proofs.Common.{◌≡◌, ◌-◌, arith, ap, sym, ◌∙◌}
-use Rattle.std.proofs.lemmas.Bool.{le-ltb, lt-ltb}
-use Rattle.byte_columns.specs.Lines.{line_count, line_differs}
+-- A line that is not shown is folded, and counts before those behind it where it differs.
+use Rattle.std.proofs.Common.{◌≡◌, ◌+◌, ◌-◌, arith, ap, sym, ◌∙◌}
+use Rattle.byte_columns.specs.Lines.{differing_before, line_count, line_differs}
 use Rattle.byte_columns.proofs.Counting.{one_if}
 use Rattle.byte_columns.proofs.LinePlaces.{before-few, before-next, folded-next, folded-none, folded-shown, lines-few}
 use Rattle.byte_columns.proofs.column.Beside.folded.Goals as goal
-use Rattle.byte_columns.proofs.column.Beside.folded.Goals.{then-differing_in-gt0, else-differing_in-gt0}
+use Rattle.byte_columns.proofs.column.Beside.folded.Goals.{then-differs, else-differs}
 
 pub lines-init : goal.lines-init
 lines-init c = record { up = omega arith; inside = c.requires.inside; differ = c.requires.before; so_far = omega arith }
 
-pub overflow_add-differ : goal.overflow_add-differ
-overflow_add-differ c =
+pub overflow_add-behind : goal.overflow_add-behind
+overflow_add-behind c =
     let few = before-few c.args.self.now c.lines.at in
     let all = lines-few c.args.self.now in
     omega (arith, c.lines.invariant.differ, c.lines.invariant.inside, few, all)
@@ -19,6 +19,11 @@ pub returns-then-is_shown-clause-value : goal.returns-then-is_shown-clause-value
 returns-then-is_shown-clause-value c =
     let none = folded-shown c.args.self.now c.lines.at (line_count c.args.self.now - c.lines.at) (sym c.is_shown.ensures ∙ c.if-is_shown.true) in
     omega (arith, none, c.lines.invariant.so_far)
+
+pub returns-then-is_shown-clause-behind : goal.returns-then-is_shown-clause-behind
+returns-then-is_shown-clause-behind c =
+    let place : c.lines.at ≡ c.args.number + (c.lines.at - c.args.number) = omega (arith, c.lines.invariant.up) in
+    c.lines.invariant.differ ∙ ap (differing_before c.args.self.now) place
 
 pub lines-preserved : goal.lines-preserved
 lines-preserved c =
@@ -29,17 +34,17 @@ lines-preserved c =
     let more = folded-next columns c.lines.at (line_count columns) (omega (arith, count, below)) (sym c.is_shown.ensures ∙ c.if-is_shown.false) in
     let next = before-next columns c.lines.at in
     let up = inv.up in
-    elim c.if-differing_in-gt0.branch [
-      | then-differing_in-gt0 w ↦
-          let one : one_if (line_differs columns c.lines.at) ≡ 1 = ap one_if (lt-ltb 0 _ (omega (arith, c.differing_in.ensures.value, w.if-differing_in-gt0.true))) in
+    elim c.if-differs.branch [
+      | then-differs w ↦
+          let one : one_if (line_differs columns c.lines.at) ≡ 1 = ap one_if (sym c.line_differs-differs.ensures ∙ w.if-differs.true) in
           record {
             up = omega arith;
             inside = omega (arith, count, below);
             differ = omega (arith, inv.differ, next, one);
             so_far = omega (arith, more, inv.so_far, count, below);
           }
-      | else-differing_in-gt0 w ↦
-          let none : one_if (line_differs columns c.lines.at) ≡ 0 = ap one_if (le-ltb 0 _ (omega (arith, c.differing_in.ensures.value, w.if-differing_in-gt0.false))) in
+      | else-differs w ↦
+          let none : one_if (line_differs columns c.lines.at) ≡ 0 = ap one_if (sym c.line_differs-differs.ensures ∙ w.if-differs.false) in
           record {
             up = omega arith;
             inside = omega (arith, count, below);
@@ -52,3 +57,9 @@ pub returns-clause-value : goal.returns-clause-value
 returns-clause-value c =
     let none = folded-none c.args.self.now c.lines.at (line_count c.args.self.now - c.lines.at) (omega (arith, c.lines-count.ensures.value, c.lines-test.false)) in
     omega (arith, none, c.lines.invariant.so_far, c.lines.invariant.inside, c.lines-count.ensures.value, c.lines-test.false)
+
+pub returns-clause-behind : goal.returns-clause-behind
+returns-clause-behind c =
+    let place : c.lines.at ≡ c.args.number + (c.lines-count.result - c.args.number) =
+    omega (arith, c.lines.invariant.up, c.lines.invariant.inside, c.lines-count.ensures.value, c.lines-test.false) in
+    c.lines.invariant.differ ∙ ap (differing_before c.args.self.now) place
