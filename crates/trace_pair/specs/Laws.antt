@@ -38,7 +38,7 @@ use Rattle.trace_pair.specs.ChangeWords.{where_link}
 use Rattle.trace_pair.specs.ColumnLines.{byte_or_gap, cells}
 use Rattle.trace_pair.specs.Compared.{comparison_by, comparison_in}
 use Rattle.trace_pair.specs.Differences.{difference_lines, first_unlisted, list_end, listed_differences}
-use Rattle.trace_pair.specs.First.{asks, chart_rows, most_before, most_rows, rows_more}
+use Rattle.trace_pair.specs.First.{asks, chart_rows, chart_to, items_more, most_before, most_rows, rows_more}
 use Rattle.trace_pair.specs.ItemRows.{begun_number, message_of_both, outcome_line, place_in, told, row_start, way_on}
 use Rattle.trace_pair.specs.ItemWords.{between, came_of, differ, outcome_in, outcome_mark, outcome_note, outcome_words}
 use Rattle.trace_pair.specs.Logs.{byte_of, has_item, letter, letter_mark}
@@ -92,6 +92,13 @@ pub record IsAround (item : ℕ) (rows front behind : List RowValue) : Type 0 wh
 -- the chart of a log around the item of a place is one piece of the log's rows, where the item stands
 abbrev pub ChartHasTheItem : Type 0
 ChartHasTheItem = (item : ℕ) (rows : List RowValue) → (front behind : List RowValue) × IsAround item rows front behind
+
+-- Of so many items from the one of a place on, a chart around that tells the last ones as items more: these begin behind its
+-- rows, and behind those of which it tells that it leaves them out. Each of the others begins in front of that.
+abbrev pub ChartCountsTheRun : Type 0
+ChartCountsTheRun = (item count : ℕ) (rows : List RowValue) (here : ℕ) → item ≤ here → here < item + count
+    → (here + items_more item count rows < item + count → rows_before here rows < chart_to item rows)
+    × (item + count ≤ here + items_more item count rows → chart_to item rows ≤ rows_before here rows)
 
 -- What is told of an exchange without an answer.
 

@@ -1,6 +1,6 @@
 //! What holds of a page of two logs, whatever logs it is of. A law is its contract; a call does nothing. A law of a lower
 //! crate that a proof needs is called.
-ghost use Rattle.trace_pair.specs.Laws.{AgreesWithCompare, ChangesAreOfComparison, ChartHasTheItem, ComparisonIsOfItems, DifferencesAreTheChanges, EachItemStandsOnce, EachLossStandsOnce, EachRowStandsOnce, LinksHaveTargets, LinksNameIdentifiers, LinksSpellIdentifiers, ListLeadsToTheTable, MarksAreOfColumnsThatDiffer, StyleHoldsNoTag, UnansweredHasNone, UnfoldedRowsAreThoseOfHunks};
+ghost use Rattle.trace_pair.specs.Laws.{AgreesWithCompare, ChangesAreOfComparison, ChartCountsTheRun, ChartHasTheItem, ComparisonIsOfItems, DifferencesAreTheChanges, EachItemStandsOnce, EachLossStandsOnce, EachRowStandsOnce, LinksHaveTargets, LinksNameIdentifiers, LinksSpellIdentifiers, ListLeadsToTheTable, MarksAreOfColumnsThatDiffer, StyleHoldsNoTag, UnansweredHasNone, UnfoldedRowsAreThoseOfHunks};
 ghost use Rattle.trace_pair.specs.ColumnLaws.{EachByteIsCounted, EachLogHasItsLine};
 ghost use Rattle.trace_pair.specs.RowLaws.{EachItemHasItsRow, HeadingCountsTheRows};
 ghost use Rattle.trace_pair.specs.LossLaws.{LossyWhereLost};
@@ -44,6 +44,11 @@ pub fn each_item_has_its_row()
 /// which that is one.
 pub fn chart_has_the_item()
     ensures { ChartHasTheItem }
+{}
+
+/// Of a longer run the chart tells how many items begin behind its rows and those that it says it leaves out.
+pub fn chart_counts_the_run()
+    ensures { ChartCountsTheRun }
 {}
 
 /// An item that is said to have no answer has none, wherever the page says so, and so has the log of two that is said
