@@ -1,5 +1,5 @@
 -- The columns that count are those in which a log has a byte.
-use Rattle.std.proofs.Common.{◌≡◌, ℕ, suc, ◌+◌, Bool, true, false, List, [], ◌∷◌, ◌++◌, codes, length, Option, Some, None, ap, ◌∙◌, append_assoc, refl, arith}
+use Rattle.std.proofs.Common.{◌≡◌, ℕ, suc, ◌+◌, ◌-◌, Bool, true, false, List, [], ◌∷◌, ◌++◌, codes, length, Option, Some, None, ap, ◌∙◌, append_assoc, refl, arith}
 use Rattle.std.specs.Prelude.{◌==◌, not, if◌then◌else◌, cond}
 use Rattle.std.specs.List.{filter, flat_map, range_with_len}
 use Rattle.byte_columns.specs.declared.column.Column.{Column}
@@ -53,8 +53,14 @@ both-parts log (here ∷ later) =
     one-of-both (has_byte_of log here) here (filter (has_byte_of log) later) (filter (lacks_byte_of log) later) (length later) (both-parts log later)
 
 others-are : (sides : ShownLogs) (columns : List Column) → uncounted sides columns ≡ length (other_columns sides columns)
-others-are Both columns = let all = ap (λ (l : List Column). length l) (all-count columns) in omega (arith, all)
-others-are (Only log) columns = let own = ap (λ (l : List Column). length l) (own-count log columns) in omega (arith, own, both-parts log columns)
+others-are Both columns =
+    let all = ap (λ (l : List Column). length l) (all-count columns) in
+    let none : length columns - length (counted Both columns) ≡ 0 = omega (arith, all) in
+    none
+others-are (Only log) columns =
+    let own = ap (λ (l : List Column). length l) (own-count log columns) in
+    let rest : length columns - length (counted (Only log) columns) ≡ length (filter (lacks_byte_of log) columns) = omega (arith, own, both-parts log columns) in
+    rest
 
 -- What is told.
 
