@@ -1,11 +1,11 @@
 -- Messages of whose first byte no rule is marked.
-use Rattle.std.proofs.Common.{◌≡◌, ℕ, ◌<◌, ◌≤◌, ◌==◌, ◌&&◌, Bool, true, false, List, [], ◌∷◌, length, replicate, set, get_or, Some, inl, inr, refl, ap, sym, ◌∙◌, subst, arith}
+use Rattle.std.proofs.Common.{◌≡◌, ℕ, ◌<◌, ◌≤◌, ◌==◌, Bool, true, false, List, [], ◌∷◌, length, replicate, set, get_or, Some, inl, inr, refl, ap, sym, ◌∙◌, arith}
 use Rattle.std.specs.List.{AllByRecursion}
-use Rattle.std.proofs.lemmas.Bool.{cases_Bool, cases_eq, eq-eqb, eqb-true, false≢true}
+use Rattle.std.proofs.lemmas.Bool.{cases_Bool, cases_eq, eqb-true, false≢true}
 use Rattle.std.proofs.lemmas.List.{get_or-set_other, length-set, length-replicate}
 use Rattle.std.proofs.lemmas.Grind.{get_or-set_at}
 use Rattle.uds_message.specs.Message.{sid}
-use Rattle.uds_rules.specs.Rule.{RuleValue, begins_with, speaks_of, made_of}
+use Rattle.uds_rules.specs.Rule.{RuleValue, begins_with, made_of}
 use Rattle.uds_rules.specs.Legal.{IsRule}
 use Rattle.uds_rules.specs.proving.Held.{marked, first_bytes}
 

@@ -1,6 +1,6 @@
 -- A rule, which messages it speaks of, and what it makes of one.
 use Rattle.std.specs.Prelude.{ℕ, ◌==◌, ◌&&◌, Bool, true, false, List, [], ◌∷◌, ◌++◌, length, drop, Option, Some, None, if◌then◌else◌}
-use Rattle.uds_rules.specs.Mask.{masked}
+use Rattle.uds_rules.specs.Mask.{MaskValue, masked}
 use Rattle.uds_rules.specs.declared.rule.Deed.{Deed}
 use Rattle.uds_rules.specs.declared.rule.Deed.TheVariants as deed
 
@@ -38,3 +38,13 @@ masks (deed.Mask mask) = true
 abbrev pub is_masked : List RuleValue → List ℕ → Bool
 is_masked [] message = false
 is_masked (rule ∷ rules) message = if speaks_of rule message then masks rule.deed else is_masked rules message
+
+-- the mask on messages with this prefix, and the place behind the prefix where it begins
+abbrev pub mask_by : Deed → List ℕ → Option (MaskValue × ℕ)
+mask_by deed.Drop prefix = None
+mask_by (deed.Mask mask) prefix = Some (mask, length prefix)
+
+-- the mask of the first rule that speaks of a message, if it masks
+abbrev pub mask_of : List RuleValue → List ℕ → Option (MaskValue × ℕ)
+mask_of [] message = None
+mask_of (rule ∷ rules) message = if speaks_of rule message then mask_by rule.deed rule.prefix else mask_of rules message

@@ -58,7 +58,7 @@ impl Model for Rule {
 
 impl Rule {
     ghost use Rattle.std.specs.Prelude.{◌≡◌, true, IfOk, OnErr};
-    ghost use Rattle.uds_rules.specs.Rule.{speaks_of, made_by, masks};
+    ghost use Rattle.uds_rules.specs.Rule.{speaks_of, made_by, mask_by, masks};
     ghost use Rattle.uds_rules.specs.Legal.{IsRule, are_apart};
     ghost use Rattle.uds_rules.specs.Pattern.{masking};
     ghost use Rattle.uds_rules.specs.Answers.{IsRuled};
@@ -108,6 +108,16 @@ impl Rule {
         ensures legal { IsRule self.now }
     {
         self.deed
+    }
+
+    /// The mask on its messages, if it masks, and the place behind the prefix where that begins.
+    pub(crate) fn mask(&self) -> Option<(Mask, usize)>
+        ensures { result ≡ mask_by self.now.deed self.now.prefix }
+    {
+        match self.deed {
+            Deed::Drop => None,
+            Deed::Mask(mask) => Some((mask, self.prefix.bytes().len())),
+        }
     }
 
     /// Whether it speaks of a message.

@@ -2,7 +2,9 @@
 
 ghost use Rattle.std.specs.Prelude.{◌≡◌};
 ghost use Rattle.uds_rules.specs.Legal.{clash_in};
+ghost use Rattle.uds_rules.specs.Rule.{mask_of};
 
+use crate::mask::Mask;
 use crate::prefix::Prefix;
 use crate::rule::Rule;
 use std::alloc::AllocError;
@@ -62,10 +64,10 @@ impl Model for Rules {
 }
 
 impl Rules {
-    ghost use Rattle.std.specs.Prelude.{◌≡◌, ◌++◌, ◌∷◌, [], true, OnOk, IfOk, IfErr, OnErr};
-    ghost use Rattle.uds_rules.specs.Rule.{made_of, is_masked};
+    ghost use Rattle.std.specs.Prelude.{◌≡◌, ◌++◌, ◌∷◌, ◌≤◌, [], true, length, IfSome, OnOk, IfOk, IfErr, OnErr};
+    ghost use Rattle.uds_rules.specs.Rule.{made_of, is_masked, mask_of};
     ghost use Rattle.uds_rules.specs.Legal.{AreRules};
-    ghost use Rattle.uds_rules.specs.Answers.{CannotAdd, IsRuled};
+    ghost use Rattle.uds_rules.specs.Answers.{CanAdd, CannotAdd, IsRuled};
 
     /// No rules.
     pub fn none() -> Rules
@@ -82,6 +84,7 @@ impl Rules {
     /// Adds a rule, or says why it can't stand beside the others.
     pub fn add(&mut self, rule: Rule) -> Result<(), RulesFault>
         ensures ok { OnOk result (self.new ≡ self.old ++ rule ∷ []) }
+        ensures may { OnOk result (CanAdd self.old rule) }
         ensures err { IfErr result (λ fault. (self.new ≡ self.old) × CannotAdd self.old rule fault) }
     {
         let count = self.count as usize;
@@ -108,6 +111,14 @@ impl Rules {
         &self.rules[..self.count as usize]
     }
 
+    /// The mask of the rule that speaks of a message, if it masks, and the place behind the prefix where it begins.
+    pub fn mask_of(&self, message: &[u8]) -> Option<(Mask, usize)>
+        ensures value { result ≡ mask_of self.now message.now }
+        ensures within { IfSome result (λ found. found.1 ≤ length message.now) }
+    {
+        mask_in(self.as_slice(), message)
+    }
+
     /// What the rules make of a message. A masked copy is laid into `room`, and for that alone memory can be refused: with
     /// the same `room` for each message only one longer than all before takes any.
     pub fn apply(&self, message: &[u8], room: &mut Vec<u8>) -> Result<Ruled, AllocError>
@@ -127,6 +138,18 @@ impl Rules {
         }
         Ok(Ruled::AsItIs)
     }
+}
+
+/// The mask of the first of these rules that speaks of the message, if it masks, and where it begins.
+fn mask_in(rules: &[Rule], message: &[u8]) -> Option<(Mask, usize)>
+    ensures { result ≡ mask_of rules.now message.now }
+{
+    'rules: for rule in rules {
+        if rule.speaks_of(message) {
+            return rule.mask();
+        }
+    }
+    None
 }
 
 /// The place of the first of these rules which speaks of a message that this one speaks of, if there is one.

@@ -1,6 +1,6 @@
 -- Rules in an array, and of each byte whether one of them begins with it.
 use Rattle.std.specs.Prelude.{◌≡◌, ℕ, ◌-◌, ◌≤◌, Bool, true, false, List, [], ◌∷◌, ◌++◌, length, take, drop}
-use Rattle.std.proofs.Common.{replicate, set, length-take, append_assoc, arith, sym, ap, ◌∙◌, refl}
+use Rattle.std.proofs.Common.{replicate, set, length-take, arith, sym, ap, ◌∙◌}
 use Rattle.std.proofs.lemmas.List.{take-append-drop}
 use Rattle.uds_message.specs.Message.{sid}
 use Rattle.uds_rules.specs.declared.rule.Deed.TheVariants as deed

@@ -1,4 +1,4 @@
-use Rattle.std.proofs.Common.{◌≡◌, ◌+◌, ◌<◌, set, true, sym, ap, ◌∙◌, subst, arith}
+use Rattle.std.proofs.Common.{◌≡◌, ◌+◌, set, true, sym, ap, ◌∙◌, subst, arith}
 use Rattle.uds_message.specs.Message.{sid}
 use Rattle.uds_rules.specs.proving.Held.{AreHeld}
 use Rattle.uds_rules.proofs.Adding.{one_more_held}

@@ -1,4 +1,4 @@
-use Rattle.std.proofs.Common.{◌≡◌, ◌<◌, take, get_or, false, sym, ap, ◌∙◌, subst}
+use Rattle.std.proofs.Common.{◌<◌, take, get_or, false, sym, ap, ◌∙◌, subst}
 use Rattle.uds_rules.specs.Rule.{made_of}
 use Rattle.uds_rules.proofs.FirstBytes.{unmarked_stays}
 use Rattle.uds_rules.proofs.rules.Rules.apply.Goals as goal
