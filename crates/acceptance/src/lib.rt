@@ -2,7 +2,7 @@
 //!
 //! Each crate below is proved by itself, without a test: the gate would prove it again with them. That its definitions say
 //! what was meant is shown here, layer by layer, by worked values: `log_lines`, `device_calls`, `frame_layouts`,
-//! `frame_verdicts`, `message_frames`, `message_kinds`, `pairings`, `credited_answers`,
+//! `frame_verdicts`, `message_frames`, `message_kinds`, `profiles`, `pairings`, `credited_answers`,
 //! `session_rows`.
 //!
 //! `said_texts` has each part of a line, and each name and number that commands share.
@@ -36,6 +36,8 @@ mod message_kinds;
 mod pages;
 #[cfg(test)]
 mod pairings;
+#[cfg(test)]
+mod profiles;
 #[cfg(test)]
 mod rows;
 #[cfg(test)]
