@@ -11,7 +11,7 @@ use Rattle.uds_rules.specs.declared.rule.Deed.TheVariants as deed
 use Rattle.uds_rules.specs.Mask.{MaskValue, masked_bytes, masked}
 use Rattle.uds_rules.specs.Rule.{RuleValue, begins_with, speaks_of, made_by, made_of}
 use Rattle.uds_rules.specs.Legal.{IsRule, IsDeed, IsMask, keeps_first, keeps_sub_function}
-use Rattle.uds_rules.specs.Laws.{IsSameKind, MaskKeepsKind}
+use Rattle.uds_rules.specs.Laws.{IsSameKind, MaskKeepsKind, NoByteIsAdded}
 use Rattle.uds_rules.proofs.Beginnings.{prefix_in_front}
 use Rattle.uds_rules.proofs.Masks.{masked_is_short}
 
@@ -115,3 +115,29 @@ each_kind (rule ∷ rules) message shown each is =
 
 pub mask_keeps_kind : MaskKeepsKind
 mask_keeps_kind rules are message shown is = each_kind rules message shown are.each is
+
+-- ---- no rule makes a message longer
+
+made_short : (this : Deed) (prefix message shown : List ℕ) → begins_with prefix message ≡ true → made_by this prefix message ≡ Some shown
+    → length shown ≤ length message
+made_short deed.Drop prefix message shown begins is = absurd (none-some _ is)
+made_short (deed.Mask mask) prefix message shown begins is =
+    let behind : List ℕ = drop (length prefix) message in
+    let whole : prefix ++ behind ≡ message =
+    ap (λ front. front ++ behind) (sym (prefix_in_front prefix message begins)) ∙ take-append-drop (length prefix) message in
+    let short : length (prefix ++ masked mask behind) ≤ length message = (
+    let same = ap length whole in
+    let one = length-append prefix (masked mask behind) in
+    let other = length-append prefix behind in
+    let few = masked_is_short mask behind in
+    omega arith)
+    in
+    subst (λ shown. length shown ≤ length message) (same_Some _ _ is) short
+
+pub no_byte_is_added : NoByteIsAdded
+no_byte_is_added [] message shown is = subst (λ shown. length shown ≤ length message) (same_Some _ _ is) (omega arith)
+no_byte_is_added (rule ∷ rules) message shown is =
+    elim (cases_Bool (speaks_of rule message)) [
+      | inl speaks ↦ made_short rule.deed rule.prefix message shown speaks (rw speaks at is)
+      | inr silent ↦ no_byte_is_added rules message shown (rw silent at is)
+    ]

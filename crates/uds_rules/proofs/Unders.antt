@@ -1,11 +1,12 @@
 -- Lists of messages under rules.
-use Rattle.std.proofs.Common.{◌≡◌, ℕ, true, false, List, [], ◌∷◌, ◌++◌, length, drop, Option, Some, None, inl, inr, refl, ap, sym, ◌∙◌, subst}
-use Rattle.std.specs.Prelude.{nat_eq}
+use Rattle.std.proofs.Common.{◌≡◌, ℕ, ◌+◌, true, false, List, [], ◌∷◌, ◌++◌, length, drop, Option, Some, None, inl, inr, refl, ap, sym, ◌∙◌, subst, arith, if◌then◌else◌}
+use Rattle.std.specs.Prelude.{nat_eq, is_none}
 use Rattle.std.specs.List.{list_all}
 use Rattle.std.specs.Cmp.Lexicographic.{pointwise, same_text}
 use Rattle.std.proofs.lemmas.Grind.{flat_map-append}
 use Rattle.std.proofs.lemmas.Bool.{and_parts, eq-eqb, cases_Bool, false≢true}
 use Rattle.std.proofs.lemmas.Option.{none-some, same_Some}
+use Rattle.std.proofs.lemmas.List.{length-append}
 use Rattle.std.proofs.Math.Seq.{drop-append_seam}
 use Rattle.direction.specs.Dir.{Message}
 use Rattle.direction.specs.declared.Dir.{Dir}
@@ -14,13 +15,30 @@ use Rattle.uds_rules.specs.declared.rule.Deed.{Deed}
 use Rattle.uds_rules.specs.declared.rule.Deed.TheVariants as deed
 use Rattle.uds_rules.specs.Rule.{RuleValue, begins_with, speaks_of, made_by, made_of}
 use Rattle.uds_rules.specs.Legal.{AreApart, is_apart_from, are_apart}
-use Rattle.uds_rules.specs.Under.{sent_as, under_one, under}
-use Rattle.uds_rules.specs.Laws.{UnderGoesOn, NoRulesKeepAll, UnderTwice, WhatIsLeftStays, WhatStaysIsLeft, stays, is_made_of}
+use Rattle.uds_rules.specs.Under.{sent_as, under_one, under, left_out}
+use Rattle.uds_rules.specs.Laws.{UnderGoesOn, LeftOutGoesOn, LeftOutAreTheRest, NoRulesKeepAll, UnderTwice, WhatIsLeftStays, WhatStaysIsLeft, stays, is_made_of}
 use Rattle.uds_rules.proofs.Masks.{masked_twice}
 use Rattle.uds_rules.proofs.Apart.{apart_shares_no_message}
 
 pub under_goes_on : UnderGoesOn
 under_goes_on rules M N = flat_map-append (under_one rules) M N
+
+pub left_out_goes_on : LeftOutGoesOn
+left_out_goes_on rules [] N = omega arith
+left_out_goes_on rules (message ∷ later) N = let rest = left_out_goes_on rules later N in omega arith
+
+-- one message, of which this was made
+left_or_out : (d : Dir) (made : Option (List ℕ)) → length (sent_as d made) + (if is_none made then 1 else 0) ≡ 1
+left_or_out d None = refl
+left_or_out d (Some shown) = refl
+
+pub left_out_are_the_rest : LeftOutAreTheRest
+left_out_are_the_rest rules [] = refl
+left_out_are_the_rest rules (message ∷ later) =
+    let one = left_or_out message.0 (made_of rules message.1) in
+    let all = length-append (under_one rules message) (under rules later) in
+    let rest = left_out_are_the_rest rules later in
+    omega arith
 
 pub no_rules_keep_all : NoRulesKeepAll
 no_rules_keep_all [] = refl

@@ -1,5 +1,5 @@
 -- What holds of messages under rules, and of the texts of rules.
-use Rattle.std.specs.Prelude.{◌≡◌, ◌≤◌, ℕ, Bool, true, false, List, [], ◌++◌, length, get_or, nat_le, nat_eq, ◌&&◌, Option, Some, None, slice_get, option_map, if◌then◌else◌}
+use Rattle.std.specs.Prelude.{◌≡◌, ◌≤◌, ℕ, ◌+◌, Bool, true, false, List, [], ◌++◌, length, get_or, nat_le, nat_eq, ◌&&◌, Option, Some, None, slice_get, option_map, if◌then◌else◌}
 use Rattle.std.specs.List.{AllByRecursion, list_all}
 use Rattle.std.specs.Cmp.Lexicographic.{pointwise}
 use Rattle.direction.specs.Dir.{Message}
@@ -8,12 +8,20 @@ use Rattle.uds_message.specs.Message.{sid, tester_kind, answer_to, is_negative_r
 use Rattle.uds_rules.specs.Mask.{MaskValue, masked}
 use Rattle.uds_rules.specs.Rule.{RuleValue, begins_with, speaks_of, made_by, made_of}
 use Rattle.uds_rules.specs.Legal.{AreRules, AreApart, are_apart}
-use Rattle.uds_rules.specs.Under.{under}
+use Rattle.uds_rules.specs.Under.{under, left_out}
 use Rattle.uds_rules.specs.Pattern.{pattern_text, mask_text, drop_rule, mask_rule, dropping, masking_parts, few_bytes, few_places, mask_in}
 
 -- what becomes of messages doesn't depend on those beside them
 abbrev pub UnderGoesOn : Type 0
 UnderGoesOn = (rules : List RuleValue) (M N : List Message) → under rules (M ++ N) ≡ under rules M ++ under rules N
+
+-- and neither does it how many are left out
+abbrev pub LeftOutGoesOn : Type 0
+LeftOutGoesOn = (rules : List RuleValue) (M N : List Message) → left_out rules (M ++ N) ≡ left_out rules M + left_out rules N
+
+-- each message is one of those that are left, or is left out
+abbrev pub LeftOutAreTheRest : Type 0
+LeftOutAreTheRest = (rules : List RuleValue) (M : List Message) → length (under rules M) + left_out rules M ≡ length M
 
 -- without rules nothing changes
 abbrev pub NoRulesKeepAll : Type 0
@@ -72,6 +80,10 @@ MaskedByPlaces = (mask : MaskValue) (bytes : List ℕ) (place : ℕ) → slice_g
 abbrev pub NoByteIsMadeUp : Type 0
 NoByteIsMadeUp = (rules : List RuleValue) (passes : ℕ → Bool) → passes 0 ≡ true → (message shown : List ℕ)
     → made_of rules message ≡ Some shown → list_all passes message ≡ true → list_all passes shown ≡ true
+
+-- and none is added
+abbrev pub NoByteIsAdded : Type 0
+NoByteIsAdded = (rules : List RuleValue) (message shown : List ℕ) → made_of rules message ≡ Some shown → length shown ≤ length message
 
 -- whether rules leave a message as it is
 abbrev pub stays : List RuleValue → Message → Bool

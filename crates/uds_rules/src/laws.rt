@@ -1,11 +1,17 @@
 //! What holds of messages under rules and of the texts of rules, whatever applies or reads them. Each law is its contract;
 //! a call does nothing.
 
-ghost use Rattle.uds_rules.specs.Laws.{UnderGoesOn, NoRulesKeepAll, UnderTwice, WhatIsLeftStays, WhatStaysIsLeft, RuleSpeaksAlone, ApartSharesNoMessage, ClashSharesMessage, MaskKeepsKind, MaskedByPlaces, NoByteIsMadeUp, PrefixIsReadBack, PatternIsReadBack, ReadAsSpelled};
+ghost use Rattle.uds_rules.specs.Laws.{UnderGoesOn, LeftOutGoesOn, LeftOutAreTheRest, NoRulesKeepAll, UnderTwice, WhatIsLeftStays, WhatStaysIsLeft, RuleSpeaksAlone, ApartSharesNoMessage, ClashSharesMessage, MaskKeepsKind, MaskedByPlaces, NoByteIsMadeUp, NoByteIsAdded, PrefixIsReadBack, PatternIsReadBack, ReadAsSpelled};
 
-/// What becomes of a message doesn't depend on those beside it.
+/// What becomes of a message doesn't depend on those beside it, nor does how many are left out.
 pub fn under_goes_on()
-    ensures { UnderGoesOn }
+    ensures messages { UnderGoesOn }
+    ensures count { LeftOutGoesOn }
+{}
+
+/// Each message is left, or left out.
+pub fn left_out_are_the_rest()
+    ensures { LeftOutAreTheRest }
 {}
 
 /// Without rules nothing changes.
@@ -45,9 +51,10 @@ pub fn masked_by_places()
     ensures { MaskedByPlaces }
 {}
 
-/// No byte of a message is made up but 0.
+/// No byte of a message is made up but 0, and none is added.
 pub fn no_byte_is_made_up()
-    ensures { NoByteIsMadeUp }
+    ensures bytes { NoByteIsMadeUp }
+    ensures added { NoByteIsAdded }
 {}
 
 /// The texts of prefixes and patterns are read back, and what is read as a mask is spelled so.

@@ -64,7 +64,7 @@ impl Model for Rules {
 }
 
 impl Rules {
-    ghost use Rattle.std.specs.Prelude.{◌≡◌, ◌++◌, ◌∷◌, ◌≤◌, [], true, length, IfSome, OnOk, IfOk, IfErr, OnErr};
+    ghost use Rattle.std.specs.Prelude.{◌≡◌, ◌++◌, ◌∷◌, ◌≤◌, [], true, false, length, IfSome, OnOk, IfOk, IfErr, OnErr};
     ghost use Rattle.uds_rules.specs.Rule.{made_of, is_masked, mask_of};
     ghost use Rattle.uds_rules.specs.Legal.{AreRules};
     ghost use Rattle.uds_rules.specs.Answers.{CanAdd, CannotAdd, IsRuled};
@@ -79,6 +79,15 @@ impl Rules {
             first_bytes: [false; 256],
             count: 0,
         }
+    }
+
+    /// Whether there are none.
+    #[inline(always)]
+    pub fn is_empty(&self) -> bool
+        ensures none { result ≡ true → self.now ≡ [] }
+        ensures some { result ≡ false → 1 ≤ length self.now }
+    {
+        self.count == 0
     }
 
     /// Adds a rule, or says why it can't stand beside the others.
