@@ -5,6 +5,7 @@ use Rattle.can_log.specs.declared.frame.Stamped.{Stamped}
 use Rattle.isotp_receive.specs.declared.TheConstants.{MESSAGE_LIMIT}
 use Rattle.trace_io.specs.declared.device.Target.{Ghosts as TargetGhosts}
 use Rattle.trace_log.specs.LinesRead.{AreReadBefore}
+use Rattle.trace_log.specs.Trace.{trace}
 use Rattle.trace_log.specs.declared.fault.Fault.{Fault}
 use Rattle.trace_log.specs.declared.fault.Fault.TheVariants as fault
 use Rattle.trace_log.proofs.Promises.{IsBadBehind, bad_in_front, bad_at_end, read_to_bad, read_to_limit}
@@ -13,6 +14,7 @@ use Rattle.trace_run.specs.Script.{GlimpseValue, refusal_of_lines, said_and_refu
 use Rattle.trace_run.specs.declared.machine.Machine.{Ghosts as MachineGhosts}
 use Rattle.trace_run.specs.proving.Ending.{EndsAs, RefusesSaying, SettlesWith, command_of}
 use Rattle.trace_run.specs.proving.Receiving.{RunState, HasTaken}
+use Rattle.trace_run.specs.proving.Ruling.{HasJudged}
 use Rattle.trace_run.proofs.Carryings.{wrote_all, wrote_front}
 use Rattle.trace_run.proofs.Runs.{Begun, Fed, Answers, script, text, passes, old, each_passes}
 use Rattle.trace_run.proofs.SaidFronts.{front_of_refused}
@@ -27,7 +29,10 @@ module _ {A M W : Type 0} {machine : MachineGhosts M A} {target : TargetGhosts W
       why now.receiver.telling.page now.target answer new
   settles_refusal why meanings taken up =
       let so_far = taken begun.settings begun.first begun.is in
-      up begun.first begun.settings meanings so_far.0.lines so_far.1.judged so_far.1.machine_stands
+      let telling = now.receiver.telling in
+      let judged = subst (λ rules. HasJudged rules (trace begun.settings meanings) telling.judge telling.ruling.left_out)
+      begun.is.ruled so_far.1.judged in
+      up begun.first begun.settings meanings so_far.0.lines judged so_far.1.machine_stands
 
   -- so what is said of all lines and of the refusal is written, or that failed
   pub refuses_all : (why : Fault) (meanings : List (Option Stamped)) → HasTaken machine target begun.state meanings now

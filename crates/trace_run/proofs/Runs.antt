@@ -34,11 +34,12 @@ module _ {A M W : Type 0} (machine : MachineGhosts M A) (target : TargetGhosts W
   -- a run begins with a receiver of the settings, over a telling that has told nothing
   pub begins_with : (settings : Settings) (first : M) (telling : Telling M) (receiver : Receiver M W) (now : W)
       → IsReceiverStart settings telling receiver.config receiver.pair receiver.lines receiver.counts receiver.telling
-      → HasToldNothing machine first telling → target.failures now ≤ 2 ^ 62
+      → machine.rules first ≡ settings.rules → HasToldNothing machine first telling → target.failures now ≤ 2 ^ 62
       → IsRunStart machine target settings first (record { receiver = receiver; target = now })
-  begins_with settings first telling receiver now starts fresh low = record {
+  begins_with settings first telling receiver now starts ruled fresh low = record {
     config = starts.config_is;
     nothing = starts.nothing;
+    ruled = ruled;
     fresh = subst (HasToldNothing machine first) (sym starts.taker_is) fresh;
     low = low;
   }
@@ -57,7 +58,7 @@ module _ {A M W : Type 0} (machine : MachineGhosts M A) (target : TargetGhosts W
       };
     },
     record {
-      judged = begun.fresh.judged;
+      judged = record { judged = begun.fresh.judged; counted = begun.fresh.none_left_out };
       machine_stands = subst (machine.stands first []) (sym begun.fresh.machine_is) begun.fresh.stands_at_start;
       within = λ strict. tt;
       carried = carries_at_start target start.target start.receiver.telling.page begun.low begun.fresh.well begun.fresh.blank;

@@ -1,65 +1,118 @@
--- The message of a frame that a machine is handed, by what the frame did.
-use Rattle.std.proofs.Common.{◌≡◌, List, [], ◌∷◌, ◌++◌, Some, None, ap, sym, subst, ◌∙◌, append-nil}
+-- The message of a frame that a machine is handed, by what the frame did and what rules leave of it.
+use Rattle.std.proofs.Common.{◌≡◌, ◌<◌, ◌^◌, ℕ, List, [], ◌∷◌, ◌++◌, length, arith, Option, Some, None, refl, ap, sym, subst, ◌∙◌, append-nil}
 use Rattle.direction.specs.Dir.{Message}
 use Rattle.direction.specs.declared.Dir.{Dir}
 use Rattle.isotp_receive.specs.declared.TheConstants.{MESSAGE_LIMIT}
 use Rattle.isotp_receive.specs.EventSeen.{seen_event}
 use Rattle.isotp_receive.specs.Trace.{Entry}
 use Rattle.isotp_receive.specs.Verdict.{EventValue, VerdictValue, message, began, stored, flowed, dropped, messages, told_message, verdict}
+use Rattle.isotp_receive.proofs.Promises.{messages_are_few}
 use Rattle.uds_exchange.specs.Judging.{sent}
 use Rattle.uds_exchange.specs.declared.judge.Judged.{Judged}
-use Rattle.trace_log.proofs.Promises.{messages_more}
+use Rattle.uds_rules.specs.Rule.{RuleValue, made_of}
+use Rattle.uds_rules.specs.Under.{left_out, sent_as, under}
+use Rattle.uds_rules.proofs.Promises.{left_out_are_the_rest}
+use Rattle.trace_log.specs.Messages.{messages_under}
+use Rattle.trace_log.proofs.Promises.{messages_under_more}
 use Rattle.trace_run.specs.Seen.{IsEventOf, IsJudgmentOf, IsSeen}
 use Rattle.trace_run.specs.proving.Completing.{CompletesJudged}
 use Rattle.trace_run.specs.declared.machine.Seen.{Seen}
 
--- a frame told no other message than it completed
-completed : (d : Dir) (did : VerdictValue) (m : Message) → told_message d did ≡ m ∷ [] → (d ≡ m.0) × (did ≡ message m.1)
-completed d (message bytes) m is =
-    let same : (d, bytes) ≡ m = cc is in (ap (λ (x : Message). x.0) same, ap (λ (x : Message). message x.1) same)
-completed d began m is = cc is
-completed d stored m is = cc is
-completed d flowed m is = cc is
-completed d (dropped reason) m is = cc is
+-- rules leave no more messages than there are frames
+pub few_under : (rules : List RuleValue) (T : List Entry) → length T < 2 ^ 62 → length (messages_under rules MESSAGE_LIMIT T) < 2 ^ 62
+few_under rules T few =
+    let of_trace = messages_are_few MESSAGE_LIMIT T in
+    let all = left_out_are_the_rest rules (messages MESSAGE_LIMIT T) in
+    omega arith
+
+-- nor do they leave out more
+pub few_left_out : (rules : List RuleValue) (T : List Entry) (out : ℕ) → length T < 2 ^ 62 → out ≡ left_out rules (messages MESSAGE_LIMIT T) → out < 2 ^ 62
+few_left_out rules T out few is =
+    let of_trace = messages_are_few MESSAGE_LIMIT T in
+    let all = left_out_are_the_rest rules (messages MESSAGE_LIMIT T) in
+    omega arith
+
+-- What was told of a frame is this message: it is what rules made of the one that the frame completed.
+record IsMadeOf (rules : List RuleValue) (d : Dir) (did : VerdictValue) (m : Message) : Type 0 where
+  whole : List ℕ
+  dir : d ≡ m.0
+  completed : did ≡ message whole
+  made : made_of rules whole ≡ Some m.1
+
+made_as : (rules : List RuleValue) (d : Dir) (whole : List ℕ) (m : Message) (made : Option (List ℕ)) → made_of rules whole ≡ made
+    → sent_as d made ++ [] ≡ m ∷ [] → IsMadeOf rules d (message whole) m
+made_as rules d whole m None is one = absurd (cc one)
+made_as rules d whole m (Some shown) is one =
+    let same : (d, shown) ≡ m = cc one in
+    record {
+      whole = whole;
+      dir = ap (λ (x : Message). x.0) same;
+      completed = refl;
+      made = is ∙ ap (λ (x : Message). Some x.1) same;
+    }
+
+-- a frame told no other message than rules made of the one that it completed
+completed : (rules : List RuleValue) (d : Dir) (did : VerdictValue) (m : Message) → under rules (told_message d did) ≡ m ∷ []
+    → IsMadeOf rules d did m
+completed rules d (message whole) m is = made_as rules d whole m (made_of rules whole) refl is
+completed rules d began m is = absurd (cc is)
+completed rules d stored m is = absurd (cc is)
+completed rules d flowed m is = absurd (cc is)
+completed rules d (dropped reason) m is = absurd (cc is)
 
 -- the messages behind a frame are those before it, and what it told
-next : (T : List Entry) (e : Entry) (seen : Seen) (told : List Message)
+next : (rules : List RuleValue) (T : List Entry) (e : Entry) (seen : Seen) (told : List Message)
     → IsEventOf T e seen.line seen.micros seen.dir seen.event
-    → told_message seen.dir (seen_event seen.event).verdict ≡ told
-    → messages MESSAGE_LIMIT (T ++ e ∷ []) ≡ messages MESSAGE_LIMIT T ++ told
-next T e seen told event is =
-    messages_more MESSAGE_LIMIT T e
-    ∙ ap (λ d. messages MESSAGE_LIMIT T ++ told_message d (verdict MESSAGE_LIMIT T e).verdict) event.dir
-    ∙ ap (λ (x : EventValue). messages MESSAGE_LIMIT T ++ told_message seen.dir x.verdict) (sym event.did)
-    ∙ ap (λ l. messages MESSAGE_LIMIT T ++ l) is
+    → under rules (told_message seen.dir (seen_event seen.event).verdict) ≡ told
+    → messages_under rules MESSAGE_LIMIT (T ++ e ∷ []) ≡ messages_under rules MESSAGE_LIMIT T ++ told
+next rules T e seen told event is =
+    messages_under_more rules MESSAGE_LIMIT T e
+    ∙ ap (λ d. messages_under rules MESSAGE_LIMIT T ++ under rules (told_message d (verdict MESSAGE_LIMIT T e).verdict)) event.dir
+    ∙ ap (λ (x : EventValue). messages_under rules MESSAGE_LIMIT T ++ under rules (told_message seen.dir x.verdict)) (sym event.did)
+    ∙ ap (λ l. messages_under rules MESSAGE_LIMIT T ++ l) is
 
--- a frame that completed a message
-pub completes_judged : (T : List Entry) (e : Entry) (seen : Seen) (judged : Judged) → IsSeen T e seen
-    → seen.message ≡ Some judged → CompletesJudged T e judged
-completes_judged T e seen judged is some =
-    let M = messages MESSAGE_LIMIT T in
+-- a frame of whose message rules leave this
+pub completes_judged : (rules : List RuleValue) (T : List Entry) (e : Entry) (seen : Seen) (judged : Judged) → IsSeen rules T e seen
+    → seen.message ≡ Some judged → CompletesJudged rules T e judged
+completes_judged rules T e seen judged is some =
+    let M = messages_under rules MESSAGE_LIMIT T in
     let event = is.event in
-    let by = subst (IsJudgmentOf M (told_message seen.dir (seen_event seen.event).verdict)) some is.message in
-    let told = completed seen.dir (seen_event seen.event).verdict (sent judged) by.0 in
+    let by = subst (IsJudgmentOf M (under rules (told_message seen.dir (seen_event seen.event).verdict))) some is.message in
+    let told = completed rules seen.dir (seen_event seen.event).verdict (sent judged) by.0 in
     record {
-      next = next T e seen (sent judged ∷ []) event by.0;
-      dir = event.dir ∙ told.0;
-      did = ap (λ (x : EventValue). x.verdict) (sym event.did) ∙ told.1;
+      next = next rules T e seen (sent judged ∷ []) event by.0;
+      dir = event.dir ∙ told.dir;
+      whole = told.whole;
+      did = ap (λ (x : EventValue). x.verdict) (sym event.did) ∙ told.completed;
+      made = told.made;
       step = by.1;
       item = by.2;
     }
 
--- a frame that completed no message leaves the messages as they were
-pub completes_none : (T : List Entry) (e : Entry) (seen : Seen) → IsSeen T e seen → seen.message ≡ None
-    → messages MESSAGE_LIMIT (T ++ e ∷ []) ≡ messages MESSAGE_LIMIT T
-completes_none T e seen is none =
-    let M = messages MESSAGE_LIMIT T in
-    next T e seen [] is.event (subst (IsJudgmentOf M (told_message seen.dir (seen_event seen.event).verdict)) none is.message) ∙ append-nil M
+-- a frame of which rules leave no message leaves the messages as they were
+pub completes_none : (rules : List RuleValue) (T : List Entry) (e : Entry) (seen : Seen) → IsSeen rules T e seen → seen.message ≡ None
+    → messages_under rules MESSAGE_LIMIT (T ++ e ∷ []) ≡ messages_under rules MESSAGE_LIMIT T
+completes_none rules T e seen is none =
+    let M = messages_under rules MESSAGE_LIMIT T in
+    next rules T e seen [] is.event
+    (subst (IsJudgmentOf M (under rules (told_message seen.dir (seen_event seen.event).verdict))) none is.message) ∙ append-nil M
 
--- of such a frame no message is told
-pub tells_no_message : (T : List Entry) (e : Entry) (seen : Seen) → IsSeen T e seen → seen.message ≡ None
-    → told_message e.dir (verdict MESSAGE_LIMIT T e).verdict ≡ []
-tells_no_message T e seen is none =
-    ap (λ d. told_message d (verdict MESSAGE_LIMIT T e).verdict) is.event.dir
-    ∙ ap (λ (x : EventValue). told_message seen.dir x.verdict) (sym is.event.did)
-    ∙ subst (IsJudgmentOf (messages MESSAGE_LIMIT T) (told_message seen.dir (seen_event seen.event).verdict)) none is.message
+-- of such a frame no message is told under rules
+pub tells_no_message : (rules : List RuleValue) (T : List Entry) (e : Entry) (seen : Seen) → IsSeen rules T e seen → seen.message ≡ None
+    → under rules (told_message e.dir (verdict MESSAGE_LIMIT T e).verdict) ≡ []
+tells_no_message rules T e seen is none =
+    ap (λ d. under rules (told_message d (verdict MESSAGE_LIMIT T e).verdict)) is.event.dir
+    ∙ ap (λ (x : EventValue). under rules (told_message seen.dir x.verdict)) (sym is.event.did)
+    ∙ subst (IsJudgmentOf (messages_under rules MESSAGE_LIMIT T) (under rules (told_message seen.dir (seen_event seen.event).verdict))) none is.message
+
+-- what is judged of a frame under rules is seen by a machine of the same rules
+pub seen_under : (rules own : List RuleValue) (T : List Entry) (e : Entry) (seen : Seen) (shown : List Message) → own ≡ rules
+    → IsEventOf T e seen.line seen.micros seen.dir seen.event
+    → shown ≡ under rules (told_message seen.dir (seen_event seen.event).verdict)
+    → IsJudgmentOf (messages_under rules MESSAGE_LIMIT T) shown seen.message → IsSeen own T e seen
+seen_under rules own T e seen shown same event is judgment = record {
+  event = event;
+  message =
+      subst (λ r. IsJudgmentOf (messages_under r MESSAGE_LIMIT T) (under r (told_message seen.dir (seen_event seen.event).verdict)) seen.message) (sym same)
+      (subst (λ told. IsJudgmentOf (messages_under rules MESSAGE_LIMIT T) told seen.message) is judgment);
+}

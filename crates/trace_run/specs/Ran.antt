@@ -21,7 +21,7 @@ use Rattle.trace_log.specs.Summing.{summary_of}
 use Rattle.trace_log.specs.LinesRead.{AreLinesRead, AreReadBefore, WritesTextOfRead, WritesFrontOfRead}
 use Rattle.trace_log.specs.ReadAs.{no_line, too_long, takes_all, IsReadAs}
 use Rattle.trace_log.specs.Devices.{AgreesWith, bytes_given, ReadFrom, WroteTo}
-use Rattle.trace_log.specs.Needing.{HasFrame, IsKeptForMessage, NeedsMemoryToReceive}
+use Rattle.trace_log.specs.Needing.{HasFrame, IsKeptOrMasked, NeedsMemoryToReceive}
 use Rattle.trace_log.specs.Refusal.{announces_within, HasNoBadPlaceWithin, IsNotRefusedWithin}
 use Rattle.trace_run.specs.Script.{Command, Script}
 use Rattle.trace_run.specs.Script.{refusal_of_lines, said_and_refusal_of_lines, said_of_lines, whole_of_lines}
@@ -179,10 +179,10 @@ pub record Ran {R W A : Type 0} (source : SourceGhosts R) (target : TargetGhosts
   -- before each read what was said was written
   pub eager : (log : List ℕ) → AgreesWith source before after log → WritesSaidEagerly of.script MESSAGE_LIMIT settings log
       (bytes_given source before after) (target.taken old) (target.taken new)
-  -- memory is refused only for a log that needs it: for a message of several frames, or for a frame for which the
-  -- command needs some
+  -- memory is refused only for a log that needs it: for a message of several frames, for one that is masked, or for a
+  -- frame for which the command needs some
   pub memory : (log : List ℕ) → AgreesWith source before after log
-      → result ≡ Err Memory → HasFrame (λ T e. IsKeptForMessage MESSAGE_LIMIT T e ⊎ of.needs T e) settings log
+      → result ≡ Err Memory → HasFrame (λ T e. IsKeptOrMasked MESSAGE_LIMIT settings.rules T e ⊎ of.needs T e) settings log
   -- reading stops within one piece
   pub near : (log : List ℕ) → AgreesWith source before after log
       → ReadsWhile (StopsNothingWithin of.script.strict MESSAGE_LIMIT settings log) (bytes_given source before after)
@@ -204,6 +204,6 @@ pub record RanLenient {R W A : Type 0} (source : SourceGhosts R) (target : Targe
   -- no log is refused for an announced length, nor for the length of what would be said of it
   pub never_oversize : IfErr result (λ fault. (line announced : ℕ) → fault ≢ Oversize line announced)
   pub never_output_limit : IfErr result (λ fault. fault ≢ OutputLimit)
-  -- where the command needs no memory, it is refused only for a message of several frames
+  -- where the command needs no memory, it is refused only for a message of several frames, or for one that is masked
   pub memory : ((T : List Entry) (e : Entry) → of.needs T e → ⊥) → (log : List ℕ) → AgreesWith source before after log
       → result ≡ Err Memory → NeedsMemoryToReceive MESSAGE_LIMIT settings log

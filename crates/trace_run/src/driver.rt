@@ -29,6 +29,7 @@ pub fn run<M: Machine + Drop, R: Source, W: Target>(
     target: &mut W,
 ) -> Result<M::Answer, Fault>
     requires machine { M.stands machine [] machine }
+    requires rules { M.rules machine ≡ config.now.rules }
     requires source { HasLowCounts R.Source source.old }
     requires target { IsLowCount (W.failures target.old) }
     ensures ran { Ran R.Source W.Target
@@ -37,7 +38,7 @@ pub fn run<M: Machine + Drop, R: Source, W: Target>(
         config.now source.old target.old result source.new target.new }
 {
     let pair = Pair::new(alloc);
-    let mut receiver = Receiver::start(config, pair, Telling::start(machine));
+    let mut receiver = Receiver::start(config, pair, Telling::start(alloc, machine));
     match feed_lines(config.max_bytes(), source, &mut receiver, target) {
         Ok(ends_in_line_feed) => finish(receiver, ends_in_line_feed, target),
         Err(fault) => Err(give_up(fault, Glimpse::of(source), receiver, target)),
@@ -53,6 +54,7 @@ pub fn run_lenient<M: Machine + Drop, R: Source, W: Target>(
     target: &mut W,
 ) -> Result<M::Answer, Fault>
     requires machine { M.stands machine [] machine }
+    requires rules { M.rules machine ≡ config.now.rules }
     requires lenient { (M.script machine).strict ≡ false }
     requires has_answer { (T : List Entry) (summary : SummaryValue) → M.answers machine T summary (Err OutputLimit) → ⊥ }
     requires source { HasLowCounts R.Source source.old }

@@ -12,6 +12,7 @@
 //!     type Answer = Summary;
 //!
 //!     ghost stands = { λ start T now. ⊤ };
+//!     ghost rules = { λ start. [] };
 //!     ghost script = { λ start. dots };
 //!     ghost answers = { λ start. answers_counts };
 //!     ghost needs = { λ start. needs_none };
@@ -37,6 +38,7 @@
 //!
 //! Here `dots` is a `Script` of its own: of a frame that completed a message a dot, of another one nothing, and nothing
 //! at the end. That `event` says this is what its proof shows. The machine keeps nothing, so `stands` asks nothing of it.
+//! It knows no rules, so it is run by a configuration that has none.
 //!
 //! The machine sees no device: [`run`] (`driver`) joins the two ends, and makes each fault of theirs one of
 //! [`Fault`](trace_log::Fault).
@@ -49,6 +51,7 @@
 //! | a command, and what it is handed: [`Machine`], [`Seen`], [`Glimpse`], [`NoAnswer`] | `machine` | `Script`, `Seen` |
 //! | a run of one over a log: [`run`], [`run_lenient`] | `driver` | `Ran` |
 //! | the frames received and counted | `receiver` | `Trace`, `Summing` of `trace_log` |
+//! | the messages under rules | `ruling` | `Under` of `uds_rules` |
 //! | the messages judged, and the machine told | `telling` | `Seen` |
 //! | its text gathered for few writes | `page`, `held_text` | |
 //! | a text that is known as a whole, written by such a page: [`print`] | `printer` | `Printed` |
@@ -62,6 +65,7 @@ mod nowhere;
 mod page;
 mod printer;
 mod receiver;
+mod ruling;
 mod telling;
 
 pub use driver::{run, run_lenient};

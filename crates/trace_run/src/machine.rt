@@ -3,6 +3,7 @@ ghost use Rattle.std.specs.Prelude.{◌≡◌, List, [], ◌∷◌, ◌++◌, On
 ghost use Rattle.isotp_receive.specs.declared.TheConstants.{MESSAGE_LIMIT};
 ghost use Rattle.isotp_receive.specs.StandingReception.{receptions_after};
 ghost use Rattle.isotp_receive.specs.Trace.{Entry};
+ghost use Rattle.uds_rules.specs.Rule.{RuleValue};
 ghost use Rattle.trace_run.specs.Seen.{IsSeen};
 ghost use Rattle.trace_run.specs.Script.{GlimpseValue, RefusalText, Script, glimpse_value, says_no_refusal};
 ghost use Rattle.trace_run.specs.declared.machine.NoAnswer.{NoAnswer as NoAnswerValue};
@@ -25,6 +26,9 @@ pub trait Machine {
     /// What it is after a trace, by what it was at the start.
     ghost stands: { Self → List Entry → Self → Type 0 };
 
+    /// The rules that the messages are under which it is handed, by what it was at the start.
+    ghost rules: { Self → List RuleValue };
+
     /// What it says, by what it was at the start.
     ghost script: { Self → Script };
 
@@ -44,12 +48,12 @@ pub trait Machine {
 
     /// Takes what the next frame of the trace did. Where memory is refused, nothing is said.
     fn event<S: TextSink>(&mut self, seen: Seen<'_>, out: &mut S) -> Result<(), AllocError>
-        ensures ok { OnOk result ((machine_start : Self) (T : List Entry) (e : Entry) → IsSeen T e seen.entry
+        ensures ok { OnOk result ((machine_start : Self) (T : List Entry) (e : Entry) → IsSeen (rules machine_start) T e seen.entry
             → stands machine_start T self.old
             → stands machine_start (T ++ e ∷ []) self.new × S.says out.old ((script machine_start).of_frame T e) out.new) }
         ensures err { OnErr result ((machine_start : Self) (T : List Entry) → stands machine_start T self.old
             → S.says out.old [] out.new) }
-        ensures needs { OnErr result ((machine_start : Self) (T : List Entry) (e : Entry) → IsSeen T e seen.entry
+        ensures needs { OnErr result ((machine_start : Self) (T : List Entry) (e : Entry) → IsSeen (rules machine_start) T e seen.entry
             → stands machine_start T self.old → needs machine_start T e) };
 
     /// Takes the end of the log: the receptions that stand, and the counts.
@@ -74,7 +78,7 @@ pub trait Machine {
             → S.says out.old (refusal machine_start (glimpse_value glimpse.entry) T summary.now why) out.new };
 }
 
-/// What is seen of a frame: what it did, and the message that it completed.
+/// What is seen of a frame: what it did in the log as it is, and what rules leave of the message that it completed.
 #[derive(Clone, Copy, Debug)]
 pub struct Seen<'a> {
     /// Its line, from 1 on.
@@ -85,7 +89,7 @@ pub struct Seen<'a> {
     pub dir: Dir,
     /// What it did to the receptions.
     pub event: Event<'a>,
-    /// The message that it completed, if it completed one, with what becomes of it.
+    /// What rules leave of the message that it completed, if it completed one and they leave it, with what becomes of it.
     pub message: Option<Judged<'a>>,
 }
 

@@ -2,7 +2,6 @@
 use Rattle.std.specs.Prelude.{◌≡◌, ℕ, ◌⊎◌, Bool, true, false, List, ◌++◌, Option, Result, Ok, Err}
 use Rattle.can_log.specs.declared.frame.Stamped.{Stamped}
 use Rattle.isotp_receive.specs.declared.TheConstants.{MESSAGE_LIMIT}
-use Rattle.isotp_receive.specs.Verdict.{messages}
 use Rattle.trace_io.specs.declared.device.Target.{Ghosts as TargetGhosts}
 use Rattle.trace_log.specs.Settings.{Settings}
 use Rattle.trace_log.specs.Summing.{ends_in_line_feed, summary_of}
@@ -10,7 +9,6 @@ use Rattle.trace_log.specs.Trace.{trace}
 use Rattle.trace_log.specs.declared.fault.Fault.{Fault}
 use Rattle.trace_log.specs.declared.fault.Fault.TheVariants as fault
 use Rattle.trace_log.specs.proving.Receiving.{Receives}
-use Rattle.uds_exchange.specs.Judging.{IsJudgeOf}
 use Rattle.trace_run.specs.Script.{Command, GlimpseValue, command, refusal_of_lines, whole_of_lines}
 use Rattle.trace_run.specs.declared.machine.Machine.{Ghosts as MachineGhosts}
 use Rattle.trace_run.specs.declared.machine.NoAnswer.{NoAnswer}
@@ -18,6 +16,7 @@ use Rattle.trace_run.specs.declared.machine.NoAnswer.TheVariants as no_answer
 use Rattle.trace_run.specs.declared.page.Page.{Page}
 use Rattle.trace_run.specs.declared.receiver.Receiver.{Receiver}
 use Rattle.trace_run.specs.proving.Carrying.{Carries, blank_page}
+use Rattle.trace_run.specs.proving.Ruling.{HasJudged}
 use Rattle.trace_run.specs.proving.Telling.{Start, HasTold}
 
 module _ {W : Type 0} (target : TargetGhosts W) where
@@ -52,7 +51,7 @@ module _ {A M W : Type 0} (machine : MachineGhosts M A) (target : TargetGhosts W
   RefusesSaying why receiver old result new =
       (first : M) (settings : Settings) (meanings : List (Option Stamped))
       → Receives settings meanings receiver.pair receiver.lines receiver.counts
-      → IsJudgeOf (messages MESSAGE_LIMIT (trace settings meanings)) receiver.telling.judge
+      → HasJudged settings.rules (trace settings meanings) receiver.telling.judge receiver.telling.ruling.left_out
       → machine.stands first (trace settings meanings) receiver.telling.machine
       → SettlesWith target (refusal_of_lines (machine.refusal first glimpse) MESSAGE_LIMIT settings why meanings)
       why receiver.telling.page old result new
@@ -100,7 +99,7 @@ module _ {A M W : Type 0} (machine : MachineGhosts M A) (target : TargetGhosts W
   EndsRun receiver ended old result new =
       (start : Start M W) (settings : Settings) (log : List ℕ) (meanings : List (Option Stamped))
       → Receives settings meanings receiver.pair receiver.lines receiver.counts
-      → ended ≡ ends_in_line_feed log
+      → ended ≡ ends_in_line_feed log → machine.rules start.machine ≡ settings.rules
       → HasTold machine target start (trace settings meanings) receiver.telling old
       → EndsSaying machine target start settings log meanings result new
 

@@ -37,11 +37,12 @@ pub record HasReceived {M W : Type 0} (settings : Settings) (meanings : List (Op
   pub lines : Receives settings meanings receiver.pair receiver.lines receiver.counts
 
 module _ {A M W : Type 0} (machine : MachineGhosts M A) (target : TargetGhosts W) where
-  -- A run begins so, with these settings and with the machine `first`: nothing was received, nothing told, and the
-  -- target's count of failures leaves room for one run.
+  -- A run begins so, with these settings and with the machine `first`, whose rules are those of the settings: nothing was
+  -- received, nothing told, and the target's count of failures leaves room for one run.
   pub record IsRunStart (settings : Settings) (first : M) (begun : RunState M W) : Type 0 where
     pub config : begun.receiver.config ≡ settings
     pub nothing : IsStart begun.receiver.pair begun.receiver.lines begun.receiver.counts
+    pub ruled : machine.rules first ≡ settings.rules
     pub fresh : HasToldNothing machine first begun.receiver.telling
     pub low : target.failures begun.target ≤ 2 ^ 62
 

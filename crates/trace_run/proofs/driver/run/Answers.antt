@@ -30,10 +30,11 @@ begun g c = record {
   state = run_state (c.start-receiver.result, c.args.target.now);
   is =
       begins_with g.M.Machine g.W.Target c.args.config.now c.args.machine c.start.result c.start-receiver.result c.args.target.now
-      c.start-receiver.ensures (record {
+      c.start-receiver.ensures c.requires.rules (record {
         machine_is = c.start.ensures.machine;
         stands_at_start = c.requires.machine;
         judged = c.start.ensures.judged;
+        none_left_out = c.start.ensures.none_left_out;
         well = c.start.ensures.well;
         blank = c.start.ensures.blank;
       }) c.requires.target;
@@ -103,7 +104,7 @@ ends : (g : Over) (c : After-finish g) (log : List ℕ) (meanings : List (Option
     → EndsSaying g.M.Machine g.W.Target (start_with c.args.machine c.args.target.now) c.args.config.now log meanings c.finish.result c.finish.new.target
 ends g c log meanings feed taken =
     let so_far = taken c.args.config.now c.args.machine (begun g ((goal.at.returns-in-Ok g c).After-start-receiver)).is in
-    c.finish.ensures.ends (start_with c.args.machine c.args.target.now) c.args.config.now log meanings so_far.0.lines feed so_far.1
+    c.finish.ensures.ends (start_with c.args.machine c.args.target.now) c.args.config.now log meanings so_far.0.lines feed c.requires.rules so_far.1
 
 pub returns-in-Ok : goal.returns-in-Ok
 returns-in-Ok g c =

@@ -6,7 +6,7 @@ use Rattle.isotp_receive.specs.Trace.{Entry}
 use Rattle.isotp_receive.specs.Verdict.{verdict}
 use Rattle.isotp_receive.specs.StandingReception.{receptions_after}
 use Rattle.trace_run.specs.proving.Telling.{start_with, HasStopped, HasTold}
-use Rattle.trace_log.specs.Settings.{direction_of}
+use Rattle.trace_log.specs.Settings.{Settings, direction_of}
 use Rattle.trace_log.specs.Trace.{trace}
 use Rattle.trace_log.specs.Summing.{counted_more}
 use Rattle.trace_log.specs.proving.Receiving.{entry_at, entry_in}
@@ -71,7 +71,7 @@ returns-clause-ok g c =
       },
       subst (λ U. HasTold g.M.Machine g.W.Target begins U now.telling c.receive.new.target) (sym next)
           (subst (λ (e : Entry). HasTold g.M.Machine g.W.Target begins (T ++ e ∷ []) now.telling c.receive.new.target) here
-          (taken T so_far.0.lines.pair_is (omega arith) begins so_far.1)),
+          (taken T so_far.0.lines.pair_is (omega arith) begins (begun.ruled ∙ ap (λ (s : Settings). s.rules) (sym so_far.0.config)) so_far.1)),
     )) c.receive.ensures.pair c.receive.ensures.grew c.receive.ensures.counts
     (on_ok_of_each _ _ _ c.receive.result (λ T stands few. (c.receive.ensures.told T stands few).ok))
 
@@ -96,7 +96,7 @@ returns-clause-err g c =
           ∙ ap (λ s. direction_of s stamped.frame.id) so_far.0.config;
       stopped =
           subst (λ (e : Entry). HasStopped g.M.Machine g.W.Target begins T e fault c.receive.new.self.telling c.receive.new.target) here
-          (stops T so_far.0.lines.pair_is (omega arith) begins so_far.1);
+          (stops T so_far.0.lines.pair_is (omega arith) begins (begun.ruled ∙ ap (λ (s : Settings). s.rules) (sym so_far.0.config)) so_far.1);
     }) (if_err_of_each _ _ _ c.receive.result (λ T stands few. (c.receive.ensures.told T stands few).err))
 
 pub returns-clause-kept : goal.returns-clause-kept
@@ -104,4 +104,4 @@ returns-clause-kept g c = λ start meanings earlier number few took sure setting
     let so_far = took settings first begun in
     let frames = few_frames settings meanings in
     (c.receive.ensures.told (trace settings meanings) so_far.0.lines.pair_is (omega arith)).kept (start_with first start.1)
-    (trace settings earlier) so_far.1 (sure settings first begun)
+    (trace settings earlier) (begun.ruled ∙ ap (λ (s : Settings). s.rules) (sym so_far.0.config)) so_far.1 (sure settings first begun)

@@ -1,11 +1,16 @@
--- The message is judged; then the run stops for its length, or the machine says its text, or is refused memory.
-use Rattle.std.proofs.Common.{◌<◌, ◌^◌, length, ◌++◌, [], ◌≡◌, arith, sym, subst, ◌∙◌, None, Some}
+-- The run stops for the length that the frame announces; or rules make of its message what they make, or are refused memory
+-- for it; then it is judged, and the machine says its text, or is refused memory.
+use Rattle.std.proofs.Common.{◌++◌, ◌+◌, [], ◌≡◌, ap, sym, subst, ◌∙◌, None, Some, inl, inr}
 use Rattle.isotp_receive.specs.declared.TheConstants.{MESSAGE_LIMIT}
 use Rattle.isotp_receive.specs.EventSeen.{seen_event}
-use Rattle.isotp_receive.specs.Verdict.{messages}
-use Rattle.isotp_receive.proofs.Promises.{messages_are_few}
+use Rattle.isotp_receive.specs.Verdict.{EventValue}
+use Rattle.trace_log.specs.Messages.{messages_under}
+use Rattle.uds_rules.specs.Rule.{is_masked}
+use Rattle.uds_rules.specs.Under.{left_out, under}
+use Rattle.trace_run.specs.proving.Ruling.{HasJudged}
 use Rattle.trace_run.specs.proving.Telling.{oversize_for}
-use Rattle.trace_run.proofs.ToldFrames.{tells_next, stops_at}
+use Rattle.trace_run.proofs.SeenMessages.{few_left_out, few_under, seen_under}
+use Rattle.trace_run.proofs.ToldFrames.{tells_next, stops_at, told_as}
 use Rattle.trace_run.proofs.StoppedLines.{stopped_for, not_stopped_for}
 use Rattle.trace_run.proofs.telling.Telling.take.Goals as goal
 
@@ -14,35 +19,73 @@ returns-in-Some-clause-told g c = λ T e seen.
     let M = g.M.Machine in
     record {
       ok = tt;
-      err = λ start tells.
+      err = λ start ruled tells.
           let script = M.script start.machine in
           let strict = c.is_strict.ensures start.machine T tells.machine_stands in
           let why = stopped_for script.strict T e (seen_event c.args.frame.event) c.in-Some.announced seen.did
           (subst (λ b. oversize_for b (seen_event c.args.frame.event).verdict ≡ Some c.in-Some.announced) strict
           (sym c.oversize_for.ensures ∙ c.in-Some.is)) in
           record { within = tells.within; reason = (why.0, sym seen.line, why.1); carried = tells.carried };
-      kept = λ start earlier tells sure.
+      kept = λ start earlier ruled tells sure.
           record { within = sure.within; mid = sure.mid; said = sure.said; wrote = sure.wrote; carried = sure.carried };
     }
 
-pub returns-in-Ok-clause-told : goal.returns-in-Ok-clause-told
-returns-in-Ok-clause-told g c = λ T e seen.
+pub returns-in-Err-clause-told : goal.returns-in-Err-clause-told
+returns-in-Err-clause-told g c = λ T e seen.
     let M = g.M.Machine in
-    let few : length (messages MESSAGE_LIMIT T) < 2 ^ 62 = omega (arith, messages_are_few MESSAGE_LIMIT T, seen.few) in
     record {
-      ok = λ start tells.
+      ok = tt;
+      err = λ start ruled tells.
           let script = M.script start.machine in
           let strict = c.is_strict.ensures start.machine T tells.machine_stands in
-          let said = c.in-Ok.ensures.ok start.machine T e
-          (record { event = seen; message = c.judged_message-message.ensures.judged (messages MESSAGE_LIMIT T) few tells.judged.counted }) tells.machine_stands in
-          tells_next M g.W.Target start T e c.args.frame.dir (seen_event c.args.frame.event) seen.dir seen.did
-          _ _ _ _ tells (c.judged_message-message.ensures.next (messages MESSAGE_LIMIT T) few tells.judged) said.0
-          (not_stopped_for script.strict T e (seen_event c.args.frame.event) seen.did
-          (subst (λ b. oversize_for b (seen_event c.args.frame.event).verdict ≡ None) strict (sym c.oversize_for.ensures ∙ c.in-None.is))) said.1;
+          let masked = c.in-Err.ensures.err in
+          let one = not_stopped_for script.strict T e (seen_event c.args.frame.event) seen.did
+          (subst (λ b. oversize_for b (seen_event c.args.frame.event).verdict ≡ None) strict (sym c.oversize_for.ensures ∙ c.in-None.is)) in
+          record {
+            within = tells.within;
+            reason = (
+              one,
+              inl (inr (
+                masked.0,
+                sym (ap (λ (x : EventValue). x.verdict) seen.did) ∙ masked.1,
+                ap (λ rules. is_masked rules masked.0) ruled ∙ masked.2,
+              )),
+            );
+            carried = tells.carried;
+          };
+      kept = λ start earlier ruled tells sure.
+          record { within = sure.within; mid = sure.mid; said = sure.said; wrote = sure.wrote; carried = sure.carried };
+    }
+
+pub returns-in-Ok-tell-clause-told : goal.returns-in-Ok-tell-clause-told
+returns-in-Ok-tell-clause-told g c = λ T e seen.
+    let M = g.M.Machine in
+    let rules = c.args.config.now.rules in
+    let d = c.args.frame.dir in
+    let event = seen_event c.args.frame.event in
+    let few = few_under rules T seen.few in
+    let shown = c.shown-shown.ensures rules d c.in-Ok.ensures.ok in
+    let told = told_as T e d event seen.dir seen.did in
+    record {
+      ok = λ start ruled tells.
+          let script = M.script start.machine in
+          let strict = c.is_strict.ensures start.machine T tells.machine_stands in
+          let judged = subst (λ r. HasJudged r T c.args.self.now.judge c.args.self.now.ruling.left_out) ruled tells.judged in
+          let said = c.in-Ok-tell.ensures.ok start.machine T e
+          (seen_under rules (M.rules start.machine) T e _ _ ruled seen shown
+          (c.judged_message-message.ensures.judged (messages_under rules MESSAGE_LIMIT T) few judged.judged.counted)) tells.machine_stands in
+          tells_next M g.W.Target start T e rules _ ruled (shown ∙ ap (under rules) told) _ _ _ _ tells
+          (c.judged_message-message.ensures.next (messages_under rules MESSAGE_LIMIT T) few judged.judged)
+          (c.in-Ok.ensures.counted d (few_left_out rules T _ seen.few judged.counted)
+          ∙ ap (λ l. c.args.self.now.ruling.left_out + left_out rules l) told) said.0
+          (not_stopped_for script.strict T e event seen.did
+          (subst (λ b. oversize_for b event.verdict ≡ None) strict (sym c.oversize_for.ensures ∙ c.in-None.is))) said.1;
       err = tt;
-      kept = λ start earlier tells sure.
-          let said = c.in-Ok.ensures.ok start.machine T e
-          (record { event = seen; message = c.judged_message-message.ensures.judged (messages MESSAGE_LIMIT T) few tells.judged.counted }) tells.machine_stands in
+      kept = λ start earlier ruled tells sure.
+          let judged = subst (λ r. HasJudged r T c.args.self.now.judge c.args.self.now.ruling.left_out) ruled tells.judged in
+          let said = c.in-Ok-tell.ensures.ok start.machine T e
+          (seen_under rules (M.rules start.machine) T e _ _ ruled seen shown
+          (c.judged_message-message.ensures.judged (messages_under rules MESSAGE_LIMIT T) few judged.judged.counted)) tells.machine_stands in
           record {
             within = sure.within;
             mid = sure.mid;
@@ -52,22 +95,27 @@ returns-in-Ok-clause-told g c = λ T e seen.
           };
     }
 
-pub returns-in-Err-clause-told : goal.returns-in-Err-clause-told
-returns-in-Err-clause-told g c = λ T e seen.
+pub returns-in-Err-tell-clause-told : goal.returns-in-Err-tell-clause-told
+returns-in-Err-tell-clause-told g c = λ T e seen.
     let M = g.M.Machine in
-    let few : length (messages MESSAGE_LIMIT T) < 2 ^ 62 = omega (arith, messages_are_few MESSAGE_LIMIT T, seen.few) in
+    let rules = c.args.config.now.rules in
+    let event = seen_event c.args.frame.event in
+    let few = few_under rules T seen.few in
+    let shown = c.shown-shown.ensures rules c.args.frame.dir c.in-Ok.ensures.ok in
     record {
       ok = tt;
-      err = λ start tells.
+      err = λ start ruled tells.
           let script = M.script start.machine in
           let strict = c.is_strict.ensures start.machine T tells.machine_stands in
-          let needs = c.in-Err.ensures.needs start.machine T e
-          (record { event = seen; message = c.judged_message-message.ensures.judged (messages MESSAGE_LIMIT T) few tells.judged.counted }) tells.machine_stands in
+          let judged = subst (λ r. HasJudged r T c.args.self.now.judge c.args.self.now.ruling.left_out) ruled tells.judged in
+          let needs = c.in-Err-tell.ensures.needs start.machine T e
+          (seen_under rules (M.rules start.machine) T e _ _ ruled seen shown
+          (c.judged_message-message.ensures.judged (messages_under rules MESSAGE_LIMIT T) few judged.judged.counted)) tells.machine_stands in
           stops_at M g.W.Target start T e _ _ _ _ tells
-          (not_stopped_for script.strict T e (seen_event c.args.frame.event) seen.did
-          (subst (λ b. oversize_for b (seen_event c.args.frame.event).verdict ≡ None) strict (sym c.oversize_for.ensures ∙ c.in-None.is)))
-          needs (c.in-Err.ensures.err start.machine T tells.machine_stands);
-      kept = λ start earlier tells sure.
-          let said = c.in-Err.ensures.err start.machine T tells.machine_stands in
+          (not_stopped_for script.strict T e event seen.did
+          (subst (λ b. oversize_for b event.verdict ≡ None) strict (sym c.oversize_for.ensures ∙ c.in-None.is)))
+          needs (c.in-Err-tell.ensures.err start.machine T tells.machine_stands);
+      kept = λ start earlier ruled tells sure.
+          let said = c.in-Err-tell.ensures.err start.machine T tells.machine_stands in
           record { within = sure.within; mid = sure.mid; said = sure.said ++ []; wrote = sure.wrote; carried = said sure.mid sure.said sure.carried };
     }
