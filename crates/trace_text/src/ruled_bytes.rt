@@ -1,5 +1,5 @@
 //! The bytes of a message that rules have left, as a part of a text.
-ghost use Rattle.trace_text.specs.RuledText.{masked_text};
+ghost use Rattle.trace_text.specs.RuledText.{masked_text, ruled_text};
 
 use crate::bytes::{Byte, HexBytes};
 use text_parts::{Either, Part, When, say};
@@ -19,14 +19,28 @@ impl<'a> Part for RuledBytes<'a> {
 
     ghost text = { λ ruled. ruled_text ruled.rules.now ruled.message.now };
 
+    #[inline(always)]
     fn say<S: TextSink>(self, out: &mut S) {
-        match self.rules.mask_of(self.message) {
-            Some((mask, start)) => {
-                say(out, HexBytes(&self.message[..start]));
-                say_masked(out, mask, &self.message[start..]);
-            }
-            None => say(out, HexBytes(self.message)),
+        if self.rules.is_empty() {
+            say(out, HexBytes(self.message));
+        } else {
+            say_ruled(out, self.rules, self.message);
         }
+    }
+}
+
+/// Says the bytes of a message that these rules have left. It is a call of its own, so that what texts without rules do
+/// without is not in line.
+#[inline(never)]
+fn say_ruled<S: TextSink>(out: &mut S, rules: &Rules, message: &[u8])
+    ensures { S.says out.old (ruled_text rules.now message.now) out.new }
+{
+    match rules.mask_of(message) {
+        Some((mask, start)) => {
+            say(out, HexBytes(&message[..start]));
+            say_masked(out, mask, &message[start..]);
+        }
+        None => say(out, HexBytes(message)),
     }
 }
 
