@@ -4,14 +4,16 @@ use Rattle.direction.specs.Dir.{Message}
 use Rattle.trace_log.specs.CanonicalLog.{canonical_log, log_of_frames, canonical_log_of_lines, early_text, fitting}
 use Rattle.trace_log.specs.Laws.{IsCanonicalFor, Records, Certifies}
 use Rattle.trace_log.specs.Settings.{AreSettings, Settings}
-use Rattle.trace_log.proofs.Promises.{all_begin, written_is_canonical, written_of_recording, answer_certifies, messages_more, all_frames-append, fitting_frames, fitting_log_begins}
+use Rattle.trace_log.proofs.Promises.{all_begin, written_is_canonical, written_of_recording, answer_certifies, messages_under_more, all_frames-append, fitting_frames, fitting_log_begins}
 use Rattle.std.proofs.Common.{arith, ◌+◌, ◌≡◌, Bool, true, false, refl, subst, Option, Ok, Err, ◌≤◌, ◌<◌, ℕ, List, [], ◌∷◌, ◌++◌, length, drop, ap, sym, ◌∙◌, append-nil, append_assoc, length-append, Result, inl, inr}
 use Rattle.std.proofs.Math.Seq.{drop-append_seam}
 use Rattle.std.proofs.lemmas.Bool.{le-leb, lt-leb, leb-true, leb-false}
 use Rattle.can_log.specs.declared.frame.Stamped.{Stamped}
 use Rattle.isotp_receive.specs.declared.TheConstants.{MESSAGE_LIMIT}
 use Rattle.isotp_receive.specs.Trace.{Entry}
-use Rattle.isotp_receive.specs.Verdict.{messages, told_message, verdict}
+use Rattle.isotp_receive.specs.Verdict.{told_message, verdict}
+use Rattle.uds_rules.specs.Under.{under}
+use Rattle.trace_log.specs.Messages.{messages_under}
 use Rattle.isotp_segment.specs.Timed.{all_frames}
 use Rattle.uds_exchange.specs.Order.{early, held}
 use Rattle.uds_exchange.specs.Orderer.{JudgedOrdererValue}
@@ -50,12 +52,12 @@ some_of few many some within = omega (arith, some, within)
 
 module _ (settings : Settings) where
   one_more : (T : List Entry) (e : Entry)
-      → text_of_early settings T ++ lines_due settings (messages MESSAGE_LIMIT T) (messages MESSAGE_LIMIT (T ++ e ∷ [])) ≡ text_of_early settings (T ++ e ∷ [])
+      → text_of_early settings T ++ lines_due settings (messages_under settings.rules MESSAGE_LIMIT T) (messages_under settings.rules MESSAGE_LIMIT (T ++ e ∷ [])) ≡ text_of_early settings (T ++ e ∷ [])
   one_more T e =
-      let M = messages MESSAGE_LIMIT T in
-      let grows = early_grows M (told_message e.dir (verdict MESSAGE_LIMIT T e).verdict) in
-      let longer : early (messages MESSAGE_LIMIT (T ++ e ∷ [])) ≡ early M ++ grows.0 = ap early (messages_more MESSAGE_LIMIT T e) ∙ grows.1 in
-      let left : drop (length (early M)) (early (messages MESSAGE_LIMIT (T ++ e ∷ []))) ≡ grows.0 = ap (drop (length (early M))) longer ∙ drop-append_seam (early M) grows.0 in
+      let M = messages_under settings.rules MESSAGE_LIMIT T in
+      let grows = early_grows M (under settings.rules (told_message e.dir (verdict MESSAGE_LIMIT T e).verdict)) in
+      let longer : early (messages_under settings.rules MESSAGE_LIMIT (T ++ e ∷ [])) ≡ early M ++ grows.0 = ap early (messages_under_more settings.rules MESSAGE_LIMIT T e) ∙ grows.1 in
+      let left : drop (length (early M)) (early (messages_under settings.rules MESSAGE_LIMIT (T ++ e ∷ []))) ≡ grows.0 = ap (drop (length (early M))) longer ∙ drop-append_seam (early M) grows.0 in
       let begin = start_of settings.max_bytes in
       ap (λ due. text_of_early settings T ++ text_from settings (progress_behind settings (early M)) (all_frames MESSAGE_LIMIT due)) left
       ∙ sym (text_append settings begin (all_frames MESSAGE_LIMIT (early M)) (all_frames MESSAGE_LIMIT grows.0))
@@ -65,7 +67,7 @@ module _ (settings : Settings) where
   from_there : (past xs : List Entry) → text_of_early settings past ++ said_after ((canonical_script settings).of_frame) past xs ≡ text_of_early settings (past ++ xs)
   from_there past [] = append-nil (text_of_early settings past) ∙ ap (text_of_early settings) (sym (append-nil past))
   from_there past (e ∷ rest) =
-      let due = lines_due settings (messages MESSAGE_LIMIT past) (messages MESSAGE_LIMIT (past ++ e ∷ [])) in
+      let due = lines_due settings (messages_under settings.rules MESSAGE_LIMIT past) (messages_under settings.rules MESSAGE_LIMIT (past ++ e ∷ [])) in
       let later = said_after ((canonical_script settings).of_frame) (past ++ e ∷ []) rest in
       sym (append_assoc (text_of_early settings past) due later) ∙ ap (λ x. x ++ later) (one_more past e) ∙ from_there (past ++ e ∷ []) rest
       ∙ ap (text_of_early settings) (append_assoc past (e ∷ []) rest)
@@ -108,30 +110,30 @@ said_whole settings put fits = by ((progress_behind settings put).is_full) refl
     by false within = (whole_when settings put within).1
 
 module _ (settings config : Settings) (T : List Entry) (orderer : JudgedOrdererValue) (progress after : ProgressValue) (stands : StandsCanonical settings T orderer config progress)
-    (at : after ≡ progress_after config progress (all_frames MESSAGE_LIMIT (held (messages MESSAGE_LIMIT T)))) where
+    (at : after ≡ progress_after config progress (all_frames MESSAGE_LIMIT (held (messages_under settings.rules MESSAGE_LIMIT T)))) where
   -- whether a line did not fit, at the end
-  full_at_end : after.is_full ≡ (progress_behind settings (flattened (meaning (messages MESSAGE_LIMIT T)))).is_full
+  full_at_end : after.is_full ≡ (progress_behind settings (flattened (meaning (messages_under settings.rules MESSAGE_LIMIT T)))).is_full
   full_at_end =
-      let frames = all_frames MESSAGE_LIMIT (held (messages MESSAGE_LIMIT T)) in
+      let frames = all_frames MESSAGE_LIMIT (held (messages_under settings.rules MESSAGE_LIMIT T)) in
       ap (λ (p : ProgressValue). p.is_full)
-      (at ∙ ap (λ s. progress_after s progress frames) stands.same ∙ ap (λ p. progress_after settings p frames) stands.at ∙ progress_at_end settings (messages MESSAGE_LIMIT T))
+      (at ∙ ap (λ s. progress_after s progress frames) stands.same ∙ ap (λ p. progress_after settings p frames) stands.at ∙ progress_at_end settings (messages_under settings.rules MESSAGE_LIMIT T))
 
   -- one did not: the canonical log is too long
-  pub over_at_end : after.is_full ≡ true → fits_within settings (meaning (messages MESSAGE_LIMIT T)) ≡ false
-  over_at_end full = lt-leb _ settings.max_bytes (long_when settings (flattened (meaning (messages MESSAGE_LIMIT T))) (sym full_at_end ∙ full))
+  pub over_at_end : after.is_full ≡ true → fits_within settings (meaning (messages_under settings.rules MESSAGE_LIMIT T)) ≡ false
+  over_at_end full = lt-leb _ settings.max_bytes (long_when settings (flattened (meaning (messages_under settings.rules MESSAGE_LIMIT T))) (sym full_at_end ∙ full))
 
   -- all did: it is not
-  pub within_at_end : after.is_full ≡ false → fits_within settings (meaning (messages MESSAGE_LIMIT T)) ≡ true
-  within_at_end room = le-leb _ settings.max_bytes (whole_when settings (flattened (meaning (messages MESSAGE_LIMIT T))) (sym full_at_end ∙ room)).0
+  pub within_at_end : after.is_full ≡ false → fits_within settings (meaning (messages_under settings.rules MESSAGE_LIMIT T)) ≡ true
+  within_at_end room = le-leb _ settings.max_bytes (whole_when settings (flattened (meaning (messages_under settings.rules MESSAGE_LIMIT T))) (sym full_at_end ∙ room)).0
 
 module _ (settings : Settings) where
   early_is : (meanings : List (Option Stamped)) → said_of_lines (canonical_script settings) settings meanings ≡ early_text MESSAGE_LIMIT settings meanings
-  early_is meanings = canonical_says_early settings (trace settings meanings) ∙ said_fits settings (early (messages MESSAGE_LIMIT (trace settings meanings)))
+  early_is meanings = canonical_says_early settings (trace settings meanings) ∙ said_fits settings (early (messages_under settings.rules MESSAGE_LIMIT (trace settings meanings)))
 
   whole_said : (log : List ℕ) (meanings : List (Option Stamped)) → whole_of_lines (canonical_script settings) MESSAGE_LIMIT settings log meanings
-      ≡ text_from settings (start_of settings.max_bytes) (all_frames MESSAGE_LIMIT (flattened (meaning (messages MESSAGE_LIMIT (trace settings meanings)))))
+      ≡ text_from settings (start_of settings.max_bytes) (all_frames MESSAGE_LIMIT (flattened (meaning (messages_under settings.rules MESSAGE_LIMIT (trace settings meanings)))))
   whole_said log meanings =
-      let M = messages MESSAGE_LIMIT (trace settings meanings) in
+      let M = messages_under settings.rules MESSAGE_LIMIT (trace settings meanings) in
       let begin = start_of settings.max_bytes in
       ap (λ x. x ++ text_from settings (progress_behind settings (early M)) (all_frames MESSAGE_LIMIT (held M))) (canonical_says_early settings (trace settings meanings))
       ∙ sym (text_append settings begin (all_frames MESSAGE_LIMIT (early M)) (all_frames MESSAGE_LIMIT (held M)))
@@ -139,7 +141,7 @@ module _ (settings : Settings) where
       ∙ ap (λ x. text_from settings begin (all_frames MESSAGE_LIMIT x)) (early_then_held M)
 
   whole_is : (log : List ℕ) (meanings : List (Option Stamped)) → whole_of_lines (canonical_script settings) MESSAGE_LIMIT settings log meanings ≡ fitting settings (canonical_log_of_lines MESSAGE_LIMIT settings meanings)
-  whole_is log meanings = whole_said log meanings ∙ said_fits settings (flattened (meaning (messages MESSAGE_LIMIT (trace settings meanings))))
+  whole_is log meanings = whole_said log meanings ∙ said_fits settings (flattened (meaning (messages_under settings.rules MESSAGE_LIMIT (trace settings meanings))))
 
   texts : said_of_lines (canonical_script settings) settings ≡ early_text MESSAGE_LIMIT settings
   texts = λ i meanings. early_is meanings i
@@ -159,7 +161,7 @@ module _ (settings : Settings) where
 
     writes_front : (why : Fault) → WritesFrontOfWhole (canonical_script settings) MESSAGE_LIMIT settings log given why old new → WritesFront MESSAGE_LIMIT settings log given why old new
     writes_front why wrote =
-        let begins = fitting_log_begins MESSAGE_LIMIT settings (flattened (meaning (messages MESSAGE_LIMIT (trace settings wrote.meanings)))) in
+        let begins = fitting_log_begins MESSAGE_LIMIT settings (flattened (meaning (messages_under settings.rules MESSAGE_LIMIT (trace settings wrote.meanings)))) in
         record {
           meanings = wrote.meanings;
           read = wrote.read;
@@ -173,7 +175,7 @@ module _ (settings : Settings) where
     said_within : (meanings : List (Option Stamped)) → length (said_of_lines (canonical_script settings) settings meanings) ≤ length (canonical_log_of_lines MESSAGE_LIMIT settings meanings)
     said_within meanings =
         let script = canonical_script settings in
-        let begins = fitting_log_begins MESSAGE_LIMIT settings (flattened (meaning (messages MESSAGE_LIMIT (trace settings meanings)))) in
+        let begins = fitting_log_begins MESSAGE_LIMIT settings (flattened (meaning (messages_under settings.rules MESSAGE_LIMIT (trace settings meanings)))) in
         no_longer (whole_of_lines script MESSAGE_LIMIT settings log meanings) (said_of_lines script settings meanings)
         (script.at_the_end (trace settings meanings) (summary_of MESSAGE_LIMIT settings log meanings)) (canonical_log_of_lines MESSAGE_LIMIT settings meanings) _ begins.0 refl (whole_is log meanings) begins.1
 
@@ -181,7 +183,7 @@ module _ (settings : Settings) where
         → length (whole_of_lines (canonical_script settings) MESSAGE_LIMIT settings log meanings) ≤ length (canonical_log_of_lines MESSAGE_LIMIT settings meanings)
     whole_within meanings =
         let whole = whole_of_lines (canonical_script settings) MESSAGE_LIMIT settings log meanings in
-        let begins = fitting_log_begins MESSAGE_LIMIT settings (flattened (meaning (messages MESSAGE_LIMIT (trace settings meanings)))) in
+        let begins = fitting_log_begins MESSAGE_LIMIT settings (flattened (meaning (messages_under settings.rules MESSAGE_LIMIT (trace settings meanings)))) in
         no_longer whole whole [] (canonical_log_of_lines MESSAGE_LIMIT settings meanings) _ begins.0 (sym (append-nil whole)) (whole_is log meanings) begins.1
 
     canonical_some : FailsToWrite (canonical_command settings) MESSAGE_LIMIT settings log given old new → HasTextOf (canonical_log_of_lines MESSAGE_LIMIT settings) log
@@ -203,9 +205,9 @@ module _ (settings : Settings) where
 
     ends_well : (summary : Summary) → EndsWith (canonical_command settings) MESSAGE_LIMIT settings log given (Ok summary) old new
         → Answers MESSAGE_LIMIT settings log given (Ok summary) old new
-    ends_well summary (all, meanings, read, answer, wrote) = by (fits_within settings (meaning (messages MESSAGE_LIMIT (trace settings meanings)))) refl
+    ends_well summary (all, meanings, read, answer, wrote) = by (fits_within settings (meaning (messages_under settings.rules MESSAGE_LIMIT (trace settings meanings)))) refl
       where
-        by : (b : Bool) → fits_within settings (meaning (messages MESSAGE_LIMIT (trace settings meanings))) ≡ b → Answers MESSAGE_LIMIT settings log given (Ok summary) old new
+        by : (b : Bool) → fits_within settings (meaning (messages_under settings.rules MESSAGE_LIMIT (trace settings meanings))) ≡ b → Answers MESSAGE_LIMIT settings log given (Ok summary) old new
         by false is =
             let same : Ok summary ≡ Err no_answer.OutputLimit =
             answer ∙ ap (λ (b : Bool). if b then Ok (summary_of MESSAGE_LIMIT settings log meanings) else Err no_answer.OutputLimit) is in
@@ -217,13 +219,13 @@ module _ (settings : Settings) where
             let fits = leb-true _ _ is in
             subst (λ s. Answers MESSAGE_LIMIT settings log given (Ok s) old new) (sym counted)
             (answers_accepted MESSAGE_LIMIT settings log given meanings old new read fits
-            (wrote ∙ ap (λ x. old ++ x) (whole_said log meanings ∙ said_whole settings (flattened (meaning (messages MESSAGE_LIMIT (trace settings meanings)))) fits)))
+            (wrote ∙ ap (λ x. old ++ x) (whole_said log meanings ∙ said_whole settings (flattened (meaning (messages_under settings.rules MESSAGE_LIMIT (trace settings meanings)))) fits)))
 
     ends_over : EndsWith (canonical_command settings) MESSAGE_LIMIT settings log given (Err no_answer.OutputLimit) old new
         → Answers MESSAGE_LIMIT settings log given (Err OutputLimit) old new
-    ends_over (all, meanings, read, answer, wrote) = by (fits_within settings (meaning (messages MESSAGE_LIMIT (trace settings meanings)))) refl
+    ends_over (all, meanings, read, answer, wrote) = by (fits_within settings (meaning (messages_under settings.rules MESSAGE_LIMIT (trace settings meanings)))) refl
       where
-        by : (b : Bool) → fits_within settings (meaning (messages MESSAGE_LIMIT (trace settings meanings))) ≡ b → Answers MESSAGE_LIMIT settings log given (Err OutputLimit) old new
+        by : (b : Bool) → fits_within settings (meaning (messages_under settings.rules MESSAGE_LIMIT (trace settings meanings))) ≡ b → Answers MESSAGE_LIMIT settings log given (Err OutputLimit) old new
         by true is =
             let same : Err no_answer.OutputLimit ≡ Ok (summary_of MESSAGE_LIMIT settings log meanings) =
             answer ∙ ap (λ (b : Bool). if b then Ok (summary_of MESSAGE_LIMIT settings log meanings) else Err no_answer.OutputLimit) is in
@@ -263,10 +265,10 @@ canonical_again settings log given (Ok summary) old new are answers = λ text wr
     written_is_canonical MESSAGE_LIMIT settings log given old new text summary (record { least = omega arith; most = omega arith }) are answers wrote
 canonical_again settings log given (Err why) old new are answers = tt
 
--- for a recording of messages the canonical log of their meaning was written
+-- for a recording of messages the canonical log of their meaning under the rules was written
 pub recording_again : (settings : Settings) (log : List ℕ) (given : ℕ) (result : Result Summary Fault) (old new : List ℕ)
     → Answers MESSAGE_LIMIT settings log given result old new
-    → OnOk result ((M : List Message) → Records MESSAGE_LIMIT settings log M → new ≡ old ++ canonical_log MESSAGE_LIMIT settings (flattened (meaning M)))
+    → OnOk result ((M : List Message) → Records MESSAGE_LIMIT settings log M → new ≡ old ++ canonical_log MESSAGE_LIMIT settings (flattened (meaning (under settings.rules M))))
 recording_again settings log given (Ok summary) old new answers = λ M records.
     written_of_recording MESSAGE_LIMIT settings log given old new summary M answers records
 recording_again settings log given (Err why) old new answers = tt

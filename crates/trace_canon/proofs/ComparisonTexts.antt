@@ -5,6 +5,7 @@ use Rattle.uds_exchange.specs.Meaning.{ItemValue}
 use Rattle.trace_canon.specs.declared.comparer.Comparison.{Comparison}
 use Rattle.trace_canon.specs.declared.comparer.Comparison.TheVariants.{Different}
 use Rattle.trace_canon.specs.ComparisonText.{comparison_lines, different_members, shown_lines}
+use Rattle.uds_rules.specs.Rule.{RuleValue}
 use Rattle.trace_text.specs.Json.{Value, nothing, member, object_line, value_text}
 use Rattle.trace_text.proofs.Promises.{line_is, value_is}
 
@@ -13,14 +14,14 @@ abbrev pub different_line : ℕ → List ℕ
 different_line index = codes "different at item " ++ (decimal (index + 1) ++ codes "\n")
 
 -- it is all that is written where the items are not shown
-pub different_is : (shows : Bool) (comparison : Comparison) (index : ℕ) (left right : List ItemValue) → comparison ≡ Different index → shows ≡ false
-    → different_line index ≡ comparison_lines shows comparison left right
-different_is shows comparison index left right is hidden = rw (is, hidden) (sym (append-nil (different_line index)))
+pub different_is : (rules : List RuleValue) (shows : Bool) (comparison : Comparison) (index : ℕ) (left right : List ItemValue) → comparison ≡ Different index → shows ≡ false
+    → different_line index ≡ comparison_lines rules shows comparison left right
+different_is rules shows comparison index left right is hidden = rw (is, hidden) (sym (append-nil (different_line index)))
 
 -- and else they follow
-pub shown_is : (shows : Bool) (comparison : Comparison) (index : ℕ) (left right : List ItemValue) → comparison ≡ Different index → shows ≡ true
-    → different_line index ++ shown_lines index left right ≡ comparison_lines shows comparison left right
-shown_is shows comparison index left right is shown = rw (is, shown) refl
+pub shown_is : (rules : List RuleValue) (shows : Bool) (comparison : Comparison) (index : ℕ) (left right : List ItemValue) → comparison ≡ Different index → shows ≡ true
+    → different_line index ++ shown_lines rules index left right ≡ comparison_lines rules shows comparison left right
+shown_is rules shows comparison index left right is shown = rw (is, shown) refl
 
 -- what stands before the values of both sides in the object of two logs that differ
 abbrev pub front_of_object : ℕ → List ℕ

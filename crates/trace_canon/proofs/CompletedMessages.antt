@@ -9,6 +9,7 @@ use Rattle.isotp_receive.specs.Trace.{Entry}
 use Rattle.isotp_receive.specs.Verdict.{VerdictValue, message, began, stored, flowed, dropped, messages, told_message, verdict}
 use Rattle.uds_exchange.specs.Meaning.{ItemValue, meaning}
 use Rattle.trace_log.proofs.Promises.{messages_more, trace_next, trace_same_blank, trace_same_foreign}
+use Rattle.uds_rules.specs.Under.{under}
 use Rattle.trace_log.specs.Messages.{HasMeaning}
 use Rattle.trace_log.specs.Settings.{Settings, direction_of}
 use Rattle.trace_log.specs.Trace.{trace, trace_from}
@@ -75,4 +76,4 @@ module _ (limit : ℕ) (settings : Settings) where
     -- memory is needed to collect the items of a log that has one
     pub collects_where_items : (items : List ItemValue) → HasMeaning limit settings log items → items ≢ [] → Needs
     unfolding trace_from
-    collects_where_items items has some = completed_behind [] (log_lines log) [] has.meanings refl tt has.means refl (λ none. some (has.found ∙ ap meaning none))
+    collects_where_items items has some = completed_behind [] (log_lines log) [] has.meanings refl tt has.means refl (λ none. some (has.found ∙ ap (λ M. meaning (under settings.rules M)) none))

@@ -151,8 +151,8 @@ said_in_memory of_frame at_the_end refusal needs NeedsMemory limit settings log 
 
 -- the lines of messages
 pub message_lines_in_memory : (notation : Notation) (limit : ℕ) (settings : Settings) (log : List ℕ) (given : ℕ) (old new : List ℕ)
-    → FailsToWrite (command (messages_script notation limit) says_no_refusal answers_counts needs_none) limit settings log given old new → NeedsMemoryForMessageLines notation limit settings log
-message_lines_in_memory notation limit settings log given old new fails = inr (said_some ((messages_script notation limit).of_frame) limit settings log given old new fails)
+    → FailsToWrite (command (messages_script notation limit settings.rules) says_no_refusal answers_counts needs_none) limit settings log given old new → NeedsMemoryForMessageLines notation limit settings log
+message_lines_in_memory notation limit settings log given old new fails = inr (said_some ((messages_script notation limit settings.rules).of_frame) limit settings log given old new fails)
 
 pub meaning_in_memory : (limit : ℕ) (settings : Settings) (log : List ℕ) (answer : Result (List ItemValue) Fault) → FailedIf Read answer 0 0
     → IfErr answer (λ fault. fault ≢ Write) → (answer ≡ Err Memory → NeedsMemoryToCollect limit settings log) → GivesMeaning limit settings log answer → MeansInMemory limit settings log answer

@@ -9,6 +9,7 @@ ghost use Rattle.trace_run.specs.Script.{answers_counts, command, needs_none, sa
 ghost use Rattle.trace_run.specs.Ran.{RanLenient};
 ghost use Rattle.trace_io.specs.Counted.{IsLowCount};
 ghost use Rattle.trace_log.specs.Devices.{AgreesWith, HasLowCounts};
+ghost use Rattle.trace_log.specs.Settings.{without_rules};
 
 use direction::Dir;
 use isotp_receive::{Ended, Event, Pair, Verdict};
@@ -19,7 +20,8 @@ use trace_run::{Glimpse, Machine, NoAnswer, Seen, run_lenient};
 use trace_text::{Notation, Remark, say_remark};
 
 /// Reads a log and writes a line for each reception that ended without its message and for each frame that was dropped,
-/// as they come; then the receptions that stand at the end, and the counts. In words or as objects of JSON.
+/// as they come; then the receptions that stand at the end, and the counts. In words or as objects of JSON. It tells of the
+/// log as it is: it knows no rules, and counts none of their messages as left out.
 ///
 /// The writer is not flushed.
 pub fn explain<R: Source, W: Target>(
@@ -35,13 +37,14 @@ pub fn explain<R: Source, W: Target>(
     // What is answered and written; that it is written before more is read; and what was done with the devices.
     ensures ran { RanLenient R.Source W.Target
         (command (explain_script notation MESSAGE_LIMIT) says_no_refusal answers_counts needs_none)
-        config.now reader.old writer.old result reader.new writer.new }
+        (without_rules config.now) reader.old writer.old result reader.new writer.new }
 
     // Where nothing was dropped, ended or left unfinished, the log is a recording.
     ensures certificate { (log : List ℕ) → AgreesWith R.Source reader.old reader.new log
         → IfOk result (Certifies MESSAGE_LIMIT config.now log) }
 {
-    run_lenient(alloc, config, Explainer { notation }, reader, writer)
+    let plain = config.without_rules();
+    run_lenient(alloc, &plain, Explainer { notation }, reader, writer)
 }
 
 /// Says the lines of each frame.
@@ -51,7 +54,7 @@ struct Explainer {
 }
 
 impl Machine for Explainer {
-    ghost use Rattle.std.specs.Prelude.{◌≡◌};
+    ghost use Rattle.std.specs.Prelude.{◌≡◌, []};
     ghost use Rattle.isotp_receive.specs.declared.TheConstants.{MESSAGE_LIMIT};
     ghost use Rattle.trace_run.specs.Script.{answers_counts, needs_none};
     ghost use Rattle.trace_canon.specs.ExplainScript.{explain_script};
@@ -59,6 +62,8 @@ impl Machine for Explainer {
     type Answer = Summary;
 
     ghost stands = { λ start T now. now.notation ≡ start.notation };
+
+    ghost rules = { λ start. [] };
 
     ghost script = { λ start. explain_script start.notation MESSAGE_LIMIT };
 

@@ -15,6 +15,7 @@ pub mod ReadLines
 pub mod ScannedLogs
 pub mod Lowest
 pub mod ReadAgain
+pub mod Certificates
 pub mod LargerLimits
 pub mod ReadAs
 pub mod StoppedRuns

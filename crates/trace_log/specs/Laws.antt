@@ -243,6 +243,11 @@ pub record IsCertified (limit : ℕ) (settings : Settings) (log : List ℕ) : Ty
 abbrev pub Certifies : ℕ → Settings → List ℕ → Summary → Type 0
 Certifies limit settings log summary = summary.dropped ≡ 0 → summary.ended ≡ 0 → summary.unfinished ≡ 0 → IsCertified limit settings log
 
+-- what a summary certifies, it certifies whatever the rules
+abbrev pub CertificateKnowsNoRules : Type 0
+CertificateKnowsNoRules = (limit : ℕ) (settings : Settings) (log : List ℕ) (summary : Summary)
+    → Certifies limit (without_rules settings) log summary → Certifies limit settings log summary
+
 -- the summary of an accepted log does
 abbrev pub SummaryCertifies : Type 0
 SummaryCertifies = (limit : ℕ) (settings : Settings) (log : List ℕ) (accepted : Accepted) → 64 ≤ limit → IsOutcome limit settings log (Ok accepted)

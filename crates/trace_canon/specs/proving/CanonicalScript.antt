@@ -3,7 +3,7 @@ use Rattle.std.specs.Prelude.{◌≡◌, Result, Ok, Err, if◌then◌else◌, �
 use Rattle.direction.specs.Dir.{Message}
 use Rattle.isotp_receive.specs.declared.TheConstants.{MESSAGE_LIMIT}
 use Rattle.isotp_receive.specs.Trace.{Entry}
-use Rattle.isotp_receive.specs.Verdict.{messages}
+use Rattle.trace_log.specs.Messages.{messages_under}
 use Rattle.isotp_segment.specs.Timed.{all_frames}
 use Rattle.uds_exchange.specs.Order.{early, held}
 use Rattle.uds_exchange.specs.Orderer.{JudgedOrdererValue, judged_orderer_after}
@@ -37,21 +37,21 @@ lines_held settings M = text_from settings (progress_behind settings (early M)) 
 abbrev pub canonical_script : Settings → Script
 canonical_script settings = record {
   strict = true;
-  of_frame = λ T e. lines_due settings (messages MESSAGE_LIMIT T) (messages MESSAGE_LIMIT (T ++ e ∷ []));
-  at_the_end = λ T summary. lines_held settings (messages MESSAGE_LIMIT T);
+  of_frame = λ T e. lines_due settings (messages_under settings.rules MESSAGE_LIMIT T) (messages_under settings.rules MESSAGE_LIMIT (T ++ e ∷ []));
+  at_the_end = λ T summary. lines_held settings (messages_under settings.rules MESSAGE_LIMIT T);
 }
 
 -- The orderer stands after the messages of the trace, and the text after those that are early.
 pub record StandsCanonical (settings : Settings) (T : List Entry) (orderer : JudgedOrdererValue) (config : Settings)
     (progress : ProgressValue) : Type 0 where
-  pub ordered : orderer ≡ judged_orderer_after (messages MESSAGE_LIMIT T)
+  pub ordered : orderer ≡ judged_orderer_after (messages_under settings.rules MESSAGE_LIMIT T)
   pub same : config ≡ settings
-  pub at : progress ≡ progress_behind settings (early (messages MESSAGE_LIMIT T))
+  pub at : progress ≡ progress_behind settings (early (messages_under settings.rules MESSAGE_LIMIT T))
 
 -- the lines of the messages of a trace that are early, as far as there is room
 abbrev pub text_of_early : Settings → List Entry → List ℕ
 text_of_early settings T =
-    text_from settings (start_of settings.max_bytes) (all_frames MESSAGE_LIMIT (early (messages MESSAGE_LIMIT T)))
+    text_from settings (start_of settings.max_bytes) (all_frames MESSAGE_LIMIT (early (messages_under settings.rules MESSAGE_LIMIT T)))
 
 -- what this script says of a trace are the lines of its early messages
 abbrev pub CanonicalSaysEarly : Type 0
@@ -61,12 +61,12 @@ CanonicalSaysEarly = (settings : Settings) (T : List Entry)
 -- the counts are answered where the canonical log is within the limit, and else that it is longer
 abbrev pub answers_canonical : Settings → Answering Summary
 answers_canonical settings T summary result =
-    result ≡ (if fits_within settings (meaning (messages MESSAGE_LIMIT T)) then Ok summary else Err no_answer.OutputLimit)
+    result ≡ (if fits_within settings (meaning (messages_under settings.rules MESSAGE_LIMIT T)) then Ok summary else Err no_answer.OutputLimit)
 
 -- the command of this script and these answers, which says nothing of a refusal, and keeps held messages
 abbrev pub canonical_command : Settings → Command Summary
 canonical_command settings =
-    command (canonical_script settings) says_no_refusal (answers_canonical settings) (CompletesHeld MESSAGE_LIMIT)
+    command (canonical_script settings) says_no_refusal (answers_canonical settings) (CompletesHeld MESSAGE_LIMIT settings.rules)
 
 -- what a run of this command answers and writes is the canonical log
 abbrev pub CanonicalIsTheSame : Type 0

@@ -41,9 +41,9 @@ silent_script = record { strict = true; of_frame = λ T e. []; at_the_end = λ T
 -- the meaning and the counts are answered where the canonical log is within the limit, and else that it is longer
 abbrev pub answers_session : Settings → Answering Session
 answers_session settings T summary (Ok session) =
-    (session.meaning ≡ items_of_trace MESSAGE_LIMIT T) × (session.summary ≡ summary)
-    × (fits_within settings (items_of_trace MESSAGE_LIMIT T) ≡ true)
-answers_session settings T summary (Err OutputLimit) = fits_within settings (items_of_trace MESSAGE_LIMIT T) ≡ false
+    (session.meaning ≡ items_of_trace MESSAGE_LIMIT settings.rules T) × (session.summary ≡ summary)
+    × (fits_within settings (items_of_trace MESSAGE_LIMIT settings.rules T) ≡ true)
+answers_session settings T summary (Err OutputLimit) = fits_within settings (items_of_trace MESSAGE_LIMIT settings.rules T) ≡ false
 
 -- the command of this script and these answers, which says nothing of a refusal either, and keeps each message
 abbrev pub silent_command : Settings → Command Session

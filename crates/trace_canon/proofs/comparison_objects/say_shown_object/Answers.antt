@@ -9,7 +9,7 @@ pub returns : goal.returns
 returns g c =
     let onward = g.met.S.TextSink.onward in
     let index = c.args.index in
-    let left = shown_value (index + 1) (slice_get c.args.compared.now.left.meaning index) in
-    let right = shown_value (index + 1) (slice_get c.args.compared.now.right.meaning index) in
+    let left = shown_value c.args.rules.now (index + 1) (slice_get c.args.compared.now.left.meaning index) in
+    let right = shown_value c.args.rules.now (index + 1) (slice_get c.args.compared.now.right.meaning index) in
     subst (λ text. g.S.TextSink.says c.args.out.now text c.say_text-2.new.out) (shown_object_is index left right)
     (onward _ _ _ _ _ (onward _ _ _ _ _ (onward _ _ _ _ _ (onward _ _ _ _ _ c.say.ensures c.say_item_at.ensures) c.say_text.ensures) c.say_item_at-2.ensures) c.say_text-2.ensures)

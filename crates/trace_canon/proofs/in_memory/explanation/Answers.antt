@@ -1,6 +1,7 @@
 -- What the call wrote is the text; each log has one, so memory may be refused to any.
 use Rattle.std.proofs.Common.{ap, sym, ◌∙◌}
 use Rattle.isotp_receive.specs.declared.TheConstants.{MESSAGE_LIMIT}
+use Rattle.trace_log.specs.Settings.{without_rules}
 use Rattle.trace_canon.specs.ExplainScript.{explain_script}
 use Rattle.trace_canon.specs.InMemory.{NeedsMemoryForExplanation}
 use Rattle.trace_run.specs.Script.{needs_none, says_no_refusal}
@@ -16,6 +17,6 @@ returns c = record {
       let empty = ap (λ w. w.taken) c.new-writer.ensures in
       let held = taken_is_held empty (ap (λ w. w.inner.items) c.new-writer.ensures ∙ c.new.ensures.items) ran.wrote.took in
       gathered _ _ (λ summary. record { text = c.into_inner.result; summary = summary }) c.explain-answer.result c.counted_text.result
-      (said_in_memory script.of_frame script.at_the_end says_no_refusal needs_none NeedsMemoryForExplanation MESSAGE_LIMIT c.args.config.now c.args.log.now _ c.explain-answer.result _ _ _ empty (held ∙ ap (λ v. v.items) (sym c.into_inner.ensures)) ran.read.failed (λ _. tt) (λ _. tt) (ran.answer c.args.log.now agrees))
+      (said_in_memory script.of_frame script.at_the_end says_no_refusal needs_none NeedsMemoryForExplanation MESSAGE_LIMIT (without_rules c.args.config.now) c.args.log.now _ c.explain-answer.result _ _ _ empty (held ∙ ap (λ v. v.items) (sym c.into_inner.ensures)) ran.read.failed (λ _. tt) (λ _. tt) (ran.answer c.args.log.now agrees))
       c.counted_text.ensures.answer;
 }

@@ -14,6 +14,6 @@ returns c = record {
       let empty = ap (λ w. w.taken) c.new-writer.ensures in
       let held = taken_is_held empty (ap (λ w. w.inner.items) c.new-writer.ensures ∙ c.new.ensures.items) ran.wrote.took in
       gathered _ _ (λ summary. record { text = c.into_inner.result; summary = summary }) c.list-answer.result c.counted_text.result
-      (written_in_memory (text_over_items (list_text c.args.style) MESSAGE_LIMIT c.args.config.now) c.args.log.now c.list-answer.result _ _ _ tt empty (held ∙ ap (λ v. v.items) (sym c.into_inner.ensures)) ran.read.failed (ran.memory c.args.log.now agrees) (ran.answer c.args.log.now agrees))
+      (written_in_memory (text_over_items (list_text c.args.config.now.rules c.args.style) MESSAGE_LIMIT c.args.config.now) c.args.log.now c.list-answer.result _ _ _ tt empty (held ∙ ap (λ v. v.items) (sym c.into_inner.ensures)) ran.read.failed (ran.memory c.args.log.now agrees) (ran.answer c.args.log.now agrees))
       c.counted_text.ensures.answer;
 }

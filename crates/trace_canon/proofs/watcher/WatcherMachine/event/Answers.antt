@@ -1,7 +1,7 @@
 -- A frame that completes a message has the items said that it decides; another one says nothing.
 use Rattle.std.proofs.lemmas.Result.{on_err_weaker}
 use Rattle.isotp_receive.specs.declared.TheConstants.{MESSAGE_LIMIT}
-use Rattle.isotp_receive.specs.Verdict.{messages}
+use Rattle.trace_log.specs.Messages.{messages_under}
 use Rattle.uds_exchange.specs.Judging.{sent}
 use Rattle.trace_run.proofs.Promises.{completes_judged, completes_none}
 use Rattle.trace_canon.proofs.Results.{two_ok}
@@ -10,11 +10,11 @@ use Rattle.trace_canon.proofs.watcher.WatcherMachine.event.Goals as goal
 
 pub returns-clause-ok : goal.returns-clause-ok
 returns-clause-ok g c = two_ok c.say_decided.result (λ stands says start T e seen stood.
-    let M = messages MESSAGE_LIMIT T in
+    let M = messages_under start.rules.now MESSAGE_LIMIT T in
     let self = c.args.self.now in
     let message = c.in-Some.message in
-    let completes = completes_judged T e c.args.seen message seen c.in-Some.is in
-    watches_next g.S.TextSink.says start.style self.style T e (sent message) self.decider _ self.number _ c.args.out.now _ seen.event.few completes.next stood
+    let completes = completes_judged start.rules.now T e c.args.seen message seen c.in-Some.is in
+    watches_next g.S.TextSink.says start.style self.style start.rules.now self.rules.now T e (sent message) self.decider _ self.number _ c.args.out.now _ seen.event.few completes.next stood
     (stands M stood.decides completes.step) (says M stood.decides completes.step)) c.say_decided.ensures.stands c.say_decided.ensures.says
 
 pub returns-clause-err : goal.returns-clause-err
@@ -23,11 +23,11 @@ returns-clause-err g c = on_err_weaker c.say_decided.result (λ quiet start T st
 pub returns-clause-needs : goal.returns-clause-needs
 returns-clause-needs g c = on_err_weaker c.say_decided.result (λ kept start T e seen stood.
     let message = c.in-Some.message in
-    let completes = completes_judged T e c.args.seen message seen c.in-Some.is in
-    completes_kept T e message completes (kept (messages MESSAGE_LIMIT T) stood.decides completes.step)) c.say_decided.ensures.needs
+    let completes = completes_judged start.rules.now T e c.args.seen message seen c.in-Some.is in
+    completes_kept start.rules.now T e message completes (kept (messages_under start.rules.now MESSAGE_LIMIT T) stood.decides completes.step)) c.say_decided.ensures.needs
 
 pub returns-in_default-clause-ok : goal.returns-in_default-clause-ok
 returns-in_default-clause-ok g c = λ start T e seen stood.
     let self = c.args.self.now in
-    watches_on g.S.TextSink.says start.style self.style T g.met.S.TextSink.nothing e self.decider self.number c.args.out.now seen.event.few
-    (completes_none T e c.args.seen seen c.in_default.is) stood
+    watches_on g.S.TextSink.says start.style self.style start.rules.now self.rules.now T g.met.S.TextSink.nothing e self.decider self.number c.args.out.now seen.event.few
+    (completes_none start.rules.now T e c.args.seen seen c.in_default.is) stood
