@@ -1,5 +1,5 @@
 -- A run that has begun: at first it has taken no line. What is known of it by its settings and its machine.
-use Rattle.std.proofs.Common.{ℕ, ◌≤◌, ◌^◌, Bool, false, true, List, [], ap, sym, subst, Option, Result, Err, append-nil}
+use Rattle.std.proofs.Common.{◌≡◌, ℕ, ◌≤◌, ◌^◌, Bool, false, true, List, [], ap, sym, subst, Option, Result, Err, append-nil}
 use Rattle.can_log.specs.declared.frame.Stamped.{Stamped}
 use Rattle.isotp_receive.specs.Capacities.{PairValue, KeepsWithin}
 use Rattle.isotp_receive.specs.declared.TheConstants.{MESSAGE_LIMIT}

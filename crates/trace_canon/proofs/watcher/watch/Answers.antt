@@ -1,5 +1,5 @@
 -- The rules of the machine are those of the configuration. At the end all that was said is the list.
-use Rattle.std.proofs.Common.{List, ℕ, refl, sym, subst}
+use Rattle.std.proofs.Common.{List, subst}
 use Rattle.isotp_receive.specs.declared.TheConstants.{MESSAGE_LIMIT}
 use Rattle.uds_rules.specs.Rule.{RuleValue}
 use Rattle.trace_canon.specs.MemoryNeeded.{CompletesKept}
