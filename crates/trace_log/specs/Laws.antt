@@ -120,8 +120,8 @@ RecordingHasCanonicalLog = (limit : ℕ) (settings : Settings) (log : List ℕ) 
     → IsOutcome limit settings log (Ok accepted) → Records limit settings log M
     → accepted.text ≡ canonical_log limit settings (flattened (meaning (under settings.rules M)))
 
--- where the summary of a log counts nothing dropped, ended or unfinished, its trace is a recording of what it delivers, each of
--- its own frames, and each frame that carries a message belongs to one: so such a summary is a certificate
+-- where the summary of a log counts nothing dropped, ended or unfinished, its trace is a recording of what it delivers, each
+-- message of its own frames, and each frame that carries a message belongs to one: so such a summary is a certificate
 abbrev pub CleanSummaryIsCertificate : Type 0
 CleanSummaryIsCertificate = (limit : ℕ) (settings : Settings) (log : List ℕ) (meanings : List (Option Stamped)) → 64 ≤ limit
     → (summary_of limit settings log meanings).dropped ≡ 0 → (summary_of limit settings log meanings).ended ≡ 0 → (summary_of limit settings log meanings).unfinished ≡ 0
@@ -230,8 +230,8 @@ abbrev pub LargerLimitKeeps : Type 0
 LargerLimitKeeps = (limit larger : ℕ) (settings : Settings) (log : List ℕ) (accepted : Accepted) → 64 ≤ limit → limit ≤ larger
     → IsOutcome limit settings log (Ok accepted) → IsOutcome larger settings log (Ok accepted)
 
--- The log is legal, and its trace is a recording of the messages that it delivers: each is given its own frames, and each frame that carries
--- a message belongs to exactly one.
+-- The log is legal, and its trace is a recording of the messages that it delivers: each is given its own frames, and each
+-- frame that carries a message belongs to exactly one.
 pub record IsCertified (limit : ℕ) (settings : Settings) (log : List ℕ) : Type 0 where
   pub meanings : List (Option Stamped)
   pub means : LogMeans log meanings

@@ -43,9 +43,9 @@ impl Config {
     ghost use Rattle.std.specs.Prelude.{◌≡◌};
     ghost use Rattle.trace_log.specs.Settings.{AreSettings, Configures, without_rules, id_of, direction_of};
 
-    /// The configuration with these parts, and no rules. A base identifier is at most 7FF, an extended one at most 1FFFFFFF, and the two
-    /// sides don't have the same one: equal numbers of different formats are different identifiers. The limit is 1 to
-    /// [`LARGEST_LIMIT`]. Of several faults the first of [`ConfigFault`] is answered.
+    /// The configuration with these parts, and no rules. A base identifier is at most 7FF, an extended one at most
+    /// 1FFFFFFF, and the two sides don't have the same one: equal numbers of different formats are different identifiers.
+    /// The limit is 1 to [`LARGEST_LIMIT`]. Of several faults the first of [`ConfigFault`] is answered.
     pub fn new(tester: Id, unit: Id, max_bytes: u64) -> Result<Config, ConfigFault>
         ensures { Configures tester unit max_bytes result }
     {

@@ -1,5 +1,5 @@
-//! The items of a meaning under rules as objects of JSON. What is said at once goes from one value to the next, quotes included, since
-//! each piece more takes longer to say.
+//! The items of a meaning under rules as objects of JSON. What is said at once goes from one value to the next, quotes
+//! included, since each piece more takes longer to say.
 //!
 //! So an object is cut amid its quotes, in `OpenObject`, which has a `ObjectFront` and an `OpenItem`, and the quote and the brace that
 //! end each object:
