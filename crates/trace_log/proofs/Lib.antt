@@ -16,6 +16,7 @@ pub mod ScannedLogs
 pub mod Lowest
 pub mod ReadAgain
 pub mod Certificates
+mod MaskedItems
 pub mod LargerLimits
 pub mod ReadAs
 pub mod StoppedRuns

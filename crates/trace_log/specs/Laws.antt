@@ -1,5 +1,5 @@
 -- What holds of what logs mean, of why they are refused, and of canonical logs.
-use Rattle.std.specs.Prelude.{◌≡◌, ◌↔◌, ◌≤◌, ◌<◌, ◌^◌, ℕ, ◌+◌, ◌-◌, ◌*◌, Bool, true, List, [], ◌++◌, length, Option, Some, None, Result, Ok, Err}
+use Rattle.std.specs.Prelude.{◌≡◌, ◌↔◌, ◌≤◌, ◌<◌, ◌^◌, ℕ, ◌+◌, ◌-◌, ◌*◌, Bool, true, List, [], ◌++◌, length, map, Option, Some, None, Result, Ok, Err}
 use Rattle.std.specs.List.{AllByRecursion}
 use Rattle.can_log.specs.Canonical.{canonical_length}
 use Rattle.direction.specs.Dir.{Message}
@@ -16,11 +16,14 @@ use Rattle.isotp_receive.specs.Recording.{IsRecording}
 use Rattle.isotp_segment.specs.Timed.{all_frames}
 use Rattle.isotp_receive.specs.Verdict.{messages}
 use Rattle.uds_exchange.specs.Meaning.{ItemValue, meaning, flattened}
+use Rattle.uds_rules.specs.Legal.{AreRules}
+use Rattle.uds_rules.specs.Rule.{RuleValue}
 use Rattle.uds_rules.specs.Under.{under}
 use Rattle.trace_log.specs.declared.fault.Fault.{Fault}
 use Rattle.trace_log.specs.declared.fault.Fault.TheVariants.{Read}
 use Rattle.trace_log.specs.declared.summary.Summary.{Summary}
 use Rattle.trace_log.specs.Settings.{Settings, AreSettings, without_rules, id_of, direction_of}
+use Rattle.trace_log.specs.MaskedItems.{only_mask, item_under}
 use Rattle.trace_log.specs.Trace.{trace}
 use Rattle.trace_log.specs.Messages.{messages_of_lines, meaning_of_lines, HasMeaning}
 use Rattle.trace_log.specs.CanonicalLog.{canonical_log, canonical_log_of_lines, fitting, early_text, lines_size}
@@ -64,6 +67,11 @@ abbrev pub NoRulesChangeNothing : Type 0
 NoRulesChangeNothing = (limit : ℕ) (settings : Settings) (log : List ℕ) (meanings : List (Option Stamped)) → settings.rules ≡ []
     → (messages_of_lines limit settings meanings ≡ messages limit (trace settings meanings))
     × ((summary_of limit settings log meanings).left_out ≡ 0)
+
+-- where no rule leaves messages out, the meaning under the rules is the meaning, item by item under them
+abbrev pub MasksKeepItems : Type 0
+MasksKeepItems = (rules : List RuleValue) → AreRules rules → only_mask rules ≡ true → (M : List Message)
+    → meaning (under rules M) ≡ map (item_under rules) (meaning M)
 
 -- two logs have one meaning
 pub record HaveSameMeaning (limit : ℕ) (settings : Settings) (one other : List ℕ) : Type 0 where
