@@ -1,9 +1,9 @@
 -- Where lines stand.
-use Rattle.std.proofs.Common.{◌≡◌, ℕ, zero, suc, ◌+◌, ◌-◌, ◌*◌, ◌≤◌, ◌<◌, min, Bool, true, false, List, [], ◌∷◌, ◌++◌, length, take, drop, arith, ap, sym, ◌∙◌, refl}
-use Rattle.std.proofs.lemmas.List.{length-append, length-take, length-drop, drop-take, take_min}
+use Rattle.std.proofs.Common.{◌≡◌, ℕ, zero, suc, ◌+◌, ◌-◌, ◌*◌, ◌≤◌, ◌<◌, min, Bool, true, false, List, [], ◌∷◌, length, take, drop, arith, ap, sym, ◌∙◌, refl}
+use Rattle.std.proofs.lemmas.List.{length-take, length-drop, drop-take, take_min}
 use Rattle.byte_columns.specs.declared.column.Column.{Column}
 use Rattle.byte_columns.specs.Columns.{differing, differs}
-use Rattle.byte_columns.specs.Lines.{columns_from, differing_before, folded_from, in_lines, is_shown, line, line_count, line_differs}
+use Rattle.byte_columns.specs.Lines.{differing_before, folded_from, in_lines, is_shown, line, line_count, line_differs}
 use Rattle.byte_columns.proofs.Counting.{one_if}
 
 -- the places of a line
@@ -86,25 +86,3 @@ before-few columns (suc number) = one-few (line_differs columns number) (differi
 
 pub folded-none : (columns : List Column) (number more : ℕ) → more ≡ 0 → folded_from columns number more ≡ 0
 folded-none columns number more e = ap (folded_from columns number) e
-
--- ---- the columns of lines, one line after another
-
-differing-append : (a b : List Column) → differing (a ++ b) ≡ differing a + differing b
-differing-append [] b = omega arith
-differing-append (here ∷ a) b = let rest = differing-append a b in omega arith
-
-columns-next : (columns : List Column) (at end : ℕ) → at < end → columns_from columns at (end - at) ≡ line columns at ++ columns_from columns (at + 1) (end - (at + 1))
-columns-next columns at end below = let next : end - at ≡ suc (end - (at + 1)) = omega arith in ap (columns_from columns at) next
-
-pub length-next : (columns : List Column) (at end : ℕ) → at < end
-    → length (columns_from columns at (end - at)) ≡ length (line columns at) + length (columns_from columns (at + 1) (end - (at + 1)))
-length-next columns at end below =
-    ap length (columns-next columns at end below) ∙ length-append (line columns at) (columns_from columns (at + 1) (end - (at + 1)))
-
-pub differing-next : (columns : List Column) (at end : ℕ) → at < end
-    → differing (columns_from columns at (end - at)) ≡ differing (line columns at) + differing (columns_from columns (at + 1) (end - (at + 1)))
-differing-next columns at end below =
-    ap differing (columns-next columns at end below) ∙ differing-append (line columns at) (columns_from columns (at + 1) (end - (at + 1)))
-
-pub columns-none : (columns : List Column) (at more : ℕ) → more ≡ 0 → columns_from columns at more ≡ []
-columns-none columns at more e = ap (columns_from columns at) e

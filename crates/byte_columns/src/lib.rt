@@ -19,4 +19,4 @@ mod lines;
 mod pairs;
 
 pub use column::{Beside, Column};
-pub use lines::{LINE, MOST_SHOWN};
+pub use lines::LINE;

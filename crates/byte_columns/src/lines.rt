@@ -1,7 +1,7 @@
 //! The lines of columns.
 ghost use Rattle.std.specs.Prelude.{◌≡◌, ◌+◌, ◌-◌, ◌*◌, ◌≤◌, ◌<◌, length, min};
 ghost use Rattle.byte_columns.specs.Columns.{differing};
-ghost use Rattle.byte_columns.specs.Lines.{columns_from, differing_before, folded_from, hidden, is_shown, line, line_count};
+ghost use Rattle.byte_columns.specs.Lines.{differing_before, folded_from, is_shown, line, line_count};
 ghost use Rattle.byte_columns.specs.Lines as Spec;
 
 use crate::column::Beside;
@@ -10,7 +10,7 @@ use crate::column::Beside;
 pub const LINE: usize = 16;
 
 /// How many columns are shown at all.
-pub const MOST_SHOWN: usize = 4_095;
+const MOST_SHOWN: usize = 4_095;
 
 /// Up to so many columns each line is shown.
 const ALL_SHOWN: usize = 64;
@@ -57,13 +57,6 @@ impl<'a> Beside<'a> {
         self.differing(first, end)
     }
 
-    /// How many columns that are not shown differ.
-    pub fn hidden_differing(&self) -> usize
-        ensures { result ≡ differing (hidden self.now) }
-    {
-        self.differing(self.in_lines(), self.len())
-    }
-
     /// Whether a line is shown, before which so many differ.
     pub fn is_shown(&self, number: usize, before: usize) -> bool
         requires inside { number < line_count self.now }
@@ -93,33 +86,6 @@ impl<'a> Beside<'a> {
             }
         }
         count - number
-    }
-
-    /// How many columns so many lines have, from this one on.
-    pub fn columns_from(&self, number: usize, count: usize) -> usize
-        requires { number + count ≤ line_count self.now }
-        ensures value { result ≡ length (columns_from self.now number count) }
-        ensures few { result ≤ 16 * count }
-    {
-        let mut columns: usize = 0;
-        'lines: for at in number..number + count {
-            let (first, end) = self.line(at);
-            columns += end - first;
-        }
-        columns
-    }
-
-    /// How many of their columns differ.
-    pub fn differing_from(&self, number: usize, count: usize) -> usize
-        requires { number + count ≤ line_count self.now }
-        ensures value { result ≡ differing (columns_from self.now number count) }
-        ensures few { result ≤ 16 * count }
-    {
-        let mut columns: usize = 0;
-        'lines: for at in number..number + count {
-            columns += self.differing_in(at);
-        }
-        columns
     }
 
     /// How many lines differ before the one behind so many, from this one on, before which so many do.
