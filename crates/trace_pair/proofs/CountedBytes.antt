@@ -1,9 +1,8 @@
 -- The columns that count are those in which a log has a byte.
-use Rattle.std.proofs.Common.{◌≡◌, ℕ, Bool, List, [], ◌∷◌, ◌++◌, codes, length, Option, Some, None, ap, ◌∙◌, append_assoc, refl, arith}
+use Rattle.std.proofs.Common.{◌≡◌, ℕ, Bool, List, [], ◌∷◌, ◌++◌, codes, length, Option, Some, None, option_to_list, ap, ◌∙◌, append_assoc, refl, arith}
 use Rattle.std.specs.Prelude.{◌==◌, if◌then◌else◌, cond}
 use Rattle.std.specs.List.{filter, flat_map, range_with_len}
 use Rattle.byte_columns.specs.declared.column.Column.{Column}
-use Rattle.byte_columns.specs.Laws.{listed}
 use Rattle.byte_columns.specs.Lines.{folded, columns_from}
 use Rattle.trace_pair.specs.declared.column_lines.ShownLogs.{ShownLogs}
 use Rattle.trace_pair.specs.declared.column_lines.ShownLogs.TheVariants.{Both, Only}
@@ -18,7 +17,7 @@ all-count (here ∷ later) = ap (λ (l : List Column). here ∷ l) (all-count la
 
 -- a column in front of others, by what the log has there
 in-front : (byte : Option ℕ) (here : Column) (one other : List Column) → one ≡ other
-    → (if has_byte byte then here ∷ one else one) ≡ cond (length (listed byte) == 1) (here ∷ other) other
+    → (if has_byte byte then here ∷ one else one) ≡ cond (length (option_to_list byte) == 1) (here ∷ other) other
 in-front None here one other same = same
 in-front (Some b) here one other same = ap (λ (l : List Column). here ∷ l) same
 
@@ -31,7 +30,7 @@ counted-own Both columns = all-count columns
 counted-own (Only log) columns = own-count log columns
 
 one-more : (byte : Option ℕ) (here : Column) (rest : List Column) (bytes : List ℕ) → length rest ≡ length bytes
-    → length (cond (length (listed byte) == 1) (here ∷ rest) rest) ≡ length (listed byte ++ bytes)
+    → length (cond (length (option_to_list byte) == 1) (here ∷ rest) rest) ≡ length (option_to_list byte ++ bytes)
 one-more None here rest bytes same = same
 one-more (Some b) here rest bytes same = omega (arith, same)
 

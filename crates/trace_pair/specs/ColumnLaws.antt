@@ -1,10 +1,9 @@
 -- What holds of two messages byte under byte on a page, whatever they are: what a line has of each, and what is told of lines that are
 -- folded or not shown.
-use Rattle.std.specs.Prelude.{◌≡◌, ◌==◌, ℕ, Bool, true, false, List, [], ◌∷◌, ◌++◌, codes, length}
+use Rattle.std.specs.Prelude.{◌≡◌, ◌==◌, ℕ, Bool, true, false, List, [], ◌∷◌, ◌++◌, codes, length, option_to_list}
 use Rattle.std.specs.List.{filter}
 use Rattle.byte_columns.specs.declared.column.Column.{Column}
 use Rattle.byte_columns.specs.Columns.{differing}
-use Rattle.byte_columns.specs.Laws.{listed}
 use Rattle.byte_columns.specs.Lines.{folded as folded_lines, columns_from, line, line_differs}
 use Rattle.trace_pair.specs.declared.log.PairLog.{PairLog}
 use Rattle.trace_pair.specs.declared.log.PairLog.TheVariants.{A, B}
@@ -17,7 +16,7 @@ use Rattle.trace_pair.specs.Logs.{byte_of}
 
 -- the log has a byte in a column
 abbrev pub has_byte_of : PairLog → Column → Bool
-has_byte_of log here = length (listed (byte_of log here)) == 1
+has_byte_of log here = length (option_to_list (byte_of log here)) == 1
 
 -- the columns that count in a fold, and in what is not shown: of both logs each, of one alone each in which it has a byte
 abbrev pub own_columns : ShownLogs → List Column → List Column

@@ -1,12 +1,11 @@
 -- Two messages byte under byte, as a page has them: lines of sixteen columns, in which each byte that differs has a mark.
-use Rattle.std.specs.Prelude.{ℕ, ◌+◌, ◌*◌, ◌==◌, Bool, true, false, not, ◌&&◌, List, [], ◌∷◌, ◌++◌, codes, length, nat_le, take, Option, Some, None, if◌then◌else◌}
+use Rattle.std.specs.Prelude.{ℕ, ◌+◌, ◌*◌, ◌==◌, Bool, true, false, not, ◌&&◌, List, [], ◌∷◌, ◌++◌, codes, length, nat_le, take, Option, Some, None, option_to_list, if◌then◌else◌}
 use Rattle.std.specs.Fmt.{decimal}
 use Rattle.std.specs.List.{flat_map, range_with_len}
 use Rattle.can_log.specs.Digits.{hexadecimal}
 use Rattle.byte_columns.specs.declared.column.Column.{Column}
 use Rattle.byte_columns.specs.declared.lines.TheConstants.{LINE}
 use Rattle.byte_columns.specs.Columns.{differing, differs}
-use Rattle.byte_columns.specs.Laws.{listed}
 use Rattle.byte_columns.specs.Lines.{Stretch, shown, folded, columns_from, hidden, line, line_count, line_differs, stretches}
 use Rattle.trace_report.specs.Letters.{letter_text}
 use Rattle.trace_pair.specs.declared.column_lines.ShownLogs.{ShownLogs}
@@ -44,7 +43,7 @@ cells log (here ∷ later) = mark_start false (differs here) ++ byte_or_gap (byt
 
 -- the bytes that a log has in these columns
 abbrev pub bytes_in : PairLog → List Column → List ℕ
-bytes_in log columns = flat_map (λ (here : Column). listed (byte_of log here)) columns
+bytes_in log columns = flat_map (λ (here : Column). option_to_list (byte_of log here)) columns
 
 -- the letter for what a log has in a column: a blank in a gap
 abbrev pub letter_or_gap : Option ℕ → List ℕ

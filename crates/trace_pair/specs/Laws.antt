@@ -1,11 +1,10 @@
 -- What holds of a page of two logs, whatever logs it is of.
 use Prim.Native.Char.{code}
-use Rattle.std.specs.Prelude.{◌≡◌, ◌≢◌, ◌==◌, ◌≤◌, ◌⊎◌, ℕ, suc, ◌+◌, ◌-◌, Bool, true, false, not, ◌&&◌, List, [], ◌∷◌, ◌++◌, codes, map, drop, length, max, take, Option, Some, None, slice_get, Ok, if◌then◌else◌, ◌<◌, ◌^◌}
+use Rattle.std.specs.Prelude.{◌≡◌, ◌≢◌, ◌==◌, ◌≤◌, ◌⊎◌, ℕ, suc, ◌+◌, ◌-◌, Bool, true, false, not, ◌&&◌, List, [], ◌∷◌, ◌++◌, codes, map, drop, length, max, take, Option, Some, None, option_to_list, slice_get, Ok, if◌then◌else◌, ◌<◌, ◌^◌}
 use Rattle.std.specs.List.{filter, flat_map, list_any, range_with_len, AllByRecursion}
 use Rattle.std.specs.Fmt.{decimal}
 use Rattle.byte_columns.specs.declared.column.Column.{Column}
 use Rattle.byte_columns.specs.Columns.{differs as column_differs}
-use Rattle.byte_columns.specs.Laws.{listed}
 use Rattle.isotp_receive.specs.declared.TheConstants.{MESSAGE_LIMIT}
 use Rattle.trace_canon.specs.Compared.{Compares, difference}
 use Rattle.trace_canon.specs.declared.comparer.Compared.{Compared}
@@ -224,7 +223,7 @@ EachLossStandsOnce = (rows : List RowValue) → flat_map (losses_of rows) (range
 
 -- the number of a row's identifier, if it has one
 abbrev pub identifier : PlacedRow → List ℕ
-identifier row = listed (begun_number row.begins)
+identifier row = option_to_list (begun_number row.begins)
 
 -- The rows of the table of items have as identifiers the numbers of all changes, from 1 on, each once. These are what the
 -- links of the page lead to: of the list, of its end, and from one change to the next.

@@ -1,7 +1,6 @@
 -- The differences as rows of the table of items begin them, and the numbers of those to which the page links.
-use Rattle.std.specs.Prelude.{ℕ, ◌+◌, ◌-◌, ◌==◌, List, [], ◌∷◌, ◌++◌, length, map, nat_le, take, Option, Some, None, if◌then◌else◌}
+use Rattle.std.specs.Prelude.{ℕ, ◌+◌, ◌-◌, ◌==◌, List, [], ◌∷◌, ◌++◌, length, map, nat_le, take, Option, Some, None, option_to_list, if◌then◌else◌}
 use Rattle.std.specs.List.{flat_map}
-use Rattle.byte_columns.specs.Laws.{listed}
 use Rattle.shown_rows.specs.declared.changes.Change.{Change}
 use Rattle.shown_rows.specs.Changes.{change}
 use Rattle.trace_report.specs.Session.{SessionValue}
@@ -43,7 +42,7 @@ number_in it = it.number
 
 -- the number to which the line above a difference links, if one follows
 abbrev pub number_behind : NumberedChange → List ℕ
-number_behind it = listed (next_number it.number it.all)
+number_behind it = option_to_list (next_number it.number it.all)
 
 -- the number to which the end of the list links, where not all of so many are listed
 abbrev pub number_unlisted : ℕ → List ℕ
