@@ -19,4 +19,4 @@ mod lines;
 mod pairs;
 
 pub use column::{Beside, Column};
-pub use lines::LINE;
+pub use lines::LINE_LENGTH;

@@ -1,30 +1,30 @@
 //! The lines of columns.
 ghost use Rattle.std.specs.Prelude.{◌≡◌, ◌+◌, ◌-◌, ◌*◌, ◌≤◌, ◌<◌, length, min};
 ghost use Rattle.byte_columns.specs.Columns.{differing};
-ghost use Rattle.byte_columns.specs.Lines.{differing_before, folded_from, is_shown, line, line_count};
+ghost use Rattle.byte_columns.specs.Lines.{differing_before, folded_from, is_shown, line, line_count, line_length, most_in_lines};
 ghost use Rattle.byte_columns.specs.Lines as Spec;
 
 use crate::column::Beside;
 
-/// How many columns a line has.
-pub const LINE: usize = 16;
+/// So many columns has a line, but the last one, which may have fewer.
+pub const LINE_LENGTH: usize = 16;
 
-/// How many columns are shown at all.
-const MOST_SHOWN: usize = 4_095;
+/// So many columns stand in lines at most.
+const MOST_IN_LINES: usize = 4_095;
 
 /// Up to so many columns each line is shown.
 const ALL_SHOWN: usize = 64;
 
-/// How many of the lines that differ are shown of more.
+/// Of more, so many of the lines that differ are shown.
 const LINES_SHOWN: usize = 8;
 
 impl<'a> Beside<'a> {
     /// How many columns stand in lines.
     pub fn in_lines(&self) -> usize
         ensures value { result ≡ length (Spec.in_lines self.now) }
-        ensures few { result ≡ min (length self.now) 4095 }
+        ensures few { result ≡ min (length self.now) most_in_lines }
     {
-        self.len().min(MOST_SHOWN)
+        self.len().min(MOST_IN_LINES)
     }
 
     /// How many lines there are.
@@ -32,26 +32,26 @@ impl<'a> Beside<'a> {
         ensures value { result ≡ line_count self.now }
         ensures few { result ≤ 256 }
     {
-        (self.in_lines() + (LINE - 1)) / LINE
+        (self.in_lines() + (LINE_LENGTH - 1)) / LINE_LENGTH
     }
 
     /// The first column of a line, and the one behind its last.
     pub fn line(&self, number: usize) -> (usize, usize)
         requires { number < line_count self.now }
-        ensures first { result.0 ≡ 16 * number }
-        ensures end { result.1 ≡ min (result.0 + 16) (min (length self.now) 4095) }
+        ensures first { result.0 ≡ line_length * number }
+        ensures end { result.1 ≡ min (result.0 + line_length) (min (length self.now) most_in_lines) }
         ensures length { result.1 ≡ result.0 + length (line self.now number) }
         ensures inside { result.1 ≤ length self.now }
     {
-        let first = number * LINE;
-        (first, (first + LINE).min(self.in_lines()))
+        let first = number * LINE_LENGTH;
+        (first, (first + LINE_LENGTH).min(self.in_lines()))
     }
 
     /// How many columns of a line differ.
     pub fn differing_in(&self, number: usize) -> usize
         requires { number < line_count self.now }
         ensures value { result ≡ differing (line self.now number) }
-        ensures few { result ≤ 16 }
+        ensures few { result ≤ line_length }
     {
         let (first, end) = self.line(number);
         self.differing(first, end)

@@ -4,9 +4,8 @@ use Rattle.std.specs.Fmt.{decimal}
 use Rattle.std.specs.List.{flat_map, range_with_len}
 use Rattle.can_log.specs.Digits.{hexadecimal}
 use Rattle.byte_columns.specs.declared.column.Column.{Column}
-use Rattle.byte_columns.specs.declared.lines.TheConstants.{LINE}
 use Rattle.byte_columns.specs.Columns.{differing, differs}
-use Rattle.byte_columns.specs.Lines.{Stretch, shown, folded, columns_from, hidden, line, line_count, line_differs, stretches}
+use Rattle.byte_columns.specs.Lines.{Stretch, shown, folded, columns_from, hidden, line, line_count, line_differs, line_length, stretches}
 use Rattle.trace_report.specs.Letters.{letter_text}
 use Rattle.trace_pair.specs.declared.column_lines.ShownLogs.{ShownLogs}
 use Rattle.trace_pair.specs.declared.column_lines.ShownLogs.TheVariants.{Both, Only}
@@ -98,7 +97,7 @@ side_line lettered whose log number columns =
 
 -- how many bytes a log has before a line
 abbrev pub bytes_before : PairLog → List Column → ℕ → ℕ
-bytes_before log columns number = length (bytes_in log (take (LINE * number) columns))
+bytes_before log columns number = length (bytes_in log (take (line_length * number) columns))
 
 -- the line of a number, as one log has it
 abbrev pub line_of : Bool → Whose → PairLog → List Column → ℕ → List ℕ

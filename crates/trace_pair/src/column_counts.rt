@@ -7,7 +7,7 @@ ghost use Rattle.trace_pair.specs.ColumnLines as Spec;
 
 use crate::column_cells::byte_of;
 use crate::column_lines::ShownLogs;
-use byte_columns::{Beside, Column, LINE};
+use byte_columns::{Beside, Column, LINE_LENGTH};
 
 /// How many columns count, and how many of these differ.
 #[derive(Clone, Copy)]
@@ -28,8 +28,8 @@ pub(crate) fn counts_from(
     ensures differing { result.differing ≡ differing (counted sides (columns_from columns.now first count)) }
 {
     let most = columns.in_lines();
-    let from = (first * LINE).min(most);
-    let to = ((first + count) * LINE).min(most);
+    let from = (first * LINE_LENGTH).min(most);
+    let to = ((first + count) * LINE_LENGTH).min(most);
     counts_between(sides, columns, from, to)
 }
 
