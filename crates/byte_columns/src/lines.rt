@@ -5,6 +5,7 @@ ghost use Rattle.byte_columns.specs.Lines.{differing_before, folded_from, is_sho
 ghost use Rattle.byte_columns.specs.Lines as Spec;
 
 use crate::column::Beside;
+use std::ops::Range;
 
 /// So many columns has a line, but the last one, which may have fewer.
 pub const LINE_LENGTH: usize = 16;
@@ -20,7 +21,7 @@ const LINES_SHOWN: usize = 8;
 
 impl<'a> Beside<'a> {
     /// How many columns stand in lines.
-    pub fn in_lines(&self) -> usize
+    pub fn columns_in_lines(&self) -> usize
         ensures value { result ≡ length (Spec.in_lines self.now) }
         ensures few { result ≡ min (length self.now) most_in_lines }
     {
@@ -28,23 +29,23 @@ impl<'a> Beside<'a> {
     }
 
     /// How many lines there are.
-    pub fn lines(&self) -> usize
+    pub fn line_count(&self) -> usize
         ensures value { result ≡ line_count self.now }
         ensures few { result ≤ 256 }
     {
-        (self.in_lines() + (LINE_LENGTH - 1)) / LINE_LENGTH
+        (self.columns_in_lines() + (LINE_LENGTH - 1)) / LINE_LENGTH
     }
 
-    /// The first column of a line, and the one behind its last.
-    pub fn line(&self, number: usize) -> (usize, usize)
+    /// From the first column of a line up to the one behind its last.
+    pub fn line_range(&self, number: usize) -> Range<usize>
         requires { number < line_count self.now }
-        ensures first { result.0 ≡ line_length * number }
-        ensures end { result.1 ≡ min (result.0 + line_length) (min (length self.now) most_in_lines) }
-        ensures length { result.1 ≡ result.0 + length (line self.now number) }
-        ensures inside { result.1 ≤ length self.now }
+        ensures first { result.start ≡ line_length * number }
+        ensures end { result.end ≡ min (result.start + line_length) (min (length self.now) most_in_lines) }
+        ensures length { result.end ≡ result.start + length (line self.now number) }
+        ensures inside { result.end ≤ length self.now }
     {
         let first = number * LINE_LENGTH;
-        (first, (first + LINE_LENGTH).min(self.in_lines()))
+        first..(first + LINE_LENGTH).min(self.columns_in_lines())
     }
 
     /// How many columns of a line differ.
@@ -53,8 +54,8 @@ impl<'a> Beside<'a> {
         ensures value { result ≡ differing (line self.now number) }
         ensures few { result ≤ line_length }
     {
-        let (first, end) = self.line(number);
-        self.differing(first, end)
+        let range = self.line_range(number);
+        self.differing(range.start, range.end)
     }
 
     /// Whether a line is shown, before which so many differ.
@@ -75,7 +76,7 @@ impl<'a> Beside<'a> {
         ensures value { result ≡ folded_from self.now number (line_count self.now - number) }
         ensures inside { result + number ≤ line_count self.now }
     {
-        let count = self.lines();
+        let count = self.line_count();
         let mut differ = before;
         'lines: for at in number..count {
             if self.is_shown(at, differ) {

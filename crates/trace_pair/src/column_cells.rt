@@ -31,9 +31,9 @@ pub(crate) fn say_line_of<S: TextSink>(
     ensures { S.says out.old (line_of lettered whose log line.entry.columns.now line.entry.number) out.new }
 {
     let ColumnLine { columns, number } = line;
-    let (from, to) = columns.line(number);
-    let before = bytes_before(log, columns, from);
-    if bytes_before(log, columns, to) == before {
+    let range = columns.line_range(number);
+    let before = bytes_before(log, columns, range.start);
+    if bytes_before(log, columns, range.end) == before {
         say(
             out,
             (
@@ -43,14 +43,14 @@ pub(crate) fn say_line_of<S: TextSink>(
             ),
         );
     } else {
-        let there = bytes_before(other_log(log), columns, from);
-        let first = LineNumber(columns.lines(), FirstNumber(whose, before, there));
+        let there = bytes_before(other_log(log), columns, range.start);
+        let first = LineNumber(columns.line_count(), FirstNumber(whose, before, there));
         say(out, ("<p><i>", first, "</i> ", whose, "<code>"));
         let own = OwnColumns {
             log,
             columns,
-            from,
-            to,
+            from: range.start,
+            to: range.end,
         };
         say_cells(own, out);
         say(out, "</code>");

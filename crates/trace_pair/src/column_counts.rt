@@ -27,7 +27,7 @@ pub(crate) fn counts_from(
     ensures all { result.all ≡ length (counted sides (columns_from columns.now first count)) }
     ensures differing { result.differing ≡ differing (counted sides (columns_from columns.now first count)) }
 {
-    let most = columns.in_lines();
+    let most = columns.columns_in_lines();
     let from = (first * LINE_LENGTH).min(most);
     let to = ((first + count) * LINE_LENGTH).min(most);
     counts_between(sides, columns, from, to)
@@ -38,7 +38,7 @@ pub(crate) fn hidden_counts(sides: ShownLogs, columns: &Beside<'_>) -> ColumnCou
     ensures all { result.all ≡ length (counted sides (hidden columns.now)) }
     ensures differing { result.differing ≡ differing (counted sides (hidden columns.now)) }
 {
-    counts_between(sides, columns, columns.in_lines(), columns.len())
+    counts_between(sides, columns, columns.columns_in_lines(), columns.len())
 }
 
 /// Those of the columns from one place up to another.

@@ -50,7 +50,7 @@ pub(crate) fn have_word(one: &[u8], other: &[u8]) -> bool
 fn say_stretches<S: TextSink>(sides: ShownLogs, lettered: bool, columns: &Beside<'_>, out: &mut S)
     ensures { S.says out.old (flat_map (stretch_text sides lettered columns.now) (stretches columns.now)) out.new }
 {
-    let count = columns.lines();
+    let count = columns.line_count();
     let mut before: usize = 0;
     let mut at: usize = 0;
     'lines: while at < count {

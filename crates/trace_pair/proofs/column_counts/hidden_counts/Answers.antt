@@ -10,10 +10,10 @@ pub returns-clause-all : goal.returns-clause-all
 returns-clause-all c =
     let columns = c.args.columns.now in
     c.counts_between.ensures.all ∙ ap (λ (l : List Column). length (counted c.args.sides l))
-    ((λ i. take (c.len.ensures.value i - c.in_lines.result) (drop c.in_lines.result columns)) ∙ hidden-cut columns c.in_lines.result c.in_lines.ensures.few)
+    ((λ i. take (c.len.ensures.value i - c.columns_in_lines.result) (drop c.columns_in_lines.result columns)) ∙ hidden-cut columns c.columns_in_lines.result c.columns_in_lines.ensures.few)
 
 pub returns-clause-differing : goal.returns-clause-differing
 returns-clause-differing c =
     let columns = c.args.columns.now in
     c.counts_between.ensures.differing ∙ ap (λ (l : List Column). differing (counted c.args.sides l))
-    ((λ i. take (c.len.ensures.value i - c.in_lines.result) (drop c.in_lines.result columns)) ∙ hidden-cut columns c.in_lines.result c.in_lines.ensures.few)
+    ((λ i. take (c.len.ensures.value i - c.columns_in_lines.result) (drop c.columns_in_lines.result columns)) ∙ hidden-cut columns c.columns_in_lines.result c.columns_in_lines.ensures.few)

@@ -22,7 +22,7 @@ pub lines-preserved-then-folded-eq0 : goal.lines-preserved-then-folded-eq0
 lines-preserved-then-folded-eq0 g c =
     let columns = c.args.columns.now in
     let inv = c.lines.invariant in
-    let count = c.lines-count.ensures.value in
+    let count = c.line_count-count.ensures.value in
     record {
       inside = omega (arith, inv.inside, count, c.lines-test.true);
       differ = c.differing_behind-before.ensures;
@@ -45,4 +45,4 @@ lines-preserved g c =
 pub returns : goal.returns
 returns g c =
     turn-end g.S.TextSink.says g.met.S.TextSink.onward (stretch_text c.args.sides c.args.lettered c.args.columns.now) c.args.columns.now (line_count c.args.columns.now)
-    c.args.out.now _ c.lines.at c.lines.out (omega (arith, c.lines-count.ensures.value, c.lines-test.false)) c.lines.invariant.left
+    c.args.out.now _ c.lines.at c.lines.out (omega (arith, c.line_count-count.ensures.value, c.lines-test.false)) c.lines.invariant.left

@@ -24,7 +24,7 @@ pub lines-preserved : goal.lines-preserved
 lines-preserved c =
     let inv = c.lines.invariant in
     let columns = c.args.self.now in
-    let count = c.lines-count.ensures.value in
+    let count = c.line_count-count.ensures.value in
     let below = c.lines-test.true in
     let more = folded-next columns c.lines.at (line_count columns) (omega (arith, count, below)) (sym c.is_shown.ensures ∙ c.if-is_shown.false) in
     let next = before-next columns c.lines.at in
@@ -50,5 +50,5 @@ lines-preserved c =
 
 pub returns-clause-value : goal.returns-clause-value
 returns-clause-value c =
-    let none = folded-none c.args.self.now c.lines.at (line_count c.args.self.now - c.lines.at) (omega (arith, c.lines-count.ensures.value, c.lines-test.false)) in
-    omega (arith, none, c.lines.invariant.so_far, c.lines.invariant.inside, c.lines-count.ensures.value, c.lines-test.false)
+    let none = folded-none c.args.self.now c.lines.at (line_count c.args.self.now - c.lines.at) (omega (arith, c.line_count-count.ensures.value, c.lines-test.false)) in
+    omega (arith, none, c.lines.invariant.so_far, c.lines.invariant.inside, c.line_count-count.ensures.value, c.lines-test.false)
