@@ -1,0 +1,2 @@
+-- Devices of proof.
+pub mod BytesBefore
