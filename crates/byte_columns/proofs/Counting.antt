@@ -1,10 +1,11 @@
 -- Columns that are counted one after another.
-use Rattle.std.proofs.Common.{◌≡◌, ℕ, zero, suc, ◌+◌, Bool, true, false, List, [], ◌∷◌, take, drop, Some, arith, ap, sym, ◌∙◌, refl}
+use Rattle.std.proofs.Common.{◌≡◌, ℕ, zero, suc, ◌+◌, Bool, true, false, List, [], ◌∷◌, take, drop, Some, arith, ap, ◌∙◌, refl}
 use Rattle.std.specs.Prelude.{slice_get, if◌then◌else◌}
 use Rattle.std.specs.List.{position_or_len}
 use Rattle.std.proofs.lemmas.Option.{none-some, same_Some}
 use Rattle.byte_columns.specs.declared.column.Column.{Column}
 use Rattle.byte_columns.specs.Columns.{differing, differs}
+use Rattle.byte_columns.proofs.Lists.{drop-first}
 
 -- one for a column that differs
 abbrev pub one_if : Bool → ℕ
@@ -17,14 +18,6 @@ count-next (first ∷ later) zero here e =
     let same = ap (λ (c : Column). one_if (differs c)) (same_Some first here e) in
     omega arith
 count-next (first ∷ later) (suc n) here e = let rest = count-next later n here e in omega arith
-
--- what stands from a column on
-drop-first : (columns : List Column) (at : ℕ) (here : Column) → slice_get columns at ≡ Some here → drop at columns ≡ here ∷ drop (at + 1) columns
-drop-first [] at here e = absurd (none-some here e)
-drop-first (first ∷ later) zero here e = ap (λ (c : Column). c ∷ later) (same_Some first here e)
-drop-first (first ∷ later) (suc at) here e =
-    let next : suc at + 1 ≡ suc (at + 1) = omega arith in
-    drop-first later at here e ∙ ap (λ (n : ℕ). here ∷ drop n (first ∷ later)) (sym next)
 
 first-is : (here : Column) (later : List Column) → differs here ≡ true → position_or_len differs (here ∷ later) ≡ 0
 first-is here later e = rw e refl

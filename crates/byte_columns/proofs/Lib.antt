@@ -1,4 +1,4 @@
-pub mod Places
+pub mod Lists
 pub mod Columns
 pub mod BytesBefore
 pub mod BothMessages

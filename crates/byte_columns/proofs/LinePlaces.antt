@@ -5,6 +5,7 @@ use Rattle.byte_columns.specs.declared.column.Column.{Column}
 use Rattle.byte_columns.specs.Columns.{differing, differs}
 use Rattle.byte_columns.specs.Lines.{differing_before, folded_from, in_lines, is_shown, line, line_count, line_differs}
 use Rattle.byte_columns.proofs.Counting.{one_if}
+use Rattle.byte_columns.proofs.Lists.{take-within}
 
 -- the places of a line
 pub record HasPlaces (columns : List Column) (number : ℕ) : Type 0 where
@@ -35,15 +36,6 @@ pub differing-few : (columns : List Column) → differing columns ≤ length col
 differing-few [] = omega arith
 differing-few (here ∷ later) = differing-one (differs here) (differing later) (length later) (differing-few later)
 
--- one cut within another
-take-both : (m n : ℕ) (l : List Column) → take m (take n l) ≡ take (min m n) l
-take-both zero n l = let none : min 0 n ≡ 0 = omega arith in ap (λ (k : ℕ). take k l) (sym none)
-take-both (suc m) zero l = let none : min (suc m) 0 ≡ 0 = omega arith in ap (λ (k : ℕ). take k l) (sym none)
-take-both (suc m) (suc n) [] = let some : min (suc m) (suc n) ≡ suc (min m n) = omega arith in ap (λ (k : ℕ). take k []) (sym some)
-take-both (suc m) (suc n) (x ∷ l) =
-    let some : min (suc m) (suc n) ≡ suc (min m n) = omega arith in
-    ap (λ (v : List Column). x ∷ v) (take-both m n l) ∙ ap (λ (k : ℕ). take k (x ∷ l)) (sym some)
-
 -- a line, as a stretch of all columns
 pub line-is : (columns : List Column) (number end : ℕ) → number < line_count columns → end ≡ min (16 * number + 16) (min (length columns) 4095)
     → take (end - 16 * number) (drop (16 * number) columns) ≡ line columns number
@@ -59,7 +51,7 @@ line-is columns number end below e =
     let count : end - 16 * number ≡ min (min 16 (4095 - 16 * number)) (length (drop (16 * number) columns)) = omega arith in
     ap (λ (n : ℕ). take n (drop (16 * number) columns)) count
     ∙ take_min (min 16 (4095 - 16 * number)) (drop (16 * number) columns)
-    ∙ sym (take-both 16 (4095 - 16 * number) (drop (16 * number) columns))
+    ∙ sym (take-within 16 (4095 - 16 * number) (drop (16 * number) columns))
     ∙ ap (take 16) (sym cut)
 
 -- what is folded together from a line on
