@@ -18,5 +18,5 @@ pub mod laws;
 mod lines;
 mod pairs;
 
-pub use column::{Beside, Column};
+pub use column::{ByteColumns, Column};
 pub use lines::LINE_LENGTH;

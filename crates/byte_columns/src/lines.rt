@@ -4,7 +4,7 @@ ghost use Rattle.byte_columns.specs.Columns.{differing};
 ghost use Rattle.byte_columns.specs.Lines.{differing_before, folded_from, is_shown, line, line_count, line_length, most_in_lines};
 ghost use Rattle.byte_columns.specs.Lines as Spec;
 
-use crate::column::Beside;
+use crate::column::ByteColumns;
 use std::ops::Range;
 
 /// So many columns has a line, but the last one, which may have fewer.
@@ -19,7 +19,7 @@ const ALL_SHOWN: usize = 64;
 /// Of more, so many of the lines that differ are shown.
 const LINES_SHOWN: usize = 8;
 
-impl<'a> Beside<'a> {
+impl<'a> ByteColumns<'a> {
     /// How many columns stand in lines.
     pub fn columns_in_lines(&self) -> usize
         ensures value { result ≡ length (Spec.in_lines self.now) }

@@ -4,7 +4,7 @@ ghost use Rattle.byte_columns.specs.Columns.{differing};
 ghost use Rattle.trace_pair.specs.ByteWords as Spec;
 
 use crate::log::PairLog;
-use byte_columns::{Beside, Column};
+use byte_columns::{ByteColumns, Column};
 use text_parts::{Either, Part, say};
 use trace_io::TextSink;
 use trace_report::BytesApart;
@@ -24,14 +24,14 @@ impl<'a> Part for ByteWords<'a> {
 
     fn say<S: TextSink>(self, out: &mut S) {
         let ByteWords(left, right) = self;
-        let columns = Beside::of(left, right);
+        let columns = ByteColumns::of(left, right);
         say_where(left, right, &columns, out);
         say(out, LengthsWords(left.len(), right.len()));
     }
 }
 
 /// Says where two messages differ: one has bytes more than the other, or they are others.
-fn say_where<S: TextSink>(left: &[u8], right: &[u8], columns: &Beside<'_>, out: &mut S)
+fn say_where<S: TextSink>(left: &[u8], right: &[u8], columns: &ByteColumns<'_>, out: &mut S)
     ensures { S.says out.old (Spec.where_words left.now right.now columns.now) out.new }
 {
     let count = count_differing(columns);
@@ -47,7 +47,7 @@ fn say_where<S: TextSink>(left: &[u8], right: &[u8], columns: &Beside<'_>, out: 
 }
 
 /// How many columns differ.
-fn count_differing(columns: &Beside<'_>) -> usize
+fn count_differing(columns: &ByteColumns<'_>) -> usize
     ensures { result ≡ differing columns.now }
 {
     columns.differing(0, columns.len())
@@ -135,7 +135,7 @@ impl Part for UntoldWords {
 }
 
 /// The column at a place, if there is one.
-fn column_at(columns: &Beside<'_>, place: usize) -> Option<Column>
+fn column_at(columns: &ByteColumns<'_>, place: usize) -> Option<Column>
     ensures { result ≡ slice_get columns.now place }
 {
     if place < columns.len() {

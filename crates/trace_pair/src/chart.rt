@@ -11,7 +11,7 @@ use crate::column_lines::{ShownLogs, have_word, say_columns};
 use crate::counterparts::{Charted, counterpart, is_other, marks_at};
 use crate::log::PairLog;
 use crate::widths::SessionClasses;
-use byte_columns::Beside;
+use byte_columns::ByteColumns;
 use text_parts::say;
 use trace_io::TextSink;
 use trace_report::{
@@ -240,11 +240,11 @@ fn say_data<S: TextSink>(log: PairLog, message: &[u8], other: Option<&[u8]>, out
 }
 
 /// Two messages beside each other, of which the first one is of this log.
-fn beside_of<'a>(log: PairLog, own: &'a [u8], other: &'a [u8]) -> Beside<'a>
+fn beside_of<'a>(log: PairLog, own: &'a [u8], other: &'a [u8]) -> ByteColumns<'a>
     ensures { result ≡ Spec.beside_of log own.now other.now }
 {
     match log {
-        PairLog::A => Beside::of(own, other),
-        PairLog::B => Beside::of(other, own),
+        PairLog::A => ByteColumns::of(own, other),
+        PairLog::B => ByteColumns::of(other, own),
     }
 }

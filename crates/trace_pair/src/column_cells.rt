@@ -6,7 +6,7 @@ ghost use Rattle.trace_pair.specs.Logs as Spec;
 
 use crate::column_words::{ByteOrGap, FirstNumber, LineNumber, MarkEnd, MarkStart, Whose};
 use crate::log::{PairLog, other_log};
-use byte_columns::{Beside, Column};
+use byte_columns::{ByteColumns, Column};
 use text_parts::say;
 use trace_io::TextSink;
 use trace_report::shown_byte;
@@ -14,7 +14,7 @@ use trace_report::shown_byte;
 /// A line of columns, by its number.
 #[derive(Clone, Copy)]
 pub(crate) struct ColumnLine<'a> {
-    pub columns: &'a Beside<'a>,
+    pub columns: &'a ByteColumns<'a>,
     pub number: usize,
 }
 
@@ -60,7 +60,7 @@ pub(crate) fn say_line_of<S: TextSink>(
 }
 
 /// How many bytes a log has in the columns before a place.
-fn bytes_before(log: PairLog, columns: &Beside<'_>, at: usize) -> usize
+fn bytes_before(log: PairLog, columns: &ByteColumns<'_>, at: usize) -> usize
     requires { at ≤ length columns.now }
     ensures { result ≡ length (bytes_in log (take at columns.now)) }
 {
@@ -74,7 +74,7 @@ fn bytes_before(log: PairLog, columns: &Beside<'_>, at: usize) -> usize
 #[derive(Clone, Copy)]
 struct OwnColumns<'a> {
     log: PairLog,
-    columns: &'a Beside<'a>,
+    columns: &'a ByteColumns<'a>,
     from: usize,
     to: usize,
 }

@@ -7,7 +7,7 @@ ghost use Rattle.trace_pair.specs.ColumnLines as Spec;
 
 use crate::column_cells::byte_of;
 use crate::column_lines::ShownLogs;
-use byte_columns::{Beside, Column, LINE_LENGTH};
+use byte_columns::{ByteColumns, Column, LINE_LENGTH};
 
 /// How many columns count, and how many of these differ.
 #[derive(Clone, Copy)]
@@ -19,7 +19,7 @@ pub(crate) struct ColumnCounts {
 /// Those of so many lines, from one number on.
 pub(crate) fn counts_from(
     sides: ShownLogs,
-    columns: &Beside<'_>,
+    columns: &ByteColumns<'_>,
     first: usize,
     count: usize,
 ) -> ColumnCounts
@@ -34,7 +34,7 @@ pub(crate) fn counts_from(
 }
 
 /// Those of what no line has.
-pub(crate) fn hidden_counts(sides: ShownLogs, columns: &Beside<'_>) -> ColumnCounts
+pub(crate) fn hidden_counts(sides: ShownLogs, columns: &ByteColumns<'_>) -> ColumnCounts
     ensures all { result.all ≡ length (counted sides (hidden columns.now)) }
     ensures differing { result.differing ≡ differing (counted sides (hidden columns.now)) }
 {
@@ -42,7 +42,12 @@ pub(crate) fn hidden_counts(sides: ShownLogs, columns: &Beside<'_>) -> ColumnCou
 }
 
 /// Those of the columns from one place up to another.
-fn counts_between(sides: ShownLogs, columns: &Beside<'_>, from: usize, to: usize) -> ColumnCounts
+fn counts_between(
+    sides: ShownLogs,
+    columns: &ByteColumns<'_>,
+    from: usize,
+    to: usize,
+) -> ColumnCounts
     requires forward { from ≤ to }
     requires inside { to ≤ length columns.now }
     ensures all { result.all ≡ length (counted sides (take (to - from) (drop from columns.now))) }

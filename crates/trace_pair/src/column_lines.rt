@@ -10,7 +10,7 @@ use crate::column_cells::{ColumnLine, say_line_of};
 use crate::column_counts::{counts_from, hidden_counts};
 use crate::column_words::{FoldWords, Hidden, Whose};
 use crate::log::PairLog;
-use byte_columns::Beside;
+use byte_columns::ByteColumns;
 use text_parts::say;
 use trace_io::TextSink;
 use trace_report::has_word;
@@ -28,7 +28,7 @@ pub(crate) enum ShownLogs {
 pub(crate) fn say_columns<S: TextSink>(
     sides: ShownLogs,
     lettered: bool,
-    columns: &Beside<'_>,
+    columns: &ByteColumns<'_>,
     out: &mut S,
 )
     ensures { S.says out.old (lines_text sides lettered columns.now) out.new }
@@ -47,7 +47,12 @@ pub(crate) fn have_word(one: &[u8], other: &[u8]) -> bool
 }
 
 /// Says all lines, shown or folded.
-fn say_stretches<S: TextSink>(sides: ShownLogs, lettered: bool, columns: &Beside<'_>, out: &mut S)
+fn say_stretches<S: TextSink>(
+    sides: ShownLogs,
+    lettered: bool,
+    columns: &ByteColumns<'_>,
+    out: &mut S,
+)
     ensures { S.says out.old (flat_map (stretch_text sides lettered columns.now) (stretches columns.now)) out.new }
 {
     let count = columns.line_count();
@@ -75,7 +80,7 @@ fn say_stretches<S: TextSink>(sides: ShownLogs, lettered: bool, columns: &Beside
 /// So many lines, from one on.
 #[derive(Clone, Copy)]
 struct LineRange<'a> {
-    columns: &'a Beside<'a>,
+    columns: &'a ByteColumns<'a>,
     first: usize,
     count: usize,
 }
@@ -115,7 +120,7 @@ fn say_lines<S: TextSink>(sides: ShownLogs, lettered: bool, fold: LineRange<'_>,
 fn say_line<S: TextSink>(
     sides: ShownLogs,
     lettered: bool,
-    columns: &Beside<'_>,
+    columns: &ByteColumns<'_>,
     number: usize,
     out: &mut S,
 )
@@ -132,7 +137,12 @@ fn say_line<S: TextSink>(
 }
 
 /// Says a line of both logs: twice, where it differs.
-fn say_line_of_both<S: TextSink>(lettered: bool, columns: &Beside<'_>, number: usize, out: &mut S)
+fn say_line_of_both<S: TextSink>(
+    lettered: bool,
+    columns: &ByteColumns<'_>,
+    number: usize,
+    out: &mut S,
+)
     requires { number < line_count columns.now }
     ensures { S.says out.old (line_text Both lettered columns.now number) out.new }
 {

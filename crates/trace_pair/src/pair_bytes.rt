@@ -7,7 +7,7 @@ use crate::column_lines::{ShownLogs, have_word, say_columns};
 use crate::log::{LetterMark, PairLog};
 use crate::outcome::{Outcome, OutcomeMark, came_of, same_outcome};
 use crate::told_items::ToldAnswer;
-use byte_columns::Beside;
+use byte_columns::ByteColumns;
 use text_parts::{Either, Part, When, say};
 use trace_io::TextSink;
 use trace_report::{Data, PlacedItem, RoleWords, RowMessage, is_request_role};
@@ -78,7 +78,7 @@ impl<'a> Part for OfBoth<'a> {
 fn say_both_bytes<S: TextSink>(one: &[u8], other: &[u8], out: &mut S)
     ensures { S.says out.old (both_bytes one.now other.now) out.new }
 {
-    let columns = Beside::of(one, other);
+    let columns = ByteColumns::of(one, other);
     say_columns(ShownLogs::Both, have_word(one, other), &columns, out);
 }
 

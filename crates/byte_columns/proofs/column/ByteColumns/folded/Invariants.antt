@@ -1,6 +1,6 @@
 use Rattle.std.proofs.Common.{◌≡◌, ◌+◌, ◌-◌, ◌≤◌}
 use Rattle.byte_columns.specs.Lines.{differing_before, folded_from, line_count}
-use Rattle.byte_columns.proofs.column.Beside.folded.Given as goal
+use Rattle.byte_columns.proofs.column.ByteColumns.folded.Given as goal
 
 abbrev pub invariant-lines : goal.invariant-lines
 invariant-lines l = record {

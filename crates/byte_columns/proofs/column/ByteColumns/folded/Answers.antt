@@ -3,8 +3,8 @@ use Rattle.std.proofs.lemmas.Bool.{le-ltb, lt-ltb}
 use Rattle.byte_columns.specs.Lines.{line_count, line_differs}
 use Rattle.byte_columns.proofs.Counting.{one_if}
 use Rattle.byte_columns.proofs.LinePlaces.{before-few, before-next, folded-next, folded-none, folded-shown, lines-few}
-use Rattle.byte_columns.proofs.column.Beside.folded.Goals as goal
-use Rattle.byte_columns.proofs.column.Beside.folded.Goals.{then-differing_in-gt0, else-differing_in-gt0}
+use Rattle.byte_columns.proofs.column.ByteColumns.folded.Goals as goal
+use Rattle.byte_columns.proofs.column.ByteColumns.folded.Goals.{then-differing_in-gt0, else-differing_in-gt0}
 
 pub lines-init : goal.lines-init
 lines-init c = record { up = omega arith; inside = c.requires.inside; differ = c.requires.before; so_far = omega arith }

@@ -3,8 +3,8 @@ use Rattle.std.proofs.lemmas.Bool.{le-ltb, lt-ltb}
 use Rattle.byte_columns.specs.Lines.{differing_before, line_differs}
 use Rattle.byte_columns.proofs.Counting.{one_if}
 use Rattle.byte_columns.proofs.LinePlaces.{before-few, before-next, lines-few}
-use Rattle.byte_columns.proofs.column.Beside.differing_behind.Goals as goal
-use Rattle.byte_columns.proofs.column.Beside.differing_behind.Goals.{then-differing_in-gt0, else-differing_in-gt0}
+use Rattle.byte_columns.proofs.column.ByteColumns.differing_behind.Goals as goal
+use Rattle.byte_columns.proofs.column.ByteColumns.differing_behind.Goals.{then-differing_in-gt0, else-differing_in-gt0}
 
 pub overflow_add-at-end : goal.overflow_add-at-end
 overflow_add-at-end c = let all = lines-few c.args.self.now in omega (arith, c.requires.inside, all)

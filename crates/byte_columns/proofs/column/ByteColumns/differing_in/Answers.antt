@@ -2,7 +2,7 @@ use Rattle.std.proofs.Common.{◌-◌, ℕ, take, drop, ap, ◌∙◌, arith}
 use Rattle.byte_columns.specs.Columns.{differing}
 use Rattle.byte_columns.specs.Lines.{line}
 use Rattle.byte_columns.proofs.LinePlaces.{differing-few, line-is}
-use Rattle.byte_columns.proofs.column.Beside.differing_in.Goals as goal
+use Rattle.byte_columns.proofs.column.ByteColumns.differing_in.Goals as goal
 
 pub returns-clause-value : goal.returns-clause-value
 returns-clause-value c =

@@ -1,5 +1,5 @@
 use Rattle.std.proofs.Common.{arith}
-use Rattle.byte_columns.proofs.column.Beside.line_count.Goals as goal
+use Rattle.byte_columns.proofs.column.ByteColumns.line_count.Goals as goal
 
 pub overflow_add-result : goal.overflow_add-result
 overflow_add-result c = omega (arith, c.columns_in_lines.ensures.few)
