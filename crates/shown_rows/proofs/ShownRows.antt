@@ -1,13 +1,10 @@
 -- What a page shows unfolded is what the hunks of a text have.
-use Rattle.std.proofs.Common.{◌≡◌, ℕ, zero, suc, ◌+◌, ◌-◌, ◌≤◌, ◌<◌, min, Bool, true, false, List, [], ◌∷◌, ◌++◌, map, length, take, ap, ap₂, sym, ◌∙◌, arith, refl}
-use Rattle.std.specs.Prelude.{if◌then◌else◌}
+use Rattle.std.proofs.Common.{◌≡◌, ℕ, zero, suc, ◌+◌, ◌-◌, ◌≤◌, ◌<◌, min, Bool, true, false, List, [], ◌∷◌, ◌++◌, length, take, ap, sym, ◌∙◌, arith, refl}
 use Rattle.std.specs.List.{flat_map}
-use Rattle.std.proofs.lemmas.List.{map-append}
 use Rattle.uds_difference.specs.declared.row.Row.{Row}
 use Rattle.uds_difference.specs.declared.row.Row.TheVariants.{Same, Changed, OnlyLeft, OnlyRight}
-use Rattle.shown_rows.specs.Folds.{context_behind, is_shown, shown_from}
-use Rattle.shown_rows.specs.Hunks.{Hunk, hunk_length, hunks, hunks_behind, rows_to_last_change}
-use Rattle.shown_rows.specs.Laws.{RowAt, ShownRowsAreThoseOfHunks, ShownRowsStandInHunks, places_of_hunk, row_at, rows_at, rows_of_hunk, shown_at}
+use Rattle.shown_rows.specs.Hunks.{hunk_length, hunks_behind, rows_to_last_change}
+use Rattle.shown_rows.specs.Laws.{RowAt, ShownRowsStandInHunks, places_of_hunk, row_at, rows_at, shown_at}
 use Rattle.shown_rows.specs.Rows.{changes_within, is_change, left_in, right_in}
 use Rattle.shown_rows.proofs.RowSteps.{none-within}
 
@@ -181,32 +178,3 @@ in-hunk (OnlyRight ∷ rows) context i j small =
 
 pub shown_rows_stand_in_hunks : ShownRowsStandInHunks
 shown_rows_stand_in_hunks rows = sym (in-front 0 0 rows (in-hunk rows 0 0 0 (omega arith)))
-
--- Without their places.
-
-abbrev kind_of : RowAt → Row
-kind_of row = row.kind
-
-kinds : (i j : ℕ) (rows : List Row) → map kind_of (rows_at i j rows) ≡ rows
-kinds i j [] = refl
-kinds i j (row ∷ rows) = ap (λ (l : List Row). row ∷ l) (kinds (i + left_in row) (j + right_in row) rows)
-
-hunk-kinds : (hunks : List Hunk) → map kind_of (flat_map places_of_hunk hunks) ≡ flat_map rows_of_hunk hunks
-hunk-kinds [] = refl
-hunk-kinds (hunk ∷ later) =
-    map-append kind_of (places_of_hunk hunk) (flat_map places_of_hunk later)
-    ∙ ap₂ (λ (a b : List Row). a ++ b) (kinds hunk.left hunk.right hunk.rows) (hunk-kinds later)
-
-one-kind : (is : Bool) (row : Row) (i j : ℕ) (later : List RowAt) (rows : List Row) → map kind_of later ≡ rows
-    → map kind_of (if is then row_at row i j ∷ later else later) ≡ (if is then row ∷ rows else rows)
-one-kind true row i j later rows are = ap (λ (l : List Row). row ∷ l) are
-one-kind false row i j later rows are = are
-
-shown-kinds : (context i j : ℕ) (rows : List Row) → map kind_of (shown_at context i j rows) ≡ shown_from context rows
-shown-kinds context i j [] = refl
-shown-kinds context i j (row ∷ rows) =
-    one-kind (is_shown context (row ∷ rows)) row i j (shown_at (context_behind context row) (i + left_in row) (j + right_in row) rows)
-    (shown_from (context_behind context row) rows) (shown-kinds (context_behind context row) (i + left_in row) (j + right_in row) rows)
-
-pub shown_rows_are_those_of_hunks : ShownRowsAreThoseOfHunks
-shown_rows_are_those_of_hunks rows = sym (shown-kinds 0 0 0 rows) ∙ ap (map kind_of) (shown_rows_stand_in_hunks rows) ∙ hunk-kinds (hunks rows)

@@ -18,16 +18,6 @@ abbrev pub is_shown : ℕ → List Row → Bool
 is_shown zero rows = changes_within (context + 1) rows
 is_shown (suc more) rows = true
 
--- the rows that are shown
-abbrev pub shown_from : ℕ → List Row → List Row
-shown_from more [] = []
-shown_from more (row ∷ rows) =
-    if is_shown more (row ∷ rows) then row ∷ shown_from (context_behind more row) rows else shown_from (context_behind more row) rows
-
--- the rows that are shown, of all
-abbrev pub shown : List Row → List Row
-shown rows = shown_from 0 rows
-
 -- how many rows from the first of these on are folded together, behind one that is not shown or in front of all
 abbrev pub folded : List Row → ℕ
 folded [] = 0

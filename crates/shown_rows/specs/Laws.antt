@@ -7,17 +7,9 @@ use Rattle.uds_difference.specs.declared.row.Row.{Row}
 use Rattle.uds_difference.specs.declared.row.Row.TheVariants.{Same, Changed, OnlyLeft, OnlyRight}
 use Rattle.shown_rows.specs.declared.changes.Change.{Change}
 use Rattle.shown_rows.specs.Changes.{changes}
-use Rattle.shown_rows.specs.Folds.{context_behind, folded, is_shown, shown}
+use Rattle.shown_rows.specs.Folds.{context_behind, folded, is_shown}
 use Rattle.shown_rows.specs.Hunks.{Hunk, hunks}
 use Rattle.shown_rows.specs.Rows.{count_of, is_change, left_count, left_in, right_count, right_in, same_row}
-
--- the rows of a hunk
-abbrev pub rows_of_hunk : Hunk → List Row
-rows_of_hunk hunk = hunk.rows
-
--- what a page shows unfolded is what the hunks of a text have
-abbrev pub ShownRowsAreThoseOfHunks : Type 0
-ShownRowsAreThoseOfHunks = (rows : List Row) → shown rows ≡ flat_map rows_of_hunk (hunks rows)
 
 -- a row, and how many items of both sessions stand before it
 pub record RowAt : Type 0 where
@@ -46,7 +38,8 @@ shown_at more left right (row ∷ rows) =
     then row_at row left right ∷ shown_at (context_behind more row) (left + left_in row) (right + right_in row) rows
     else shown_at (context_behind more row) (left + left_in row) (right + right_in row) rows
 
--- the rows that are shown stand where those of the hunks do
+-- What a page shows unfolded is what the hunks of a text have, each row where it stands there. So, by the kinds of both sides,
+-- the rows that are shown are those of the hunks, in order.
 abbrev pub ShownRowsStandInHunks : Type 0
 ShownRowsStandInHunks = (rows : List Row) → shown_at 0 0 0 rows ≡ flat_map places_of_hunk (hunks rows)
 
