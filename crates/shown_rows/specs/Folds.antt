@@ -2,7 +2,8 @@
 use Prim.Native.Nat.{zero, suc}
 use Rattle.std.specs.Prelude.{ℕ, ◌+◌, Bool, true, List, [], ◌∷◌, if◌then◌else◌}
 use Rattle.uds_difference.specs.declared.row.Row.{Row}
-use Rattle.shown_rows.specs.Rows.{changes_within, context, is_change}
+use Rattle.shown_rows.specs.Hunks.{begins_hunk}
+use Rattle.shown_rows.specs.Rows.{context, is_change}
 
 abbrev pub one_less : ℕ → ℕ
 one_less zero = 0
@@ -15,7 +16,7 @@ context_behind more row = if is_change row then context else one_less more
 -- The first of these rows is shown, where so many more are since a change stands before them: those, a change, and
 -- each row with a change among the three behind it.
 abbrev pub is_shown : ℕ → List Row → Bool
-is_shown zero rows = changes_within (context + 1) rows
+is_shown zero rows = begins_hunk rows
 is_shown (suc more) rows = true
 
 -- how many rows from the first of these on are folded together, behind one that is not shown or in front of all

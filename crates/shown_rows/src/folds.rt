@@ -2,7 +2,8 @@
 ghost use Rattle.std.specs.Prelude.{◌≡◌, ◌≤◌, length};
 ghost use Rattle.shown_rows.specs.Folds as Spec;
 
-use crate::rows::{CONTEXT, changes_within, is_change};
+use crate::hunks::begins_hunk;
+use crate::rows::{CONTEXT, is_change};
 use uds_difference::Row;
 
 /// How many rows behind a row are shown, since a change stands before them, by how many more were before this row.
@@ -20,7 +21,7 @@ pub fn context_behind(more: usize, row: Row) -> usize
 pub fn is_shown(more: usize, rows: &[Row]) -> bool
     ensures { result ≡ Spec.is_shown more rows.now }
 {
-    more > 0 || changes_within(CONTEXT + 1, rows)
+    more > 0 || begins_hunk(rows)
 }
 
 /// How many rows from the first of these on are folded together, behind one that is not shown or in front of all.

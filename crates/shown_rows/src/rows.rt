@@ -5,7 +5,7 @@ ghost use Rattle.shown_rows.specs.Rows.{changes_within, count_of, differs, is_ch
 use uds_difference::Row;
 
 /// How many rows that are the same are shown in front of a change, and behind one, as `diff -U3` has it.
-pub const CONTEXT: usize = 3;
+pub(crate) const CONTEXT: usize = 3;
 
 /// Whether what stands in a row is not the same in both sessions.
 pub fn is_change(row: Row) -> bool
@@ -62,7 +62,7 @@ pub fn right_count(rows: &[Row]) -> usize
 }
 
 /// Whether one of the first so many rows is a change.
-pub fn changes_within(count: usize, rows: &[Row]) -> bool
+pub(crate) fn changes_within(count: usize, rows: &[Row]) -> bool
     ensures { result ≡ changes_within count rows.now }
 {
     let seen = count.min(rows.len());
