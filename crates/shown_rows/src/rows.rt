@@ -82,7 +82,7 @@ pub fn differs(rows: &[Row]) -> bool
 }
 
 /// How many rows are of this kind.
-pub fn count_of(kind: Row, rows: &[Row]) -> u64
+pub fn count_of(kind: Row, rows: &[Row]) -> usize
     ensures { result ≡ count_of kind rows.now }
 {
     let mut count = 0;

@@ -100,7 +100,7 @@ fn say_row_or_fold<S: TextSink>(
         → S.says out.old (row_or_fold sessions.entry.left.now sessions.entry.right.now all at row later) out.new }
 {
     if at.folded == 0 {
-        if is_shown(at.context, rows) {
+        if is_shown(at.still_shown, rows) {
             say_shown(sessions, all, at, rows, out);
         } else {
             say(out, TableEnd(at.table));

@@ -54,10 +54,10 @@ fn say_different<S: TextSink>(found: FoundDifference<'_>, sessions: Sessions<'_>
         (
             DifferentHeading {
                 differences: count_changes(rows) as u64,
-                same: count_of(Row::Same, rows),
-                left: count_of(Row::OnlyLeft, rows),
-                right: count_of(Row::OnlyRight, rows),
-                changed: count_of(Row::Changed, rows),
+                same: count_of(Row::Same, rows) as u64,
+                left: count_of(Row::OnlyLeft, rows) as u64,
+                right: count_of(Row::OnlyRight, rows) as u64,
+                changed: count_of(Row::Changed, rows) as u64,
             },
             losses_at_changes(rows, sessions),
             BoundLine(found.shortest, found.bound),
