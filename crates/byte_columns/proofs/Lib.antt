@@ -5,6 +5,7 @@ pub mod BothMessages
 pub mod Counting
 pub mod PairedPieces
 pub mod LineNumbers
+pub mod NextStretches
 pub mod LinePlaces
 pub mod StretchKinds
 pub mod CommonEnds

@@ -2,6 +2,8 @@
 use Prim.Native.Nat.{zero, suc}
 use Rattle.std.specs.Prelude.{ℕ, ◌+◌, ◌-◌, ◌*◌, ◌/◌, Bool, ◌&&◌, ◌||◌, List, [], ◌∷◌, ◌++◌, nat_eq, nat_le, nat_lt, length, take, drop, if◌then◌else◌}
 use Rattle.byte_columns.specs.declared.column.Column.{Column}
+use Rattle.byte_columns.specs.declared.stretches.Stretch.{Stretch}
+use Rattle.byte_columns.specs.declared.stretches.Stretch.TheVariants.{Shown, Folded}
 use Rattle.byte_columns.specs.Columns.{differing}
 
 -- so many columns has a line, but the last one, which may have fewer
@@ -61,21 +63,17 @@ abbrev pub columns_from : List Column → ℕ → ℕ → List Column
 columns_from columns number zero = []
 columns_from columns number (suc more) = line columns number ++ columns_from columns (number + 1) more
 
--- what a reader sees: a line, or so many from one number on, folded together
-pub data Stretch : Type 0 where
-  shown : ℕ → Stretch
-  folded : ℕ → ℕ → Stretch
-
 -- one more line that is folded, in front of others
 abbrev pub with_folded : ℕ → List Stretch → List Stretch
-with_folded number (folded first count ∷ later) = folded number (suc count) ∷ later
-with_folded number later = folded number 1 ∷ later
+with_folded number (Folded first count ∷ later) = Folded number (suc count) ∷ later
+with_folded number later = Folded number 1 ∷ later
 
--- the stretches of so many lines, from this number on
+-- The stretches of so many lines, from this number on: what a reader sees is a line, or so many from one number on, folded
+-- together.
 abbrev pub stretches_from : List Column → ℕ → ℕ → List Stretch
 stretches_from columns number zero = []
 stretches_from columns number (suc more) =
-    if is_shown columns number then shown number ∷ stretches_from columns (number + 1) more
+    if is_shown columns number then Shown number ∷ stretches_from columns (number + 1) more
     else with_folded number (stretches_from columns (number + 1) more)
 
 -- the stretches of all lines

@@ -1,2 +1,3 @@
 -- Devices of proof.
 pub mod BytesBefore
+pub mod Stretches

@@ -32,7 +32,7 @@ pub fn lines_stand_once()
     ensures { LinesStandOnce }
 {}
 
-/// Each stretch is a line that is shown, or a longest run of lines that are not.
+/// Each stretch is a line that is there and shown, or a longest run of lines that are there and not shown.
 pub fn stretches_are_of_one_kind()
     ensures { StretchesAreOfOneKind }
 {}

@@ -59,7 +59,7 @@ impl<'a> ByteColumns<'a> {
     }
 
     /// Whether a line is shown, before which so many differ.
-    pub fn is_shown(&self, number: usize, before: usize) -> bool
+    fn is_shown(&self, number: usize, before: usize) -> bool
         requires inside { number < line_count self.now }
         requires before { before ≡ differing_before self.now number }
         ensures { result ≡ is_shown self.now number }
@@ -70,7 +70,7 @@ impl<'a> ByteColumns<'a> {
     }
 
     /// How many lines are folded together, from this one on, before which so many differ.
-    pub fn folded(&self, number: usize, before: usize) -> usize
+    pub(crate) fn folded(&self, number: usize, before: usize) -> usize
         requires inside { number ≤ line_count self.now }
         requires before { before ≡ differing_before self.now number }
         ensures value { result ≡ folded_from self.now number (line_count self.now - number) }
@@ -90,7 +90,7 @@ impl<'a> ByteColumns<'a> {
     }
 
     /// How many lines differ before the one behind so many, from this one on, before which so many do.
-    pub fn differing_behind(&self, number: usize, before: usize, count: usize) -> usize
+    pub(crate) fn differing_behind(&self, number: usize, before: usize, count: usize) -> usize
         requires inside { number + count ≤ line_count self.now }
         requires before { before ≡ differing_before self.now number }
         ensures { result ≡ differing_before self.now (number + count) }

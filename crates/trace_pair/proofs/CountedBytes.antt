@@ -3,7 +3,8 @@ use Rattle.std.proofs.Common.{◌≡◌, ℕ, Bool, List, [], ◌∷◌, ◌++�
 use Rattle.std.specs.Prelude.{◌==◌, if◌then◌else◌, cond}
 use Rattle.std.specs.List.{filter, flat_map, range_with_len}
 use Rattle.byte_columns.specs.declared.column.Column.{Column}
-use Rattle.byte_columns.specs.Lines.{folded, columns_from}
+use Rattle.byte_columns.specs.declared.stretches.Stretch.TheVariants.{Folded}
+use Rattle.byte_columns.specs.Lines.{columns_from}
 use Rattle.trace_pair.specs.declared.column_lines.ShownLogs.{ShownLogs}
 use Rattle.trace_pair.specs.declared.column_lines.ShownLogs.TheVariants.{Both, Only}
 use Rattle.trace_pair.specs.declared.log.PairLog.{PairLog}
@@ -50,7 +51,7 @@ module _ (sides : ShownLogs) (lettered : Bool) (columns : List Column) (first co
   abbrev own_lines : List ℕ
   own_lines = flat_map (line_text sides lettered columns) (range_with_len first count)
 
-  fold-tells : stretch_text sides lettered columns (folded first count)
+  fold-tells : stretch_text sides lettered columns (Folded first count)
       ≡ (codes "<details><summary>" ++ fold_told (own_columns sides folded_columns) ++ codes "</summary>") ++ (own_lines ++ codes "</details>")
   fold-tells =
       ap (λ (l : List Column). codes "<details><summary>" ++ fold_told l ++ codes "</summary>" ++ own_lines ++ codes "</details>") (counted-own sides folded_columns)

@@ -6,7 +6,7 @@ mod OwnLines
 mod CountedBytes
 pub mod CountedColumns
 pub mod LastDigits
-pub mod Stretches
+pub mod LineNumbers
 pub mod Tables
 pub mod Standings
 pub mod FoldParts

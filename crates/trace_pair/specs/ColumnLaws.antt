@@ -3,8 +3,9 @@
 use Rattle.std.specs.Prelude.{◌≡◌, ◌==◌, ℕ, Bool, true, false, List, [], ◌∷◌, ◌++◌, codes, length, option_to_list}
 use Rattle.std.specs.List.{filter}
 use Rattle.byte_columns.specs.declared.column.Column.{Column}
+use Rattle.byte_columns.specs.declared.stretches.Stretch.TheVariants.{Folded}
 use Rattle.byte_columns.specs.Columns.{differing}
-use Rattle.byte_columns.specs.Lines.{folded as folded_lines, columns_from, line, line_differs}
+use Rattle.byte_columns.specs.Lines.{columns_from, line, line_differs}
 use Rattle.trace_pair.specs.declared.log.PairLog.{PairLog}
 use Rattle.trace_pair.specs.declared.log.PairLog.TheVariants.{A, B}
 use Rattle.trace_pair.specs.declared.column_lines.ShownLogs.{ShownLogs}
@@ -37,7 +38,7 @@ abbrev pub EachByteIsCounted : Type 0
 EachByteIsCounted = (columns : List Column)
     → ((sides : ShownLogs) → counted sides columns ≡ own_columns sides columns)
     × ((log : PairLog) → length (own_columns (Only log) columns) ≡ length (bytes_in log columns))
-    × ((sides : ShownLogs) (lettered : Bool) (first count : ℕ) → (behind : List ℕ) × (stretch_text sides lettered columns (folded_lines first count)
+    × ((sides : ShownLogs) (lettered : Bool) (first count : ℕ) → (behind : List ℕ) × (stretch_text sides lettered columns (Folded first count)
     ≡ (codes "<details><summary>" ++ fold_told (own_columns sides (columns_from columns first count)) ++ codes "</summary>") ++ behind))
     × ((sides : ShownLogs) → hidden_text sides columns ≡ hidden_told (own_columns sides columns))
 

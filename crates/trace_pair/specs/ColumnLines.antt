@@ -4,8 +4,10 @@ use Rattle.std.specs.Fmt.{decimal}
 use Rattle.std.specs.List.{flat_map, range_with_len}
 use Rattle.can_log.specs.Digits.{hexadecimal}
 use Rattle.byte_columns.specs.declared.column.Column.{Column}
+use Rattle.byte_columns.specs.declared.stretches.Stretch.{Stretch}
+use Rattle.byte_columns.specs.declared.stretches.Stretch.TheVariants.{Shown, Folded}
 use Rattle.byte_columns.specs.Columns.{differing, differs}
-use Rattle.byte_columns.specs.Lines.{Stretch, shown, folded, columns_from, hidden, line, line_count, line_differs, line_length, stretches}
+use Rattle.byte_columns.specs.Lines.{columns_from, hidden, line, line_count, line_differs, line_length, stretches}
 use Rattle.trace_report.specs.Letters.{letter_text}
 use Rattle.trace_pair.specs.declared.column_lines.ShownLogs.{ShownLogs}
 use Rattle.trace_pair.specs.declared.column_lines.ShownLogs.TheVariants.{Both, Only}
@@ -143,8 +145,8 @@ fold_words count differ = if count == 0 then codes "no byte more" else bytes_mor
 -- a stretch of lines: one that is shown, or several that are folded, with how many columns of theirs count, and how many of
 -- these differ
 abbrev pub stretch_text : ShownLogs → Bool → List Column → Stretch → List ℕ
-stretch_text sides lettered columns (shown number) = line_text sides lettered columns number
-stretch_text sides lettered columns (folded first count) =
+stretch_text sides lettered columns (Shown number) = line_text sides lettered columns number
+stretch_text sides lettered columns (Folded first count) =
     codes "<details><summary>"
     ++ fold_words (length (counted sides (columns_from columns first count))) (differing (counted sides (columns_from columns first count)))
     ++ codes "</summary>" ++ flat_map (line_text sides lettered columns) (range_with_len first count) ++ codes "</details>"

@@ -1,8 +1,10 @@
 //! Two messages byte under byte, in lines of sixteen columns.
-ghost use Rattle.std.specs.Prelude.{◌≡◌, ◌+◌, ◌-◌, ◌||◌, ◌≤◌, ◌<◌};
+ghost use Rattle.std.specs.Prelude.{◌≡◌, ◌+◌, ◌||◌, ◌≤◌, ◌<◌};
 ghost use Rattle.std.specs.List.{flat_map, range_with_len};
 ghost use Rattle.trace_pair.specs.declared.column_lines.ShownLogs.TheVariants.{Both};
-ghost use Rattle.byte_columns.specs.Lines.{folded, line_count, stretches};
+ghost use Rattle.byte_columns.specs.declared.stretches.Stretch.TheVariants.{Folded};
+ghost use Rattle.byte_columns.specs.Laws.{IsOfOneKind};
+ghost use Rattle.byte_columns.specs.Lines.{line_count, stretches};
 ghost use Rattle.trace_report.specs.Letters.{has_word};
 ghost use Rattle.trace_pair.specs.ColumnLines.{line_text, lines_text, stretch_text};
 
@@ -10,7 +12,7 @@ use crate::column_cells::{ColumnLine, say_line_of};
 use crate::column_counts::{counts_from, hidden_counts};
 use crate::column_words::{FoldWords, Hidden, Whose};
 use crate::log::PairLog;
-use byte_columns::ByteColumns;
+use byte_columns::{ByteColumns, Stretch};
 use text_parts::say;
 use trace_io::TextSink;
 use trace_report::has_word;
@@ -55,24 +57,31 @@ fn say_stretches<S: TextSink>(
 )
     ensures { S.says out.old (flat_map (stretch_text sides lettered columns.now) (stretches columns.now)) out.new }
 {
-    let count = columns.line_count();
-    let mut before: usize = 0;
-    let mut at: usize = 0;
-    'lines: while at < count {
-        let folded = columns.folded(at, before);
-        if folded == 0 {
-            say_line(sides, lettered, columns, at, out);
-            before = columns.differing_behind(at, before, 1);
-            at += 1;
-        } else {
+    'lines: for stretch in columns.stretches() {
+        say_stretch(sides, lettered, columns, stretch, out);
+    }
+}
+
+/// Says a line that is shown, or those that are folded together.
+fn say_stretch<S: TextSink>(
+    sides: ShownLogs,
+    lettered: bool,
+    columns: &ByteColumns<'_>,
+    stretch: Stretch,
+    out: &mut S,
+)
+    requires { IsOfOneKind columns.now stretch }
+    ensures { S.says out.old (stretch_text sides lettered columns.now stretch) out.new }
+{
+    match stretch {
+        Stretch::Shown(number) => say_line(sides, lettered, columns, number, out),
+        Stretch::Folded { first, count } => {
             let fold = LineRange {
                 columns: &*columns,
-                first: at,
-                count: folded,
+                first,
+                count,
             };
             say_fold(sides, lettered, fold, out);
-            before = columns.differing_behind(at, before, folded);
-            at += folded;
         }
     }
 }
@@ -88,7 +97,7 @@ struct LineRange<'a> {
 /// Says lines that are folded together.
 fn say_fold<S: TextSink>(sides: ShownLogs, lettered: bool, fold: LineRange<'_>, out: &mut S)
     requires { fold.first + fold.count ≤ line_count fold.columns.now }
-    ensures { S.says out.old (stretch_text sides lettered fold.entry.columns.now (folded fold.entry.first fold.entry.count)) out.new }
+    ensures { S.says out.old (stretch_text sides lettered fold.entry.columns.now (Folded fold.entry.first fold.entry.count)) out.new }
 {
     let LineRange {
         columns,
