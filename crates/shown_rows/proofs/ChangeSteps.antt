@@ -1,7 +1,8 @@
--- Rows that are counted one after another.
-use Rattle.std.proofs.Common.{◌≡◌, ℕ, suc, ◌+◌, ◌-◌, ◌≤◌, ◌<◌, Bool, true, false, List, [], ◌∷◌, length, take, drop, get_or, ap, sym, ◌∙◌, arith, refl}
+-- Rows one after another: those of a run, of a fold, and with which a change begins.
+use Rattle.std.proofs.Common.{◌≡◌, ℕ, suc, ◌+◌, ◌-◌, ◌≤◌, ◌<◌, Bool, true, false, List, ◌∷◌, length, take, drop, get_or, Option, Some, None, ap, sym, ◌∙◌, arith, refl}
 use Rattle.std.specs.Prelude.{if◌then◌else◌}
 use Rattle.std.proofs.lemmas.List.{drop_all, drop_more, take_rest}
+use Rattle.std.proofs.lemmas.Option.{none-some, same_Some}
 use Rattle.uds_difference.specs.declared.row.Row.{Row}
 use Rattle.uds_difference.specs.declared.row.Row.TheVariants.{Same}
 use Rattle.shown_rows.specs.declared.changes.Change.{Change}
@@ -58,48 +59,25 @@ fold-later rows k below e =
 pub fold-end : (rows : List Row) (k : ℕ) → length rows ≤ k → k + folded (drop k rows) ≡ k
 fold-end rows k past = let none = ap folded (drop_all k rows past) in omega arith
 
--- ---- changes that are counted
+-- ---- one change after another
 
--- a change that begins, or none, in front of others
-abbrev pub with_change : Bool → Change → List Change → List Change
-with_change begins here later = if begins then here ∷ later else later
+module _ (front row : Row) (left right : ℕ) (later : List Row) (found : Option Change)
+    (is : found ≡ (if begins_change front row then Some (change row left right (change_length row later)) else None)) where
+  abbrev behind : List Change
+  behind = changes_from row (left + left_in row) (right + right_in row) later
 
-length-with : (begins : Bool) (one other : Change) (later others : List Change) → length later ≡ length others
-    → length (with_change begins one later) ≡ length (with_change begins other others)
-length-with true one other later others e = ap (λ (n : ℕ). suc n) e
-length-with false one other later others e = e
+  pub change-first : (here : Change) → found ≡ Some here → changes_from front left right (row ∷ later) ≡ here ∷ changes_from row (left + left_in row) (right + right_in row) later
+  change-first here some = by (begins_change front row) is
+    where
+      by : (begins : Bool) → found ≡ (if begins then Some (change row left right (change_length row later)) else None)
+          → (if begins then change row left right (change_length row later) ∷ behind else behind) ≡ here ∷ behind
+      by true e = ap (λ (c : Change). c ∷ behind) (same_Some (change row left right (change_length row later)) here (sym e ∙ some))
+      by false e = absurd (none-some here (sym e ∙ some))
 
--- how many there are does not depend on what stands before them
-anywhere : (front : Row) (i j p q : ℕ) (rows : List Row) → length (changes_from front i j rows) ≡ length (changes_from front p q rows)
-anywhere front i j p q [] = refl
-anywhere front i j p q (row ∷ rows) =
-    length-with (begins_change front row) (change row i j (change_length row rows)) (change row p q (change_length row rows)) _ _
-    (anywhere row (i + left_in row) (j + right_in row) (p + left_in row) (q + right_in row) rows)
-
-one-begins : (begins : Bool) (here : Change) (later : List Change) → begins ≡ true → length (with_change begins here later) ≡ suc (length later)
-one-begins true here later e = refl
-one-begins false here later e = absurd cc
-
-none-begins : (begins : Bool) (here : Change) (later : List Change) → begins ≡ false → length (with_change begins here later) ≡ length later
-none-begins true here later e = absurd cc
-none-begins false here later e = refl
-
-module _ (front : Row) (rows : List Row) (k : ℕ) (d : Row) (below : k < length rows) where
-  pub change-here : begins_change front (get_or rows k d) ≡ true
-      → length (changes_from front 0 0 (drop k rows)) ≡ 1 + length (changes_from (get_or rows k d) 0 0 (drop (k + 1) rows))
-  change-here begins =
-      let first = ap (λ (l : List Row). length (changes_from front 0 0 l)) (drop_more rows k d below) in
-      let one = one-begins (begins_change front (get_or rows k d)) (change (get_or rows k d) 0 0 (change_length (get_or rows k d) (drop (k + 1) rows))) (changes_from (get_or rows k d) (0 + left_in (get_or rows k d)) (0 + right_in (get_or rows k d)) (drop (k + 1) rows)) begins in
-      let same = anywhere (get_or rows k d) (0 + left_in (get_or rows k d)) (0 + right_in (get_or rows k d)) 0 0 (drop (k + 1) rows) in
-      omega arith
-
-  pub no-change-here : begins_change front (get_or rows k d) ≡ false
-      → length (changes_from front 0 0 (drop k rows)) ≡ length (changes_from (get_or rows k d) 0 0 (drop (k + 1) rows))
-  no-change-here begins =
-      let first = ap (λ (l : List Row). length (changes_from front 0 0 l)) (drop_more rows k d below) in
-      let none = none-begins (begins_change front (get_or rows k d)) (change (get_or rows k d) 0 0 (change_length (get_or rows k d) (drop (k + 1) rows))) (changes_from (get_or rows k d) (0 + left_in (get_or rows k d)) (0 + right_in (get_or rows k d)) (drop (k + 1) rows)) begins in
-      let same = anywhere (get_or rows k d) (0 + left_in (get_or rows k d)) (0 + right_in (get_or rows k d)) 0 0 (drop (k + 1) rows) in
-      omega arith
-
-pub none-left : (front : Row) (rows : List Row) (k : ℕ) → length rows ≤ k → length (changes_from front 0 0 (drop k rows)) ≡ 0
-none-left front rows k past = ap (λ (l : List Row). length (changes_from front 0 0 l)) (drop_all k rows past)
+  pub no-change-first : found ≡ None → changes_from front left right (row ∷ later) ≡ changes_from row (left + left_in row) (right + right_in row) later
+  no-change-first none = by (begins_change front row) is
+    where
+      by : (begins : Bool) → found ≡ (if begins then Some (change row left right (change_length row later)) else None)
+          → (if begins then change row left right (change_length row later) ∷ behind else behind) ≡ behind
+      by true e = absurd (none-some (change row left right (change_length row later)) (sym none ∙ e))
+      by false e = refl
