@@ -1,5 +1,5 @@
 -- The stretches of lines, one after another.
-use Rattle.std.proofs.Common.{◌≡◌, ℕ, zero, suc, ◌+◌, ◌-◌, ◌≤◌, ◌<◌, Bool, true, false, List, [], ◌∷◌, ap, ap₂, sym, subst, ◌∙◌, arith, refl}
+use Rattle.std.proofs.Common.{◌≡◌, ℕ, zero, suc, ◌+◌, ◌-◌, ◌<◌, Bool, true, false, List, ◌∷◌, ap, ap₂, sym, subst, ◌∙◌, arith, refl}
 use Rattle.byte_columns.specs.declared.column.Column.{Column}
 use Rattle.byte_columns.specs.declared.stretches.Stretch.TheVariants.{Shown, Folded}
 use Rattle.byte_columns.specs.Lines.{folded_from, is_shown, line_count, stretches_from, with_folded}
@@ -64,9 +64,6 @@ shown-by columns number more false is none =
     absurd (omega arith)
 
 -- ---- the stretches from a line on
-
-pub left-none : (columns : List Column) (number : ℕ) → line_count columns ≤ number → stretches_left columns number ≡ []
-left-none columns number past = let none : line_count columns - number ≡ 0 = omega arith in ap (stretches_from columns number) none
 
 pub left-shown : (columns : List Column) (number : ℕ) → number < line_count columns → folded_from columns number (line_count columns - number) ≡ 0
     → stretches_left columns number ≡ Shown number ∷ stretches_left columns (number + 1)
