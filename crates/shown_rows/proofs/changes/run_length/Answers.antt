@@ -1,5 +1,5 @@
 use Rattle.std.proofs.Common.{arith, sym, ◌∙◌}
-use Rattle.shown_rows.proofs.ChangeSteps.{run-end, run-here, run-later}
+use Rattle.shown_rows.proofs.RunSteps.{run-end, run-here, run-later}
 use Rattle.shown_rows.proofs.changes.run_length.Goals as goal
 
 pub returns-then-not-is_of-clause-value : goal.returns-then-not-is_of-clause-value

@@ -1,14 +1,11 @@
--- Rows one after another: those of a run, of a fold, and with which a change begins.
-use Rattle.std.proofs.Common.{◌≡◌, ℕ, suc, ◌+◌, ◌-◌, ◌≤◌, ◌<◌, Bool, true, false, List, ◌∷◌, length, take, drop, get_or, Option, Some, None, ap, sym, ◌∙◌, arith, refl}
-use Rattle.std.specs.Prelude.{if◌then◌else◌}
+-- Rows one after another: those of a run, and of a fold.
+use Rattle.std.proofs.Common.{◌≡◌, ℕ, suc, ◌+◌, ◌-◌, ◌≤◌, ◌<◌, true, false, List, ◌∷◌, length, take, drop, get_or, ap, sym, ◌∙◌, arith, refl}
 use Rattle.std.proofs.lemmas.List.{drop_all, drop_more, take_rest}
-use Rattle.std.proofs.lemmas.Option.{none-some, same_Some}
 use Rattle.uds_difference.specs.declared.row.Row.{Row}
 use Rattle.uds_difference.specs.declared.row.Row.TheVariants.{Same}
-use Rattle.shown_rows.specs.declared.changes.Change.{Change}
-use Rattle.shown_rows.specs.Changes.{begins_change, change, change_length, changes_from, run_length}
+use Rattle.shown_rows.specs.Changes.{run_length}
 use Rattle.shown_rows.specs.Folds.{folded, is_shown}
-use Rattle.shown_rows.specs.Rows.{left_in, right_in, same_row}
+use Rattle.shown_rows.specs.Rows.{same_row}
 
 -- ---- a run of one kind
 
@@ -58,26 +55,3 @@ fold-later rows k below e =
 
 pub fold-end : (rows : List Row) (k : ℕ) → length rows ≤ k → k + folded (drop k rows) ≡ k
 fold-end rows k past = let none = ap folded (drop_all k rows past) in omega arith
-
--- ---- one change after another
-
-module _ (front row : Row) (left right : ℕ) (later : List Row) (found : Option Change)
-    (is : found ≡ (if begins_change front row then Some (change row left right (change_length row later)) else None)) where
-  abbrev behind : List Change
-  behind = changes_from row (left + left_in row) (right + right_in row) later
-
-  pub change-first : (here : Change) → found ≡ Some here → changes_from front left right (row ∷ later) ≡ here ∷ changes_from row (left + left_in row) (right + right_in row) later
-  change-first here some = by (begins_change front row) is
-    where
-      by : (begins : Bool) → found ≡ (if begins then Some (change row left right (change_length row later)) else None)
-          → (if begins then change row left right (change_length row later) ∷ behind else behind) ≡ here ∷ behind
-      by true e = ap (λ (c : Change). c ∷ behind) (same_Some (change row left right (change_length row later)) here (sym e ∙ some))
-      by false e = absurd (none-some here (sym e ∙ some))
-
-  pub no-change-first : found ≡ None → changes_from front left right (row ∷ later) ≡ changes_from row (left + left_in row) (right + right_in row) later
-  no-change-first none = by (begins_change front row) is
-    where
-      by : (begins : Bool) → found ≡ (if begins then Some (change row left right (change_length row later)) else None)
-          → (if begins then change row left right (change_length row later) ∷ behind else behind) ≡ behind
-      by true e = absurd (none-some (change row left right (change_length row later)) (sym none ∙ e))
-      by false e = refl
