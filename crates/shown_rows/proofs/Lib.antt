@@ -2,7 +2,7 @@ pub mod RowSteps
 pub mod Counted
 pub mod ShownRows
 pub mod EachChange
-pub mod RunSteps
+pub mod FoldSteps
 pub mod ChangeCounts
 pub mod ChangePlaces
 pub mod NearChanges

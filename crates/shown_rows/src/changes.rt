@@ -3,7 +3,7 @@ ghost use Rattle.std.specs.Prelude.{◌≡◌, ◌≤◌, ◌<◌, ◌^◌, List
 ghost use Rattle.uds_difference.specs.declared.row.Row.{Row};
 ghost use Rattle.shown_rows.specs.Changes.{begins_change, change, change_length, changes, run_length};
 
-use crate::rows::{is_of, left_in, right_in};
+use crate::rows::{left_in, right_in};
 use std::marker::Model;
 use uds_difference::Row;
 
@@ -70,7 +70,7 @@ fn run_length(kind: Row, rows: &[Row]) -> usize
     ensures within { result ≤ length rows.now }
 {
     'rows: for k in 0..rows.len() {
-        if !is_of(kind, rows[k]) {
+        if kind != rows[k] {
             return k;
         }
     }

@@ -1,6 +1,6 @@
 //! The rows of two sessions: which are a change, and how many items they have of both.
 ghost use Rattle.std.specs.Prelude.{◌≡◌, ◌≤◌};
-ghost use Rattle.shown_rows.specs.Rows.{changes_within, count_of, differs, is_change, left_count, left_in, right_count, right_in, same_row};
+ghost use Rattle.shown_rows.specs.Rows.{changes_within, count_of, differs, is_change, left_count, left_in, right_count, right_in};
 
 use uds_difference::Row;
 
@@ -87,16 +87,9 @@ pub fn count_of(kind: Row, rows: &[Row]) -> usize
 {
     let mut count = 0;
     'rows: for row in rows {
-        if is_of(kind, *row) {
+        if kind == *row {
             count += 1;
         }
     }
     count
-}
-
-/// Whether a row is of this kind.
-pub(crate) fn is_of(kind: Row, row: Row) -> bool
-    ensures { result ≡ same_row kind row }
-{
-    kind == row
 }
