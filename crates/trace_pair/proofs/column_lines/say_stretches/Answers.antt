@@ -11,30 +11,27 @@ pub lines-init : goal.lines-init
 lines-init g c =
     let columns = c.args.columns.now in
     let text = stretch_text c.args.sides c.args.lettered columns in
-    let all = c.into_iter-stretch-iterator.ensures.into_iter_gives ∙ c.stretches-stretch-iterator.ensures in (
-      tt,
-      tt,
-      subst (AreOfOneKind columns) (sym all) (stretches_are_of_one_kind columns),
-      none-said g.S.TextSink.says c.args.out.now _ _ (g.met.S.TextSink.nothing c.args.out.now) (ap (flat_map text) all),
-    )
+    let all = c.into_iter-stretch-iterator.ensures.into_iter_gives ∙ c.stretches-stretch-items.ensures in
+    record {
+      kinds = subst (AreOfOneKind c.args.columns.now) (sym all) (stretches_are_of_one_kind c.args.columns.now);
+      left = none-said g.S.TextSink.says c.args.out.now _ _ (g.met.S.TextSink.nothing c.args.out.now) (ap (flat_map text) all);
+    }
 
 pub say_stretch-requires : goal.say_stretch-requires
-say_stretch-requires g c = (subst (AreOfOneKind c.args.columns.now) c.in-Some.ensures.steps c.lines.invariant.2).0
+say_stretch-requires g c = (subst (AreOfOneKind c.args.columns.now) c.in-Some.ensures.steps c.lines.invariant.kinds).0
 
 pub lines-preserved : goal.lines-preserved
 lines-preserved g c =
-    let columns = c.args.columns.now in
-    let text = stretch_text c.args.sides c.args.lettered columns in
-    let steps = c.in-Some.ensures.steps in (
-      tt,
-      tt,
-      (subst (AreOfOneKind columns) steps c.lines.invariant.2).2,
-      say-more g.S.TextSink.says g.met.S.TextSink.onward c.args.out.now c.lines.out _ (text c.in-Some.stretch) (flat_map text c.next.new.self) _
-          (same-rest g.S.TextSink.says c.args.out.now c.lines.out _ _ _ (ap (flat_map text) steps) c.lines.invariant.3) c.say_stretch.ensures,
-    )
+    let text = stretch_text c.args.sides c.args.lettered c.args.columns.now in
+    let steps = c.in-Some.ensures.steps in
+    record {
+      kinds = (subst (AreOfOneKind c.args.columns.now) c.in-Some.ensures.steps c.lines.invariant.kinds).2;
+      left = say-more g.S.TextSink.says g.met.S.TextSink.onward c.args.out.now c.lines.out _ (text c.in-Some.stretch) (flat_map text c.next.new.self) _
+          (same-rest g.S.TextSink.says c.args.out.now c.lines.out _ _ _ (ap (flat_map text) steps) c.lines.invariant.left) c.say_stretch.ensures;
+    }
 
 pub returns : goal.returns
 returns g c =
     let text = stretch_text c.args.sides c.args.lettered c.args.columns.now in
     said-whole g.S.TextSink.says c.args.out.now c.lines.out _
-    (same-rest g.S.TextSink.says c.args.out.now c.lines.out _ _ _ (ap (flat_map text) c.in-None.ensures.steps.0) c.lines.invariant.3)
+    (same-rest g.S.TextSink.says c.args.out.now c.lines.out _ _ _ (ap (flat_map text) c.in-None.ensures.steps.0) c.lines.invariant.left)

@@ -7,9 +7,8 @@ use Rattle.trace_pair.specs.ColumnLines.{stretch_text}
 use Rattle.trace_pair.proofs.column_lines.say_stretches.Given as goal
 
 abbrev pub invariant-lines : goal.invariant-lines
-invariant-lines g l =
-    (goal.iterator-lines g).can_next l.stretch-iterator
-    × (goal.iterator-lines g).is_finite l.stretch-iterator
-    × AreOfOneKind l.columns l.stretch-iterator
-    × IsLeft g.S.TextSink.says l.initial.out (flat_map (stretch_text l.sides l.lettered l.columns) l.stretch-iterator)
-    (flat_map (stretch_text l.sides l.lettered l.columns) (stretches l.columns)) l.out
+invariant-lines g l = record {
+  kinds : AreOfOneKind l.columns l.stretch-iterator;
+  left : IsLeft g.S.TextSink.says l.initial.out (flat_map (stretch_text l.sides l.lettered l.columns) l.stretch-iterator)
+      (flat_map (stretch_text l.sides l.lettered l.columns) (stretches l.columns)) l.out;
+}
