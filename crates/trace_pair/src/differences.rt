@@ -1,13 +1,12 @@
 //! The list of the differences.
-ghost use Rattle.std.specs.Prelude.{◌≡◌, ◌+◌, ◌<◌, ◌^◌, IfSome, take};
+ghost use Rattle.std.specs.Prelude.{take};
 ghost use Rattle.shown_rows.specs.Changes.{changes};
 ghost use Rattle.trace_pair.specs.ChangeWords.{IsSmall};
 ghost use Rattle.trace_pair.specs.Differences as Spec;
-ghost use Rattle.trace_pair.specs.proving.Changing.{count_if, line_if};
 
 use crate::change_words::say_change_line;
 use crate::sessions::Sessions;
-use shown_rows::{Change, change_at, count_changes, left_in, right_in};
+use shown_rows::{Change, Changes, count_changes};
 use text_parts::{Either, Part, When, say};
 use trace_io::TextSink;
 use trace_text::Number;
@@ -43,45 +42,18 @@ pub(crate) fn say_differences<S: TextSink>(sessions: Sessions<'_>, rows: &[Row],
 fn say_lines<S: TextSink>(sessions: Sessions<'_>, rows: &[Row], listed: usize, out: &mut S)
     ensures { S.says out.old (Spec.difference_lines sessions.entry.left.now sessions.entry.right.now listed 1 (take listed (changes rows.now))) out.new }
 {
-    let mut front = Row::Same;
-    let mut i: usize = 0;
-    let mut j: usize = 0;
     let mut number: usize = 1;
-    'rows: for k in 0..rows.len() {
+    'changes: for change in Changes::of(rows) {
         if number > listed {
             return;
         }
-        let change = change_at(front, i, j, &rows[k..]);
-        number = say_line_if(sessions, listed, number, change, out);
-        front = rows[k];
-        i += left_in(front);
-        j += right_in(front);
+        say(
+            out,
+            When(number == OPEN + 1, MoreStart(listed.saturating_sub(OPEN))),
+        );
+        say_line(sessions, number, change, out);
+        number += 1;
     }
-}
-
-/// Says the change that has this number, of so many that are listed, if there is one, and what begins before it. Answers the
-/// number of the next one.
-fn say_line_if<S: TextSink>(
-    sessions: Sessions<'_>,
-    listed: usize,
-    number: usize,
-    change: Option<Change>,
-    out: &mut S,
-) -> usize
-    requires number { number < 2 ^ 63 }
-    requires change { IfSome change IsSmall }
-    ensures text { S.says out.old (line_if sessions.entry.left.now sessions.entry.right.now listed number change) out.new }
-    ensures next { result ≡ number + count_if change }
-{
-    let Some(change) = change else {
-        return number;
-    };
-    say(
-        out,
-        When(number == OPEN + 1, MoreStart(listed.saturating_sub(OPEN))),
-    );
-    say_line(sessions, number, change, out);
-    number + 1
 }
 
 /// Says the change of a number in a line, with a link to it.

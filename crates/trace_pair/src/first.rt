@@ -11,7 +11,7 @@ use crate::chart::say_chart;
 use crate::counterparts::Charted;
 use crate::log::{LetteredName, PairLog};
 use crate::sessions::Sessions;
-use shown_rows::{Change, change_at, count_changes, left_in, right_in};
+use shown_rows::{Change, Changes, count_changes};
 use text_parts::{Either, say};
 use trace_io::TextSink;
 use trace_report::KeptSession;
@@ -45,16 +45,7 @@ fn first_change(rows: &[Row]) -> Option<Change>
     ensures value { result ≡ slice_get (changes rows.now) 0 }
     ensures small { IfSome result IsSmall }
 {
-    let mut i: usize = 0;
-    let mut j: usize = 0;
-    'rows: for k in 0..rows.len() {
-        if let Some(change) = change_at(Row::Same, i, j, &rows[k..]) {
-            return Some(change);
-        }
-        i += left_in(rows[k]);
-        j += right_in(rows[k]);
-    }
-    None
+    Changes::of(rows).next()
 }
 
 /// The names of both logs.

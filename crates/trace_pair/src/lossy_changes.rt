@@ -4,12 +4,11 @@ ghost use Rattle.std.specs.List.{list_any};
 ghost use Rattle.shown_rows.specs.Changes.{changes};
 ghost use Rattle.trace_pair.specs.declared.log.PairLog.TheVariants.{A, B};
 ghost use Rattle.trace_pair.specs.Verdict as Spec;
-ghost use Rattle.trace_pair.specs.proving.Changing.{count_if, is_lossy_if, lossy_if};
 
 use crate::log::PairLog;
 use crate::losses::is_lossy;
 use crate::sessions::Sessions;
-use shown_rows::{Change, change_at, left_in, right_in};
+use shown_rows::Changes;
 use text_parts::{Either, Part, say};
 use trace_io::TextSink;
 use trace_text::Number;
@@ -23,34 +22,13 @@ pub(crate) fn losses_at_changes(rows: &[Row], sessions: Sessions<'_>) -> LossyLi
     ensures right { result.right ≡ list_any (Spec.is_lossy B sessions.entry.right.now) (changes rows.now) }
 {
     let mut line = LossyLine::none();
-    let mut front = Row::Same;
-    let mut i: usize = 0;
-    let mut j: usize = 0;
-    'rows: for k in 0..rows.len() {
-        line = with_change(line, sessions, change_at(front, i, j, &rows[k..]));
-        front = rows[k];
-        i += left_in(front);
-        j += right_in(front);
-    }
-    line
-}
-
-/// With what is missing at a change, if there is one.
-fn with_change(line: LossyLine, sessions: Sessions<'_>, change: Option<Change>) -> LossyLine
-    requires small { line.all + 1 < 2 ^ 63 }
-    requires few { line.lossy ≤ line.all }
-    ensures lossy { result.lossy ≡ lossy_if sessions.entry.left.now sessions.entry.right.now change + line.lossy }
-    ensures all { result.all ≡ line.all + count_if change }
-    ensures left { result.left ≡ (is_lossy_if A sessions.entry.left.now change || line.left) }
-    ensures right { result.right ≡ (is_lossy_if B sessions.entry.right.now change || line.right) }
-{
-    match change {
-        Some(change) => line.with(
+    'changes: for change in Changes::of(rows) {
+        line = line.with(
             is_lossy(PairLog::A, sessions.left, change),
             is_lossy(PairLog::B, sessions.right, change),
-        ),
-        None => line,
+        );
     }
+    line
 }
 
 /// At how many of all changes a log is not clean, and whether the left log is not clean at one, and the right one.
