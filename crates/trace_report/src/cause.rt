@@ -27,19 +27,19 @@ pub enum RefusalCause {
 
 /// What is said of a cause, a row of the table of causes.
 #[derive(Clone, Copy)]
-pub struct CauseRow {
+struct CauseRow {
     /// What stands in front.
-    pub before: &'static str,
+    before: &'static str,
     /// A number behind that, if there is one.
-    pub number: Option<u64>,
+    number: Option<u64>,
     /// What stands behind the number.
-    pub between: &'static str,
+    between: &'static str,
     /// Whether the name of the log is said there.
-    pub is_named: bool,
+    is_named: bool,
     /// What it is.
-    pub words: &'static str,
+    words: &'static str,
     /// What mends it.
-    pub command: &'static str,
+    command: &'static str,
 }
 
 /// The cause of a fault over a log with this limit, by what is seen of its source.
@@ -82,7 +82,7 @@ fn cause_of_limit(most: u64) -> Option<RefusalCause>
 }
 
 /// The table of causes.
-pub fn row_of_cause(cause: RefusalCause) -> CauseRow
+fn row_of_cause(cause: RefusalCause) -> CauseRow
     ensures { row_value result ≡ Spec.row_of_cause cause }
 {
     match cause {

@@ -20,7 +20,7 @@ impl Part for CellFront {
 
 /// The arrow, and the end of the row.
 #[derive(Clone, Copy)]
-pub struct CellEnd(pub Dir, pub Arrow);
+pub(crate) struct CellEnd(pub Dir, pub Arrow);
 
 impl Part for CellEnd {
     ghost use Rattle.trace_report.specs.Rows.{cell_end};

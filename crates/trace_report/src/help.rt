@@ -65,7 +65,7 @@ impl Part for HelpHeading {
 
 /// Which times are told.
 #[derive(Clone, Copy)]
-pub struct TimesWords;
+struct TimesWords;
 
 impl Part for TimesWords {
     ghost use Rattle.trace_report.specs.Help.{times_words};

@@ -16,7 +16,7 @@ pub struct MessagePlace {
 
 /// How an arrow of the chart ends.
 #[derive(Clone, Copy, Debug)]
-pub enum Arrow {
+pub(crate) enum Arrow {
     /// In a head: a message.
     Headed,
     /// In a cross: a frame that was dropped.
