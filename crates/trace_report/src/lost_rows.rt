@@ -1,10 +1,11 @@
 //! The rows of a report that tell what is missing: answers, frames, and messages that are not whole.
 ghost use Rattle.trace_report.specs.LostRows.{dropped_row, ended_row, missing_row, no_answer_row, unfinished_row};
 
-use crate::cells::{CellEnd, CellFront, Side};
+use crate::cells::{CellEnd, CellFront};
 use crate::durations::Seconds;
 use crate::loss_words::{DroppedWords, EndedWords, UnfinishedWords};
 use crate::row::{Arrow, Missing};
+use crate::targets::LinkTarget;
 use direction::Dir;
 use isotp_receive::{Ended, Reason};
 use text_parts::{Part, When, say};
@@ -103,7 +104,7 @@ impl Part for FrameFront {
             out,
             (
                 "<tr class=\"x\"",
-                When(linked, (" id=\"l", line, "\"")),
+                When(linked, (" id=\"", LinkTarget::Line(place.line), "\"")),
                 "><td><td>",
                 line,
                 "<td>",
@@ -151,7 +152,7 @@ fn say_unfinished_row<S: TextSink>(linked: bool, dir: Dir, line: u64, len: u32, 
         out,
         (
             "<tr class=\"x\"",
-            When(linked, (" id=\"e", Side(dir), "\"")),
+            When(linked, (" id=\"", LinkTarget::Side(dir), "\"")),
             "><td><td><td>",
             CellFront(dir),
             UnfinishedWords(dir, line, len),

@@ -7,6 +7,7 @@ use crate::durations::Seconds;
 use crate::message_words::{Note, RoleWords};
 use crate::roles::{MessageRole, begins_item};
 use crate::row::{Arrow, MessagePlace, SentMessage};
+use crate::targets::LinkTarget;
 use text_parts::{Either, Part, say};
 use trace_io::TextSink;
 use trace_text::Number;
@@ -128,7 +129,11 @@ impl Part for ItemCell {
         if !begins_item(self.role) {
             say(out, ("\"><td>", number));
         } else if self.linked {
-            say(out, ("\" id=\"i", number, "\"><th scope=\"row\">", number));
+            let target = LinkTarget::Item(self.number);
+            say(
+                out,
+                ("\" id=\"", target, "\"><th scope=\"row\">", number),
+            );
         } else {
             say(out, ("\"><th scope=\"row\">", number));
         }

@@ -1,7 +1,11 @@
-//! The places of a page of one log to which links lead.
+//! The places of a page of one log to which links lead, and their identifiers.
+use crate::cells::Side;
 use direction::Dir;
+use text_parts::{Part, say};
+use trace_io::TextSink;
+use trace_text::Number;
 
-/// A place to which links lead.
+/// A place to which links lead. As a part of a text it is its identifier.
 #[derive(Clone, Copy, Debug)]
 pub(crate) enum LinkTarget {
     /// The row that begins the item of this number.
@@ -10,6 +14,20 @@ pub(crate) enum LinkTarget {
     Line(u64),
     /// The row of what stands of this side at the end of the log.
     Side(Dir),
+}
+
+impl Part for LinkTarget {
+    ghost use Rattle.trace_report.specs.Targets.{identifier};
+
+    ghost text = { λ target. identifier target };
+
+    fn say<S: TextSink>(self, out: &mut S) {
+        match self {
+            LinkTarget::Item(number) => say(out, ("i", Number(number))),
+            LinkTarget::Line(number) => say(out, ("l", Number(number))),
+            LinkTarget::Side(dir) => say(out, ("e", Side(dir))),
+        }
+    }
 }
 
 /// What stands in a place of a list that has no target yet. It is none of a page, since items are counted from 1.
