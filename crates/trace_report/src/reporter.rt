@@ -181,9 +181,9 @@ struct PageEnd<'a> {
 
 impl<'a> Part for PageEnd<'a> {
     ghost use Rattle.trace_report.specs.Page.{page_end};
-    ghost use Rattle.trace_report.specs.proving.Lending.{first_of_times, last_of_times};
+    ghost use Rattle.trace_report.specs.proving.Lending.{findings_value};
 
-    ghost text = { λ end. page_end end.blocks end.found.tally.now end.found.summary.now (first_of_times end.found.times) (last_of_times end.found.times) };
+    ghost text = { λ end. page_end end.blocks (findings_value end.found) };
 
     fn say<S: TextSink>(self, out: &mut S) {
         say(
@@ -209,9 +209,9 @@ struct RefusedEnd<'a> {
 
 impl<'a> Part for RefusedEnd<'a> {
     ghost use Rattle.trace_report.specs.Page.{refused_end};
-    ghost use Rattle.trace_report.specs.proving.Lending.{first_of_times, last_of_times};
+    ghost use Rattle.trace_report.specs.proving.Lending.{findings_value};
 
-    ghost text = { λ end. refused_end end.why end.cause end.blocks end.found.tally.now end.found.summary.now (first_of_times end.found.times) (last_of_times end.found.times) };
+    ghost text = { λ end. refused_end end.why end.cause end.blocks (findings_value end.found) };
 
     fn say<S: TextSink>(self, out: &mut S) {
         let verdict = RefusedVerdict {

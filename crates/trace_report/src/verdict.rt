@@ -31,9 +31,9 @@ pub(crate) struct VerdictSection<'a>(pub Findings<'a>);
 
 impl<'a> Part for VerdictSection<'a> {
     ghost use Rattle.trace_report.specs.Verdict.{verdict_text};
-    ghost use Rattle.trace_report.specs.proving.Lending.{first_of_times, last_of_times};
+    ghost use Rattle.trace_report.specs.proving.Lending.{findings_value};
 
-    ghost text = { λ verdict. verdict_text verdict.0.tally.now verdict.0.summary.now (first_of_times verdict.0.times) (last_of_times verdict.0.times) };
+    ghost text = { λ verdict. verdict_text (findings_value verdict.0) };
 
     fn say<S: TextSink>(self, out: &mut S) {
         let found = self.0;
@@ -59,9 +59,9 @@ pub(crate) struct RefusedVerdict<'a> {
 
 impl<'a> Part for RefusedVerdict<'a> {
     ghost use Rattle.trace_report.specs.Verdict.{refused_verdict};
-    ghost use Rattle.trace_report.specs.proving.Lending.{first_of_times, last_of_times};
+    ghost use Rattle.trace_report.specs.proving.Lending.{findings_value};
 
-    ghost text = { λ verdict. refused_verdict verdict.why verdict.cause verdict.found.tally.now verdict.found.summary.now (first_of_times verdict.found.times) (last_of_times verdict.found.times) };
+    ghost text = { λ verdict. refused_verdict verdict.why verdict.cause (findings_value verdict.found) };
 
     fn say<S: TextSink>(self, out: &mut S) {
         say(out, (RefusedHeading(self.why, self.cause), self.found));
@@ -70,9 +70,9 @@ impl<'a> Part for RefusedVerdict<'a> {
 
 impl<'a> Part for Findings<'a> {
     ghost use Rattle.trace_report.specs.Verdict.{findings_text};
-    ghost use Rattle.trace_report.specs.proving.Lending.{first_of_times, last_of_times};
+    ghost use Rattle.trace_report.specs.proving.Lending.{findings_value};
 
-    ghost text = { λ found. findings_text found.tally.now found.summary.now (first_of_times found.times) (last_of_times found.times) };
+    ghost text = { λ found. findings_text (findings_value found) };
 
     fn say<S: TextSink>(self, out: &mut S) {
         let Findings {
