@@ -13,7 +13,7 @@ use trace_io::{Reading, Source, Target, Writing};
 use trace_log::{CompareFault, ConfigFault, Fault, Summary};
 use trace_pair::in_memory::{NoPairPage, pair_page};
 use trace_pair::{Aligned, Title, align_two, write_pair_page};
-use trace_report::{Two, in_memory, keep_two, report};
+use trace_report::{KeptSessions, in_memory, keep_two, report};
 
 /// A log of the same request, and of nothing else.
 const REQUEST: &str = "(0.000000) can0 7E0#0322F190\n";
@@ -42,7 +42,7 @@ pub(crate) fn held<A: Read + Drop, B: Read + Drop>(
     alloc: Global,
     left: A,
     right: B,
-) -> Result<(Result<Two, CompareFault>, u64), ConfigFault> {
+) -> Result<(Result<KeptSessions, CompareFault>, u64), ConfigFault> {
     let (mut left, mut right) = (Reading::new(left), Reading::new(right));
     let answer = keep_two(alloc, &sides()?, &mut left, &mut right);
     Ok((answer, right.reads()))
@@ -163,7 +163,7 @@ fn a_session_that_is_kept_is_printed(rt: HostRuntime) -> Result<(), Fail> {
     let left = shown(alloc, both.left())?;
     assert_text(&rt, "a session", left.as_str(), PRINTED);
     let right = shown(alloc, both.right())?;
-    let whole = format!(in alloc; "Two {{ left: {left}, right: {right} }}")?;
+    let whole = format!(in alloc; "KeptSessions {{ left: {left}, right: {right} }}")?;
     assert_text(&rt, "both", shown(alloc, &both)?.as_str(), whole.as_str());
     Ok(())
 }

@@ -26,7 +26,7 @@ use Rattle.shown_rows.specs.Rows.{differs}
 use Rattle.shown_rows.specs.declared.changes.Change.{Change}
 use Rattle.trace_report.specs.Blocks.{begins_exchange}
 use Rattle.trace_report.specs.Items.{PlacedItemValue, RowMessageValue, answer_in, item_value, items_in, rows_before}
-use Rattle.trace_report.specs.Kept.{KeepsTwo, TwoValue}
+use Rattle.trace_report.specs.Kept.{KeepsTwo, KeptSessionsValue}
 use Rattle.trace_report.specs.Roles.{is_request_role}
 use Rattle.trace_report.specs.Rows.{RowValue}
 use Rattle.trace_pair.specs.declared.log.PairLog.{PairLog}
@@ -59,11 +59,11 @@ StyleHoldsNoTag = list_any (λ b. b == code "<") page_style ≡ false
 -- what two sessions are to each other is so: they are the same exactly if their items are, and else differ first where
 -- these do
 abbrev pub ComparisonIsOfItems : Type 0
-ComparisonIsOfItems = (two : TwoValue) → IsFirstDifference (values_in two.left) (values_in two.right) (difference (comparison_in two))
+ComparisonIsOfItems = (two : KeptSessionsValue) → IsFirstDifference (values_in two.left) (values_in two.right) (difference (comparison_in two))
 
 -- how the sessions of two logs compare is what `compare` answers, where that accepts both
 abbrev pub AgreesWithCompare : Type 0
-AgreesWithCompare = (settings : Settings) (one other : List ℕ) (held : TwoValue) (compared : Compared)
+AgreesWithCompare = (settings : Settings) (one other : List ℕ) (held : KeptSessionsValue) (compared : Compared)
     → KeepsTwo MESSAGE_LIMIT settings one other (Ok held) → Compares MESSAGE_LIMIT settings one other (Ok compared)
     → comparison_in held ≡ compared.comparison
 

@@ -7,7 +7,7 @@ use Rattle.trace_log.specs.declared.fault.Fault.TheVariants.{BadLine, LogLimit, 
 use Rattle.trace_report.specs.Causes.{cause_line, cause_of}
 use Rattle.trace_report.specs.Counts.{counts_text}
 use Rattle.trace_report.specs.Front.{identifiers_text, name_text, page_start, shapes_text}
-use Rattle.trace_report.specs.Kept.{TwoValue}
+use Rattle.trace_report.specs.Kept.{KeptSessionsValue}
 use Rattle.trace_report.specs.Session.{SessionValue}
 use Rattle.trace_report.specs.Sorts.{counts_in}
 use Rattle.trace_report.specs.Verdict.{refusal_words, span_of, verdict_head}
@@ -105,7 +105,7 @@ abbrev pub unread_page : TitleValue → PairLog → Fault → Option RefusalCaus
 unread_page title log why cause = if has_page why then refused_page title log why cause else []
 
 -- the page of what is answered of two logs, where this is the cause of a refusal
-abbrev pub pair_page : TitleValue → Result TwoValue CompareFault → Option RefusalCause → List ℕ
+abbrev pub pair_page : TitleValue → Result KeptSessionsValue CompareFault → Option RefusalCause → List ℕ
 pair_page title (Ok two) cause = page_of title two.left two.right
 pair_page title (Err (Left why)) cause = unread_page title A why cause
 pair_page title (Err (Right why)) cause = unread_page title B why cause

@@ -53,7 +53,7 @@ pub(crate) fn say_chart<S: TextSink>(
         from,
         to: end,
     };
-    say_rows(chart, session.first(), rows, around, out);
+    say_rows(chart, session.first_time(), rows, around, out);
     let rest = ChartEnd {
         more: to.saturating_sub(end),
         ends: to == rows.len(),

@@ -51,9 +51,9 @@ pub(crate) fn say_item_row<S: TextSink>(
             "<div class=\"it\">",
             ItemsOfRow(place.kind, one, other),
             "</div><div class=\"ab\">",
-            NoteIf(PairLog::A, sessions.left.first(), one),
+            NoteIf(PairLog::A, sessions.left.first_time(), one),
             " ",
-            NoteIf(PairLog::B, sessions.right.first(), other),
+            NoteIf(PairLog::B, sessions.right.first_time(), other),
             "</div>",
         ),
     );

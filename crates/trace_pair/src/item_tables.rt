@@ -50,7 +50,7 @@ pub(crate) fn say_items<S: TextSink>(sessions: Sessions<'_>, rows: &[Row], out: 
 fn say_losses_of_no_item<S: TextSink>(log: PairLog, session: &KeptSession, out: &mut S)
     ensures { S.says out.old (losses_of_no_item log session.now) out.new }
 {
-    if session.rows().items() == 0 {
+    if session.rows().item_count() == 0 {
         say_losses(log, session, 0, out);
     }
 }

@@ -5,7 +5,7 @@
 //! answers of logs in memory with their page and the counts.
 //!
 //! ```text
-//! Two -> Aligned -> front, verdict, recordings, differences, first, item_tables, help -> page
+//! KeptSessions -> Aligned -> front, verdict, recordings, differences, first, item_tables, help -> page
 //! ```
 //!
 //! The `verdict` says in how many places the sessions differ, and how far that can be known: a log that is not clean, a

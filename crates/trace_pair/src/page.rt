@@ -127,8 +127,8 @@ fn say_counts<S: TextSink>(log: PairLog, name: &[u8], session: &KeptSession, out
             Counts(&session.rows().counts(), &summary),
             SpanOf {
                 frames: summary.frames,
-                first: session.first(),
-                last: session.last(),
+                first: session.first_time(),
+                last: session.last_time(),
             },
             "</section>\n",
         ),

@@ -98,7 +98,7 @@ fn look_exchanged(left: &Summary, right: &Summary) -> bool
 fn has_request(session: &KeptSession) -> bool
     ensures { result ≡ list_any Spec.is_exchange (values_in session.now) }
 {
-    let count = session.rows().items();
+    let count = session.rows().item_count();
     'places: for at in 0..count {
         if asks_at(session, at) {
             return true;

@@ -52,11 +52,11 @@ impl<'a> Part for SessionClasses<'a> {
 
     fn say<S: TextSink>(self, out: &mut S) {
         let session = self.0;
-        let length = session.last().saturating_sub(session.first());
+        let length = session.last_time().saturating_sub(session.first_time());
         say(
             out,
             ChartClasses {
-                items: session.rows().items() as u64,
+                items: session.rows().item_count() as u64,
                 lines: session.summary().lines,
                 seconds: length / 1_000_000,
             },
@@ -74,8 +74,8 @@ impl<'a> Part for ItemsClass<'a> {
     ghost text = { λ of. items_class of.0.left.now of.0.right.now };
 
     fn say<S: TextSink>(self, out: &mut S) {
-        let left = self.0.left.rows().items();
-        let right = self.0.right.rows().items();
+        let left = self.0.left.rows().item_count();
+        let right = self.0.right.rows().item_count();
         say(out, ("w", Room(7, left.max(right) as u64)));
     }
 }

@@ -34,11 +34,11 @@ pub record PageTitleValue : Type 0 where
   pub name : List ℕ
   pub tester : Id
   pub unit : Id
-  pub most : ℕ
+  pub max_bytes : ℕ
 
 -- what the page of a log is made for that has this style, this name and this configuration
 abbrev pub page_title : List ℕ → List ℕ → Settings → PageTitleValue
-page_title style name settings = record { style = style; name = name; tester = settings.tester; unit = settings.unit; most = settings.max_bytes }
+page_title style name settings = record { style = style; name = name; tester = settings.tester; unit = settings.unit; max_bytes = settings.max_bytes }
 
 -- the start of each page, by which nothing may be fetched and nothing may run
 abbrev pub page_start : List ℕ

@@ -12,7 +12,7 @@ use Rattle.trace_log.specs.declared.fault.Fault.{Fault}
 use Rattle.trace_report.specs.Session.{SessionValue, session_of}
 
 -- What two logs say, which are kept.
-pub record TwoValue : Type 0 where
+pub record KeptSessionsValue : Type 0 where
   pub left : SessionValue
   pub right : SessionValue
 
@@ -26,7 +26,7 @@ KeepsOne limit settings log (Err fault) = IsUnreadFor when_lenient limit setting
 
 -- What is answered of two logs: what both say; else why the first can't be read; or why the second can't, where the
 -- first can.
-abbrev pub KeepsTwo : ℕ → Settings → List ℕ → List ℕ → Result TwoValue CompareFault → Type 0
+abbrev pub KeepsTwo : ℕ → Settings → List ℕ → List ℕ → Result KeptSessionsValue CompareFault → Type 0
 KeepsTwo limit settings one other (Ok two) = KeepsOne limit settings one (Ok two.left) × KeepsOne limit settings other (Ok two.right)
 KeepsTwo limit settings one other (Err (Left fault)) = KeepsOne limit settings one (Err fault)
 KeepsTwo limit settings one other (Err (Right fault)) =

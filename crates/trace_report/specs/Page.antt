@@ -69,7 +69,7 @@ last_text title limit T summary =
 -- source. What is open there is neither unfinished nor without an answer: so no row is told of it.
 abbrev pub refused_text : PageTitleValue → ℕ → GlimpseValue → RefusalText
 refused_text title limit source T summary why =
-    front_before title T ++ refused_end why (cause_of why title.most source) (blocks_of (rows_of limit T)) (findings_of (rows_of limit T) T summary)
+    front_before title T ++ refused_end why (cause_of why title.max_bytes source) (blocks_of (rows_of limit T)) (findings_of (rows_of limit T) T summary)
 
 -- what a report tells: of each frame its text, and at the end of the log the last one
 abbrev pub report_script : PageTitleValue → ℕ → Script

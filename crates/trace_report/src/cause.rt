@@ -43,12 +43,12 @@ struct CauseRow {
 }
 
 /// The cause of a fault over a log with this limit, by what is seen of its source.
-pub fn cause_of(why: Fault, most: u64, source: Glimpse<'_>) -> Option<RefusalCause>
-    ensures { result ≡ Spec.cause_of why most (glimpse_value source.entry) }
+pub fn cause_of(why: Fault, max_bytes: u64, source: Glimpse<'_>) -> Option<RefusalCause>
+    ensures { result ≡ Spec.cause_of why max_bytes (glimpse_value source.entry) }
 {
     match why {
         Fault::BadLine { line, column } => cause_of_place(line, column, source),
-        Fault::LogLimit | Fault::OutputLimit => cause_of_limit(most),
+        Fault::LogLimit | Fault::OutputLimit => cause_of_limit(max_bytes),
         Fault::Oversize { .. } | Fault::Read | Fault::Write | Fault::Memory => None,
     }
 }
@@ -71,11 +71,11 @@ fn cause_of_place(line: u64, column: u32, source: Glimpse<'_>) -> Option<Refusal
 }
 
 /// The cause where this limit is passed: that, where a larger one can be given.
-fn cause_of_limit(most: u64) -> Option<RefusalCause>
-    ensures { result ≡ Spec.cause_of_limit most }
+fn cause_of_limit(max_bytes: u64) -> Option<RefusalCause>
+    ensures { result ≡ Spec.cause_of_limit max_bytes }
 {
-    if most < LARGEST_LIMIT {
-        Some(RefusalCause::Limit(most))
+    if max_bytes < LARGEST_LIMIT {
+        Some(RefusalCause::Limit(max_bytes))
     } else {
         None
     }
@@ -103,9 +103,9 @@ fn row_of_cause(cause: RefusalCause) -> CauseRow
             words: "begins with no stamp",
             command: "if it is a notice of candump -d, grep -v ^DROPCOUNT leaves it out",
         },
-        RefusalCause::Limit(most) => CauseRow {
+        RefusalCause::Limit(max_bytes) => CauseRow {
             before: "the limit is ",
-            number: Some(most),
+            number: Some(max_bytes),
             between: " bytes",
             is_named: false,
             words: "",

@@ -12,7 +12,7 @@ pub(crate) struct PageTitle<'a> {
     pub name: &'a [u8],
     pub tester: Id,
     pub unit: Id,
-    pub most: u64,
+    pub max_bytes: u64,
 }
 
 /// What stands before the rows of a report.

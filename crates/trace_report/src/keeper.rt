@@ -17,8 +17,8 @@ use crate::follower::{Follower, NewRows};
 use crate::kept_rows::KeptRows;
 use crate::row::SessionRow;
 use crate::session::KeptSession;
+use crate::sessions::KeptSessions;
 use crate::times::{Times, times_with};
-use crate::two::Two;
 use isotp_receive::Pair;
 use std::alloc::{AllocError, Global};
 use trace_io::{Source, TextSink};
@@ -32,7 +32,7 @@ pub fn keep_two<A: Source, B: Source>(
     config: &Config,
     left: &mut A,
     right: &mut B,
-) -> Result<Two, CompareFault>
+) -> Result<KeptSessions, CompareFault>
     requires left { HasLowCounts A.Source left.old }
     requires right { HasLowCounts B.Source right.old }
 
@@ -70,7 +70,7 @@ pub fn keep_two<A: Source, B: Source>(
         Ok(session) => session,
         Err(fault) => return Err(CompareFault::Right(fault)),
     };
-    Ok(Two::of(left, right))
+    Ok(KeptSessions::of(left, right))
 }
 
 /// Reads a log, and answers what it says.

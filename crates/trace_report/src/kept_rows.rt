@@ -107,7 +107,7 @@ impl KeptRows {
     }
 
     /// How many items the rows tell.
-    pub fn items(&self) -> usize
+    pub fn item_count(&self) -> usize
         ensures value { result ≡ length (items_in self.now) }
         ensures small { result < 2 ^ 63 }
     {

@@ -11,7 +11,7 @@
 //! [`keep_two`] keeps the rows of both, for `trace_pair`, which sets them side by side and writes their page.
 //!
 //! ```text
-//! event -> Follower -> rows -> Keeper -> Session -> Two
+//! event -> Follower -> rows -> Keeper -> KeptSession -> KeptSessions
 //! ```
 //!
 //! | Part | Files | Definitions |
@@ -27,7 +27,7 @@
 //! | what stands before the rows and behind them | `style`, `front`, `log_names`, `help` | `Style`, `Front`, `Help` |
 //! | [`report`] | `reporter` | `Page` |
 //! | the items of a session, by its rows | `kept_rows`, `item_places`, `items` | `Items` |
-//! | [`keep_two`], [`KeptSession`], [`Two`] | `keeper`, `session`, `two` | `Session`, `Kept` |
+//! | [`keep_two`], [`KeptSession`], [`KeptSessions`] | `keeper`, `session`, `sessions` | `Session`, `Kept` |
 //! | the page of a log in memory, with the counts | [`in_memory`] | `InMemory` |
 //! | what holds of each page | [`laws`] | `Numbers`, `Laws` |
 #![tactic(auto)]
@@ -67,12 +67,12 @@ mod reporter;
 mod roles;
 mod row;
 mod session;
+mod sessions;
 mod sorts;
 mod style;
 mod tally;
 mod targets;
 mod times;
-mod two;
 mod verdict;
 mod verdict_head;
 
@@ -99,7 +99,7 @@ pub use reporter::report;
 pub use roles::{MessageRole, asked_at, begins_item, is_answer_role, is_request_role};
 pub use row::{MessagePlace, Missing, SentMessage, SessionRow};
 pub use session::KeptSession;
+pub use sessions::KeptSessions;
 pub use style::report_style;
-pub use two::Two;
 pub use verdict::{SpanOf, is_called_clean};
 pub use verdict_head::VerdictHead;

@@ -56,7 +56,7 @@ pub fn report<R: Source, W: Target>(
             name,
             tester: config.tester(),
             unit: config.unit(),
-            most: config.max_bytes(),
+            max_bytes: config.max_bytes(),
         },
         times: None,
         follower: Follower::start(),
@@ -151,7 +151,7 @@ impl<'a> Machine for Reporter<'a> {
         say_front_before(&title, times, out);
         let closing = RefusedEnd {
             why,
-            cause: cause_of(why, title.most, glimpse),
+            cause: cause_of(why, title.max_bytes, glimpse),
             blocks: chart.blocks,
             found: Findings {
                 tally: &chart.tally,

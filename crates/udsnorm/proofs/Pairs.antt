@@ -22,7 +22,7 @@ use Rattle.trace_log.specs.declared.fault.Fault.TheVariants as fault
 use Rattle.trace_io.specs.Written.{HasFront}
 use Rattle.trace_io.specs.declared.device.Source.{Ghosts as SourceGhosts}
 use Rattle.trace_io.specs.declared.device.Target.{Ghosts as TargetGhosts}
-use Rattle.trace_report.specs.Kept.{KeepsTwo, TwoValue}
+use Rattle.trace_report.specs.Kept.{KeepsTwo, KeptSessionsValue}
 use Rattle.trace_pair.specs.Page.{pair_page}
 use Rattle.trace_pair.specs.Titles.{title_for}
 use Rattle.udsnorm.specs.Commands.{ComparesPair, NeedsMemoryForDifference, PagesPair, TextOfCompared, has_text, pair_of}
@@ -61,17 +61,17 @@ needed_for_difference limit settings one other (Err why) some compares = absurd 
 fault_told : (one other : CompareFault) → ◌≡◌ {A = Result PairAnswer CompareFault} (Err one) (Err other) → one ≡ other
 fault_told one other is = cc
 
-fault_kept : (one other : CompareFault) → ◌≡◌ {A = Result TwoValue CompareFault} (Err one) (Err other) → one ≡ other
+fault_kept : (one other : CompareFault) → ◌≡◌ {A = Result KeptSessionsValue CompareFault} (Err one) (Err other) → one ≡ other
 fault_kept one other is = cc
 
 none_told : (pair : PairAnswer) (why : CompareFault) → ◌≡◌ {A = Result PairAnswer CompareFault} (Ok pair) (Err why) → ⊥
 none_told pair why is = cc
 
-none_kept : (held : TwoValue) (why : CompareFault) → ◌≡◌ {A = Result TwoValue CompareFault} (Ok held) (Err why) → ⊥
+none_kept : (held : KeptSessionsValue) (why : CompareFault) → ◌≡◌ {A = Result KeptSessionsValue CompareFault} (Ok held) (Err why) → ⊥
 none_kept held why is = cc
 
 -- what was read of logs that are held is told of their answer, too
-read_held : {R : Type 0} (source : SourceGhosts R) (why : CompareFault) (max_bytes : ℕ) (answer : Result TwoValue CompareFault) (before after : R)
+read_held : {R : Type 0} (source : SourceGhosts R) (why : CompareFault) (max_bytes : ℕ) (answer : Result KeptSessionsValue CompareFault) (before after : R)
     → ReadFrom source why max_bytes answer before after → ReadFrom source why max_bytes (answer_held answer) before after
 read_held source why max_bytes (Ok held) before after read = record {
   over = read.over;
@@ -95,13 +95,13 @@ read_held source why max_bytes (Err fault) before after read = record {
   };
 }
 
-pub read_told : {R : Type 0} (source : SourceGhosts R) (why : CompareFault) (max_bytes : ℕ) (answer : Result TwoValue CompareFault) (told : Result PairAnswer CompareFault) (before after : R)
+pub read_told : {R : Type 0} (source : SourceGhosts R) (why : CompareFault) (max_bytes : ℕ) (answer : Result KeptSessionsValue CompareFault) (told : Result PairAnswer CompareFault) (before after : R)
     → told ≡ answer_held answer → ReadFrom source why max_bytes answer before after → ReadFrom source why max_bytes told before after
 read_told source why max_bytes answer told before after is read =
     subst (λ (a : Result PairAnswer CompareFault). ReadFrom source why max_bytes a before after) (sym is) (read_held source why max_bytes answer before after read)
 
 -- two logs that are held, without what they say, and their page
-pub pages_pair : (style left_name right_name : List ℕ) (left_seen right_seen : GlimpseValue) (strict : Bool) (limit : ℕ) (settings : Settings) (one other : List ℕ) (answer : Result TwoValue CompareFault) → KeepsTwo limit settings one other answer
+pub pages_pair : (style left_name right_name : List ℕ) (left_seen right_seen : GlimpseValue) (strict : Bool) (limit : ℕ) (settings : Settings) (one other : List ℕ) (answer : Result KeptSessionsValue CompareFault) → KeepsTwo limit settings one other answer
     → PagesPair left_name right_name left_seen right_seen strict limit settings one other (answer_held answer)
     (pair_page (title_for style left_name right_name settings) answer (cause_in answer settings.max_bytes left_seen right_seen))
 pages_pair style left_name right_name left_seen right_seen strict limit settings one other (Ok held) holds = (style, held, holds, refl, refl)
@@ -112,7 +112,7 @@ pub fault_compared : (answer : Result Compared CompareFault) (why : CompareFault
 fault_compared (Ok compared) why is = cc
 fault_compared (Err other) why is = cc
 
-pub fault_held : (answer : Result TwoValue CompareFault) (why : CompareFault) → answer_held answer ≡ Err why → answer ≡ Err why
+pub fault_held : (answer : Result KeptSessionsValue CompareFault) (why : CompareFault) → answer_held answer ≡ Err why → answer ≡ Err why
 fault_held (Ok held) why is = cc
 fault_held (Err other) why is = cc
 

@@ -311,28 +311,28 @@ fn pair_held(aligned: &Aligned) -> PairAnswer
 /// The cause of a refusal of one of two logs with this limit, by what is seen of both sources.
 fn cause_in<A: Source, B: Source>(
     answer: &Result<Aligned, CompareFault>,
-    most: u64,
+    max_bytes: u64,
     left: &A,
     right: &B,
 ) -> Option<RefusalCause>
-    ensures { result ≡ cause_in answer.now most (glimpse_of A.Source left.now) (glimpse_of B.Source right.now) }
+    ensures { result ≡ cause_in answer.now max_bytes (glimpse_of A.Source left.now) (glimpse_of B.Source right.now) }
 {
     match answer {
         Ok(_) => None,
-        Err(CompareFault::Left(why)) => cause_by(*why, most, left),
-        Err(CompareFault::Right(why)) => cause_by(*why, most, right),
+        Err(CompareFault::Left(why)) => cause_by(*why, max_bytes, left),
+        Err(CompareFault::Right(why)) => cause_by(*why, max_bytes, right),
     }
 }
 
 /// The cause of a fault over a log with this limit, by what is seen of its source.
-fn cause_by<R: Source>(why: Fault, most: u64, source: &R) -> Option<RefusalCause>
-    ensures { result ≡ Causes.cause_of why most (glimpse_of R.Source source.now) }
+fn cause_by<R: Source>(why: Fault, max_bytes: u64, source: &R) -> Option<RefusalCause>
+    ensures { result ≡ Causes.cause_of why max_bytes (glimpse_of R.Source source.now) }
 {
     let seen = Glimpse {
         first: source.first(),
         is_over: source.has_ended(),
     };
-    cause_of(why, most, seen)
+    cause_of(why, max_bytes, seen)
 }
 
 /// Writes the page of two logs, which have these names there, where there is one. Answers whether that did not fail.

@@ -16,5 +16,5 @@ returns g c = record {
       (c.say_front_before.ensures T known.times) in
       g.met.S.TextSink.onward _ _ _ _ _ front
       (subst (λ text. g.S.TextSink.says c.say_front_before.new.out text c.say.new.out)
-      (λ i. refused_end c.args.why ((c.cause_of.ensures ∙ ap (λ (title : PageTitleValue). cause_of c.args.why title.most (glimpse_value c.args.glimpse)) known.same) i) (known.chart.blocks i) (record { tally = known.chart.tally i; summary = c.args.summary.now; first = first i; last = last i })) c.say.ensures);
+      (λ i. refused_end c.args.why ((c.cause_of.ensures ∙ ap (λ (title : PageTitleValue). cause_of c.args.why title.max_bytes (glimpse_value c.args.glimpse)) known.same) i) (known.chart.blocks i) (record { tally = known.chart.tally i; summary = c.args.summary.now; first = first i; last = last i })) c.say.ensures);
 }

@@ -3,7 +3,7 @@ use Rattle.std.proofs.Common.{◌≡◌, length, ap, ◌∙◌, rules}
 use Rattle.trace_report.specs.Items.{items_in}
 use Rattle.trace_report.specs.proving.Keeping.{rows_at}
 use Rattle.trace_report.proofs.Placing.{same-count}
-use Rattle.trace_report.proofs.kept_rows.KeptRows.items.Goals as goal
+use Rattle.trace_report.proofs.kept_rows.KeptRows.item_count.Goals as goal
 
 pub returns-clause-value : goal.returns-clause-value
 returns-clause-value c =

@@ -6,26 +6,26 @@ use std::marker::Model;
 
 /// What two logs say, kept. Contracts see both sessions.
 #[derive(Debug, Drop)]
-pub struct Two {
+pub struct KeptSessions {
     left: KeptSession,
     right: KeptSession,
 }
 
-impl Model for Two {
-    ghost use Rattle.trace_report.specs.Kept.{TwoValue};
+impl Model for KeptSessions {
+    ghost use Rattle.trace_report.specs.Kept.{KeptSessionsValue};
 
-    ghost Value = { TwoValue };
+    ghost Value = { KeptSessionsValue };
 
-    ghost view = { λ two. record { left = two.left; right = two.right } };
+    ghost view = { λ both. record { left = both.left; right = both.right } };
 }
 
-impl Two {
+impl KeptSessions {
     /// Both sessions.
-    pub(crate) fn of(left: KeptSession, right: KeptSession) -> Two
+    pub(crate) fn of(left: KeptSession, right: KeptSession) -> KeptSessions
         ensures left { result.left ≡ left }
         ensures right { result.right ≡ right }
     {
-        Two { left, right }
+        KeptSessions { left, right }
     }
 
     /// The first session.
