@@ -106,12 +106,12 @@ fn thousands_of_frames_have_a_meaning(rt: HostRuntime) -> Result<(), Fail> {
 }
 
 #[test]
-fn thousands_of_items_are_held(rt: HostRuntime) -> Result<(), Fail> {
+fn thousands_of_items_are_kept(rt: HostRuntime) -> Result<(), Fail> {
     let alloc = rt.alloc();
     let log = repeated(alloc, "(1.000000) can0 7E8#0759595959595959\n", 4 * MANY)?;
-    let held = aligned(alloc, log.as_bytes(), log.as_bytes())?.or(Err("not held"))?;
-    assert!(rt; held.comparison() == Comparison::Same);
-    let two = held.two();
+    let both = aligned(alloc, log.as_bytes(), log.as_bytes())?.or(Err("not aligned"))?;
+    assert!(rt; both.comparison() == Comparison::Same);
+    let two = both.two();
     assert!(rt; two.left().summary().messages == 2_000 && two.right().summary().messages == 2_000);
     Ok(())
 }

@@ -38,7 +38,7 @@ fn reported<R: Read + Drop, W: Write + Drop>(
 }
 
 /// What both of these logs say, and how many reads of the right one were made.
-pub(crate) fn held<A: Read + Drop, B: Read + Drop>(
+pub(crate) fn kept<A: Read + Drop, B: Read + Drop>(
     alloc: Global,
     left: A,
     right: B,
@@ -113,18 +113,18 @@ fn a_session_has_its_page(rt: HostRuntime) -> Result<(), Fail> {
 }
 
 #[test]
-fn two_sessions_are_held(rt: HostRuntime) -> Result<(), Fail> {
+fn two_sessions_are_kept(rt: HostRuntime) -> Result<(), Fail> {
     let alloc = rt.alloc();
-    let (answer, reads) = held(alloc, LOG.as_bytes(), byte_by_byte())?;
-    let both = answer.or(Err("not held"))?;
+    let (answer, reads) = kept(alloc, LOG.as_bytes(), byte_by_byte())?;
+    let both = answer.or(Err("not kept"))?;
     assert!(rt; reads == 213);
     assert!(rt; both.left().summary().frames == 5 && both.right().summary().messages == 2);
-    let (answer, _) = held(alloc, LOG.as_bytes(), REQUEST.as_bytes())?;
-    let both = answer.or(Err("not held"))?;
+    let (answer, _) = kept(alloc, LOG.as_bytes(), REQUEST.as_bytes())?;
+    let both = answer.or(Err("not kept"))?;
     assert!(rt; both.left().summary().messages == 2 && both.right().summary().messages == 1);
-    let (answer, reads) = held(alloc, failing(), byte_by_byte())?;
+    let (answer, reads) = kept(alloc, failing(), byte_by_byte())?;
     assert!(rt; answer.err() == Some(CompareFault::Left(Fault::Read)) && reads == 0);
-    let (answer, reads) = held(alloc, byte_by_byte(), failing())?;
+    let (answer, reads) = kept(alloc, byte_by_byte(), failing())?;
     assert!(rt; answer.err() == Some(CompareFault::Right(Fault::Read)) && reads == 101);
     Ok(())
 }
@@ -158,8 +158,8 @@ pending: 0, ends_in_line_feed: true, looks_exchanged: false }, times: Some(Times
 #[test]
 fn a_session_that_is_kept_is_printed(rt: HostRuntime) -> Result<(), Fail> {
     let alloc = rt.alloc();
-    let (answer, _) = held(alloc, EACH_ROW.as_bytes(), "".as_bytes())?;
-    let both = answer.or(Err("not held"))?;
+    let (answer, _) = kept(alloc, EACH_ROW.as_bytes(), "".as_bytes())?;
+    let both = answer.or(Err("not kept"))?;
     let left = shown(alloc, both.left())?;
     assert_text(&rt, "a session", left.as_str(), PRINTED);
     let right = shown(alloc, both.right())?;

@@ -12,7 +12,7 @@ use Rattle.uds_difference.specs.declared.row.Row.{Row}
 use Rattle.trace_report.specs.Blocks.{begins_exchange}
 use Rattle.trace_report.specs.Items.{begins, rows_before}
 use Rattle.trace_report.specs.Rows.{RowValue, message, no_answer, dropped, ended, unfinished, cell_front}
-use Rattle.trace_report.specs.LostRows.{dropped_row, ended_row, no_answer_row, unfinished_row}
+use Rattle.trace_report.specs.MissingRows.{dropped_row, ended_row, no_answer_row, unfinished_row}
 use Rattle.trace_report.specs.MessageRows.{message_front, note_text, role_words}
 use Rattle.trace_report.specs.Session.{SessionValue}
 use Rattle.trace_report.specs.Data.{data_text}

@@ -5,7 +5,7 @@ use Rattle.std.specs.Fmt.{decimal}
 use Rattle.std.specs.List.{flat_map}
 use Rattle.trace_report.specs.Items.{begins, rows_before}
 use Rattle.trace_report.specs.Rows.{RowValue, message, no_answer, dropped, ended, unfinished}
-use Rattle.trace_report.specs.LostRows.{dropped_words, ended_words, unfinished_words}
+use Rattle.trace_report.specs.MissingRows.{dropped_words, ended_words, unfinished_words}
 use Rattle.trace_pair.specs.declared.log.PairLog.{PairLog}
 use Rattle.trace_pair.specs.Logs.{letter, letter_mark}
 

@@ -3,7 +3,7 @@ mod Tallies
 mod Steps
 mod FrameCounting
 mod Meeting
-mod Holding
+mod KeptSessions
 mod BytesBehind
 mod WordPlaces
 mod ItemValues

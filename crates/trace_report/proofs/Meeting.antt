@@ -29,7 +29,7 @@ use Rattle.trace_report.specs.Roles.{role_of_step}
 use Rattle.trace_report.specs.Rows.{RowValue}
 use Rattle.trace_report.specs.Rows.{message as tells_message}
 use Rattle.trace_report.specs.declared.follower.Follower.{Follower}
-use Rattle.trace_report.specs.declared.places.MessageExtent.{MessageExtent}
+use Rattle.trace_report.specs.declared.extents.MessageExtent.{MessageExtent}
 use Rattle.trace_report.specs.proving.Following.{IsSilent, KnowsMessages, dropped_by, dropped_rows}
 use Rattle.trace_report.proofs.Steps.{asked_next}
 

@@ -7,7 +7,7 @@ pub mod Rows
 pub mod Sorts
 pub mod MessageRows
 pub mod BriefRows
-pub mod LostRows
+pub mod MissingRows
 pub mod Blocks
 pub mod Chart
 pub mod Events

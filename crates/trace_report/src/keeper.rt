@@ -62,11 +62,11 @@ pub fn keep_two<A: Source, B: Source>(
     ensures right_read { ReadFrom B.Source (CompareFault.Right Fault.Read) config.now.max_bytes result right.old right.new }
     ensures never_write { IfErr result (λ fault. fault_in fault ≢ Fault.Write) }
 {
-    let left = match keep(alloc, config, left) {
+    let left = match keep_session(alloc, config, left) {
         Ok(session) => session,
         Err(fault) => return Err(CompareFault::Left(fault)),
     };
-    let right = match keep(alloc, config, right) {
+    let right = match keep_session(alloc, config, right) {
         Ok(session) => session,
         Err(fault) => return Err(CompareFault::Right(fault)),
     };
@@ -74,7 +74,7 @@ pub fn keep_two<A: Source, B: Source>(
 }
 
 /// Reads a log, and answers what it says.
-fn keep<R: Source>(alloc: Global, config: &Config, reader: &mut R) -> Result<KeptSession, Fault>
+fn keep_session<R: Source>(alloc: Global, config: &Config, reader: &mut R) -> Result<KeptSession, Fault>
     requires reader { HasLowCounts R.Source reader.old }
     ensures answer { (log : List ℕ) → AgreesWith R.Source reader.old reader.new log → KeepsOne MESSAGE_LIMIT config.now log result }
     ensures near { (log : List ℕ) → AgreesWith R.Source reader.old reader.new log

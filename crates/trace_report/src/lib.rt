@@ -19,9 +19,9 @@
 //! | times and bytes, as rows show them | `durations`, `letters`, `data` | `Durations`, `Letters`, `Data` |
 //! | what a row tells | `targets`, `roles`, `row` | `Targets`, `Roles`, `Rows` |
 //! | what is counted, and where links lead | `sorts`, `tally` | `Sorts`, `Linked` |
-//! | the text of a row | `cells`, `message_rows`, `message_words`, `brief_rows`, `lost_rows`, `loss_words` | `Rows`, `MessageRows`, `BriefRows`, `LostRows` |
+//! | the text of a row | `cells`, `message_rows`, `message_words`, `brief_rows`, `missing_rows`, `missing_words` | `Rows`, `MessageRows`, `BriefRows`, `MissingRows` |
 //! | the chart: rows one after another, in blocks that fold | `blocks`, `block_fronts`, `chart` | `Blocks`, `Chart` |
-//! | the rows of a frame, by what the frames before it were | `follower`, `places`, `frames`, `times` | `Events` |
+//! | the rows of a frame, by what the frames before it were | `follower`, `extents`, `frames`, `times` | `Events` |
 //! | the verdict of a log | `verdict_head`, `verdict`, `links`, `counts`, `reasons` | `Links`, `Counts`, `Verdict` |
 //! | why a log is refused | `looks`, `first_bytes`, `cause`, `refusal` | `Looks`, `Causes`, `Verdict` |
 //! | what stands before the rows and behind them | `style`, `front`, `log_names`, `help` | `Style`, `Front`, `Help` |
@@ -41,6 +41,7 @@ mod chart;
 mod counts;
 mod data;
 mod durations;
+mod extents;
 mod first_bytes;
 mod follower;
 mod frames;
@@ -56,11 +57,10 @@ mod letters;
 mod links;
 mod log_names;
 mod looks;
-mod loss_words;
-mod lost_rows;
 mod message_rows;
 mod message_words;
-mod places;
+mod missing_rows;
+mod missing_words;
 mod reasons;
 mod refusal;
 mod reporter;
@@ -89,10 +89,10 @@ pub use kept_rows::KeptRows;
 pub use letters::{has_word, shown_byte};
 pub use log_names::Name;
 pub use looks::Look;
-pub use loss_words::{DroppedWords, EndedWords, UnfinishedWords};
-pub use lost_rows::say_missing_row;
 pub use message_rows::{MessageFront, NamedLines};
 pub use message_words::{FurtherNote, Note, RoleWords};
+pub use missing_rows::say_missing_row;
+pub use missing_words::{DroppedWords, EndedWords, UnfinishedWords};
 pub use reasons::UncleanReasons;
 pub use refusal::Refusal;
 pub use reporter::report;

@@ -47,20 +47,20 @@ impl FirstTargets {
         ensures { self.new ≡ first_with sort target self.old }
     {
         match sort {
-            Sort::Dropped => keep(&mut self.dropped, target),
-            Sort::Ended => keep(&mut self.ended, target),
-            Sort::Unfinished => keep(&mut self.unfinished, target),
-            Sort::Negatives => keep(&mut self.negatives, target),
-            Sort::Unanswered => keep(&mut self.unanswered, target),
-            Sort::Strays => keep(&mut self.strays, target),
+            Sort::Dropped => push_if_room(&mut self.dropped, target),
+            Sort::Ended => push_if_room(&mut self.ended, target),
+            Sort::Unfinished => push_if_room(&mut self.unfinished, target),
+            Sort::Negatives => push_if_room(&mut self.negatives, target),
+            Sort::Unanswered => push_if_room(&mut self.unanswered, target),
+            Sort::Strays => push_if_room(&mut self.strays, target),
             Sort::Requests | Sort::Positives | Sort::Pendings | Sort::KeepAlives | Sort::Silent =>
                 {}
         }
     }
 }
 
-/// Keeps a target behind those before it, if there is room.
-fn keep(first: &mut Targets, target: LinkTarget)
+/// Puts a target behind those before it, if there is room.
+fn push_if_room(first: &mut Targets, target: LinkTarget)
     ensures { first.new.items ≡ take most_links (first.old.items ++ target ∷ []) }
 {
     if !first.is_full() {

@@ -31,7 +31,7 @@ use Rattle.udsnorm.specs.Status.{status_of}
 use Rattle.udsnorm.specs.Telling.{WroteText}
 use Rattle.udsnorm.specs.proving.Flushed.{FlushedIf}
 use Rattle.trace_run.specs.Script.{GlimpseValue}
-use Rattle.udsnorm.specs.proving.Pairs.{HasItems, answer_held, answer_of, cause_in, text_of_answer}
+use Rattle.udsnorm.specs.proving.Pairs.{HasItems, answer_kept, answer_of, cause_in, text_of_answer}
 use Rattle.udsnorm.specs.declared.pair_jobs.PairAnswer.{PairAnswer}
 use Rattle.udsnorm.specs.declared.pair_jobs.PairJob.{PairJob}
 use Rattle.udsnorm.specs.declared.pair_jobs.PairJob.TheVariants as pair_job
@@ -70,9 +70,9 @@ none_told pair why is = cc
 none_kept : (held : KeptSessionsValue) (why : CompareFault) → ◌≡◌ {A = Result KeptSessionsValue CompareFault} (Ok held) (Err why) → ⊥
 none_kept held why is = cc
 
--- what was read of logs that are held is told of their answer, too
+-- what was read of logs that are kept is told of their answer, too
 read_held : {R : Type 0} (source : SourceGhosts R) (why : CompareFault) (max_bytes : ℕ) (answer : Result KeptSessionsValue CompareFault) (before after : R)
-    → ReadFrom source why max_bytes answer before after → ReadFrom source why max_bytes (answer_held answer) before after
+    → ReadFrom source why max_bytes answer before after → ReadFrom source why max_bytes (answer_kept answer) before after
 read_held source why max_bytes (Ok held) before after read = record {
   over = read.over;
   gave = read.gave;
@@ -96,13 +96,13 @@ read_held source why max_bytes (Err fault) before after read = record {
 }
 
 pub read_told : {R : Type 0} (source : SourceGhosts R) (why : CompareFault) (max_bytes : ℕ) (answer : Result KeptSessionsValue CompareFault) (told : Result PairAnswer CompareFault) (before after : R)
-    → told ≡ answer_held answer → ReadFrom source why max_bytes answer before after → ReadFrom source why max_bytes told before after
+    → told ≡ answer_kept answer → ReadFrom source why max_bytes answer before after → ReadFrom source why max_bytes told before after
 read_told source why max_bytes answer told before after is read =
     subst (λ (a : Result PairAnswer CompareFault). ReadFrom source why max_bytes a before after) (sym is) (read_held source why max_bytes answer before after read)
 
--- two logs that are held, without what they say, and their page
+-- two logs that are kept, without what they say, and their page
 pub pages_pair : (style left_name right_name : List ℕ) (left_seen right_seen : GlimpseValue) (strict : Bool) (limit : ℕ) (settings : Settings) (one other : List ℕ) (answer : Result KeptSessionsValue CompareFault) → KeepsTwo limit settings one other answer
-    → PagesPair left_name right_name left_seen right_seen strict limit settings one other (answer_held answer)
+    → PagesPair left_name right_name left_seen right_seen strict limit settings one other (answer_kept answer)
     (pair_page (title_for style left_name right_name settings) answer (cause_in answer settings.max_bytes left_seen right_seen))
 pages_pair style left_name right_name left_seen right_seen strict limit settings one other (Ok held) holds = (style, held, holds, refl, refl)
 pages_pair style left_name right_name left_seen right_seen strict limit settings one other (Err why) holds = (style, holds, refl)
@@ -112,7 +112,7 @@ pub fault_compared : (answer : Result Compared CompareFault) (why : CompareFault
 fault_compared (Ok compared) why is = cc
 fault_compared (Err other) why is = cc
 
-pub fault_held : (answer : Result KeptSessionsValue CompareFault) (why : CompareFault) → answer_held answer ≡ Err why → answer ≡ Err why
+pub fault_held : (answer : Result KeptSessionsValue CompareFault) (why : CompareFault) → answer_kept answer ≡ Err why → answer ≡ Err why
 fault_held (Ok held) why is = cc
 fault_held (Err other) why is = cc
 

@@ -43,7 +43,7 @@ abbrev ComparedSo : Settings → List ℕ → List ℕ → UdsnormAnswer → Typ
 ComparedSo settings left right answer =
     (compared : Compared) × Compares MESSAGE_LIMIT settings left right (Ok compared) × SaysOfTwo settings left right compared.comparison answer
 
--- what is said of two logs that are held
+-- what is said of two logs that are kept
 abbrev HeldSo : Settings → List ℕ → List ℕ → UdsnormAnswer → Type 0
 HeldSo settings left right answer =
     (held : KeptSessionsValue) × KeepsTwo MESSAGE_LIMIT settings left right (Ok held) × SaysOfTwo settings left right (comparison_in held) answer

@@ -1,6 +1,6 @@
 -- A message is said in parts, beside the one that the definition names, and what is missing as that names it.
 use Rattle.std.proofs.Common.{◌≡◌, ℕ, false, List, ap, refl, subst, sym, ◌∙◌}
-use Rattle.trace_report.specs.LostRows.{missing_row}
+use Rattle.trace_report.specs.MissingRows.{missing_row}
 use Rattle.trace_report.specs.declared.row.Missing.{Missing}
 use Rattle.trace_report.specs.declared.row.Missing.TheVariants as missing
 use Rattle.trace_report.specs.Rows.{missing_of, row_of}

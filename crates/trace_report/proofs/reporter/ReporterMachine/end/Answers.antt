@@ -8,7 +8,7 @@ use Rattle.trace_report.specs.Front.{PageTitleValue}
 use Rattle.trace_report.specs.Page.{front_before, page_end}
 use Rattle.trace_report.specs.Rows.{RowValue}
 use Rattle.trace_report.specs.proving.Following.{IsChartOf}
-use Rattle.trace_report.proofs.Holding.{first_known, last_known}
+use Rattle.trace_report.proofs.KeptSessions.{first_known, last_known}
 use Rattle.trace_report.proofs.Steps.{few_rows}
 use Rattle.trace_report.proofs.reporter.ReporterMachine.end.Goals as goal
 

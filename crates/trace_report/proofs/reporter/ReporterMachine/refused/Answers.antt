@@ -4,7 +4,7 @@ use Rattle.trace_report.specs.Causes.{cause_of}
 use Rattle.trace_report.specs.Front.{PageTitleValue}
 use Rattle.trace_report.specs.Page.{front_before, refused_end}
 use Rattle.trace_run.specs.Script.{glimpse_value}
-use Rattle.trace_report.proofs.Holding.{first_known, last_known}
+use Rattle.trace_report.proofs.KeptSessions.{first_known, last_known}
 use Rattle.trace_report.proofs.reporter.ReporterMachine.refused.Goals as goal
 
 pub returns : goal.returns

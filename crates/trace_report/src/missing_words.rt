@@ -1,5 +1,5 @@
 //! What is missing in a log, in words.
-ghost use Rattle.trace_report.specs.LostRows.{layout_fault_words};
+ghost use Rattle.trace_report.specs.MissingRows.{layout_fault_words};
 
 use direction::Dir;
 use isotp_pdu::PduFault;
@@ -13,7 +13,7 @@ use trace_text::{DropReason, EndCause, Length, Number, Sender};
 pub struct DroppedWords(pub Dir, pub Reason);
 
 impl Part for DroppedWords {
-    ghost use Rattle.trace_report.specs.LostRows.{dropped_words};
+    ghost use Rattle.trace_report.specs.MissingRows.{dropped_words};
 
     ghost text = { λ words. dropped_words words.0 words.1 };
 
@@ -38,7 +38,7 @@ impl Part for DroppedWords {
 pub struct EndedWords(pub Ended);
 
 impl Part for EndedWords {
-    ghost use Rattle.trace_report.specs.LostRows.{ended_words};
+    ghost use Rattle.trace_report.specs.MissingRows.{ended_words};
 
     ghost text = { λ words. ended_words words.0 };
 
@@ -69,7 +69,7 @@ impl Part for EndedWords {
 pub struct UnfinishedWords(pub Dir, pub u64, pub u32);
 
 impl Part for UnfinishedWords {
-    ghost use Rattle.trace_report.specs.LostRows.{unfinished_words};
+    ghost use Rattle.trace_report.specs.MissingRows.{unfinished_words};
 
     ghost text = { λ words. unfinished_words words.0 words.1 words.2 };
 
@@ -91,7 +91,7 @@ impl Part for UnfinishedWords {
 struct WhyDroppedInWords(Reason);
 
 impl Part for WhyDroppedInWords {
-    ghost use Rattle.trace_report.specs.LostRows.{reason_words};
+    ghost use Rattle.trace_report.specs.MissingRows.{reason_words};
 
     ghost text = { λ why. reason_words why.0 };
 
@@ -157,7 +157,7 @@ struct PartOfMessage {
 }
 
 impl Part for PartOfMessage {
-    ghost use Rattle.trace_report.specs.LostRows.{partial_text};
+    ghost use Rattle.trace_report.specs.MissingRows.{partial_text};
 
     ghost text = { λ part. partial_text part.dir part.line part.len };
 
@@ -181,7 +181,7 @@ impl Part for PartOfMessage {
 struct WhyEndedInWords(Cause);
 
 impl Part for WhyEndedInWords {
-    ghost use Rattle.trace_report.specs.LostRows.{cause_words};
+    ghost use Rattle.trace_report.specs.MissingRows.{cause_words};
 
     ghost text = { λ why. cause_words why.0 };
 

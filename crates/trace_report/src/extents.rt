@@ -1,4 +1,4 @@
-//! Where messages begin, and how many frames carry them.
+//! Where receptions and messages begin, and how many frames they have.
 ghost use Rattle.std.specs.Prelude.{◌≡◌, List, [], ◌∷◌, ◌++◌};
 ghost use Rattle.isotp_receive.specs.declared.TheConstants.{MESSAGE_LIMIT};
 ghost use Rattle.isotp_receive.specs.StandingReception.{stands};
@@ -6,7 +6,7 @@ ghost use Rattle.isotp_receive.specs.Trace.{Entry, role};
 ghost use Rattle.trace_run.specs.Seen.{IsEventOf};
 ghost use Rattle.trace_canon.specs.FirstFrames.{CompletesMessage, first_frame, place_of};
 ghost use Rattle.trace_report.specs.Events.{frames_by};
-ghost use Rattle.trace_report.specs.proving.Following.{KnowsPlaces};
+ghost use Rattle.trace_report.specs.proving.Following.{KnowsExtents};
 
 use crate::frames::{FrameCounts, frames_carrying};
 use direction::Dir;
@@ -15,7 +15,7 @@ use trace_canon::reception_starts::{FramePlace, ReceptionStarts, still_begun};
 
 /// Where the receptions began that stand, and how many frames they took.
 #[derive(Clone, Copy, Debug)]
-pub(crate) struct Places {
+pub(crate) struct ReceptionExtents {
     pub begun: ReceptionStarts,
     pub frames: FrameCounts,
 }
@@ -27,12 +27,12 @@ pub(crate) struct MessageExtent {
     pub frames: u64,
 }
 
-impl Places {
+impl ReceptionExtents {
     /// Before the first frame.
-    pub(crate) fn start() -> Places
-        ensures { KnowsPlaces [] result }
+    pub(crate) fn start() -> ReceptionExtents
+        ensures { KnowsExtents [] result }
     {
-        Places {
+        ReceptionExtents {
             begun: ReceptionStarts::start(),
             frames: FrameCounts::start(),
         }
@@ -43,11 +43,11 @@ impl Places {
     #[inline(always)]
     pub(crate) fn take(&mut self, here: FramePlace, dir: Dir, event: Event<'_>) -> MessageExtent
         ensures next { (T : List Entry) (e : Entry) → IsEventOf T e here.line here.micros dir event.entry
-            → KnowsPlaces T self.old → KnowsPlaces (T ++ e ∷ []) self.new }
+            → KnowsExtents T self.old → KnowsExtents (T ++ e ∷ []) self.new }
         ensures first { (T : List Entry) (e : Entry) → IsEventOf T e here.line here.micros dir event.entry
-            → KnowsPlaces T self.old → CompletesMessage MESSAGE_LIMIT T e → result.first ≡ place_of (first_frame T e) }
+            → KnowsExtents T self.old → CompletesMessage MESSAGE_LIMIT T e → result.first ≡ place_of (first_frame T e) }
         ensures frames { (T : List Entry) (e : Entry) → IsEventOf T e here.line here.micros dir event.entry
-            → KnowsPlaces T self.old → CompletesMessage MESSAGE_LIMIT T e
+            → KnowsExtents T self.old → CompletesMessage MESSAGE_LIMIT T e
             → result.frames ≡ frames_by (stands MESSAGE_LIMIT e.dir T) (role e.dir e) }
     {
         let begun = still_begun(dir, event.ended, self.begun.of(dir));

@@ -1,9 +1,9 @@
 //! The rows of a report that tell what is missing: answers, frames, and messages that are not whole.
-ghost use Rattle.trace_report.specs.LostRows.{dropped_row, ended_row, missing_row, no_answer_row, unfinished_row};
+ghost use Rattle.trace_report.specs.MissingRows.{dropped_row, ended_row, missing_row, no_answer_row, unfinished_row};
 
 use crate::cells::{CellEnd, CellFront};
 use crate::durations::Seconds;
-use crate::loss_words::{DroppedWords, EndedWords, UnfinishedWords};
+use crate::missing_words::{DroppedWords, EndedWords, UnfinishedWords};
 use crate::row::{Arrow, Missing};
 use crate::targets::LinkTarget;
 use direction::Dir;
@@ -89,7 +89,7 @@ struct FrameFront {
 }
 
 impl Part for FrameFront {
-    ghost use Rattle.trace_report.specs.LostRows.{frame_front};
+    ghost use Rattle.trace_report.specs.MissingRows.{frame_front};
 
     ghost text = { λ front. frame_front front.linked front.origin front.place };
 

@@ -1,7 +1,7 @@
 -- Where ten targets stand, one more is none of the first ten.
 use Rattle.std.proofs.Common.{◌≡◌, ◌∷◌, [], ◌++◌, length, take, sym, subst, rules}
 use Rattle.std.proofs.Math.Seq.{take-append_seam}
-use Rattle.trace_report.proofs.tally.keep.Goals as goal
+use Rattle.trace_report.proofs.tally.push_if_room.Goals as goal
 
 pub returns-else-not-is_full : goal.returns-else-not-is_full
 returns-else-not-is_full c =

@@ -1,4 +1,4 @@
--- What is kept of a log that is held, with one more frame and at its end.
+-- What is kept of a session, with one more frame and at its end.
 use Rattle.std.proofs.Common.{◌≡◌, ℕ, false, List, [], ◌∷◌, ◌++◌, Option, Some, None, Ok, Err, Result, refl, ap, sym, ◌∙◌}
 use Rattle.std.specs.Prelude.{◌≢◌}
 use Rattle.std.proofs.lemmas.Option.{none-some, same_Some}
@@ -71,9 +71,9 @@ module _ (settings : Settings) (log : List ℕ) (given : ℕ) (old new : List �
       (meanings, read, is (trace settings meanings) (summary_of MESSAGE_LIMIT settings log meanings) answer)
 
   -- the log has a frame where a row of its end is there
-  pub has_own_where_held : (heard : Heard) → rows_in heard.last ≢ [] → AnswersAndWrites quiet_command MESSAGE_LIMIT settings log given (Ok heard) old new
+  pub has_own_where_kept : (heard : Heard) → rows_in heard.last ≢ [] → AnswersAndWrites quiet_command MESSAGE_LIMIT settings log given (Ok heard) old new
       → HasOwnFrame settings log
-  has_own_where_held heard some (all, meanings, read, answer, wrote) =
+  has_own_where_kept heard some (all, meanings, read, answer, wrote) =
       has_own_frame settings log meanings read.1 (λ none. some (answer.last ∙ ap (λ (T : List Entry). end_rows MESSAGE_LIMIT T) none))
 
 -- and where a frame of it needs memory

@@ -5,7 +5,7 @@ use Rattle.isotp_receive.specs.Verdict.{EventValue}
 use Rattle.trace_canon.specs.ReceptionStarts.{reception_start}
 use Rattle.trace_report.proofs.FrameCounting.{frames_next, frames_known}
 use Rattle.trace_report.specs.proving.Following.{frames_with}
-use Rattle.trace_report.proofs.places.Places.take.Goals as goal
+use Rattle.trace_report.proofs.extents.ReceptionExtents.take.Goals as goal
 
 pub returns-clause-next : goal.returns-clause-next
 returns-clause-next c = λ T e is known.

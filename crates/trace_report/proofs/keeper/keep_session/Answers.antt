@@ -5,8 +5,8 @@ use Rattle.trace_log.proofs.Promises.{given_agrees}
 use Rattle.isotp_receive.specs.declared.TheConstants.{MESSAGE_LIMIT}
 use Rattle.trace_log.specs.declared.fault.Fault.{Fault}
 use Rattle.trace_report.specs.proving.Heard.{answers_heard, quiet_command, quiet_script}
-use Rattle.trace_report.proofs.Holding.{fault_of, has_own_where_held, has_own_where_needed, quiet_says_nothing, read_so, unread_so}
-use Rattle.trace_report.proofs.keeper.keep.Goals as goal
+use Rattle.trace_report.proofs.KeptSessions.{fault_of, has_own_where_kept, has_own_where_needed, quiet_says_nothing, read_so, unread_so}
+use Rattle.trace_report.proofs.keeper.keep_session.Goals as goal
 
 pub returns-in-Ok-finished-clause-answer : goal.returns-in-Ok-finished-clause-answer
 returns-in-Ok-finished-clause-answer g c = λ log agrees.
@@ -27,4 +27,4 @@ returns-in-Err-clause-memory g c = λ log agrees refused.
 
 pub returns-in-Err-finished-clause-memory : goal.returns-in-Err-finished-clause-memory
 returns-in-Err-finished-clause-memory g c = λ log agrees refused.
-    has_own_where_held c.args.config.now log _ [] [] c.in-Ok.heard c.in-Err-finished.ensures.refused (c.in-Ok.ensures.ran.answer log agrees)
+    has_own_where_kept c.args.config.now log _ [] [] c.in-Ok.heard c.in-Err-finished.ensures.refused (c.in-Ok.ensures.ran.answer log agrees)
