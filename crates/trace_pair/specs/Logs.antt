@@ -4,7 +4,7 @@ use Rattle.byte_columns.specs.declared.column.Column.{Column}
 use Rattle.uds_difference.specs.declared.row.Row.{Row}
 use Rattle.uds_difference.specs.declared.row.Row.TheVariants.{Same, Changed, OnlyLeft, OnlyRight}
 use Rattle.shown_rows.specs.declared.changes.Change.{Change}
-use Rattle.trace_report.specs.Front.{name_text}
+use Rattle.trace_report.specs.LogNames.{name_text}
 use Rattle.trace_pair.specs.declared.log.PairLog.{PairLog}
 use Rattle.trace_pair.specs.declared.log.PairLog.TheVariants.{A, B}
 

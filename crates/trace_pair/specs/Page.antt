@@ -6,7 +6,8 @@ use Rattle.trace_log.specs.declared.fault.Fault.{Fault}
 use Rattle.trace_log.specs.declared.fault.Fault.TheVariants.{BadLine, LogLimit, Oversize, OutputLimit, Read, Write, Memory}
 use Rattle.trace_report.specs.Causes.{cause_line, cause_of}
 use Rattle.trace_report.specs.Counts.{counts_text}
-use Rattle.trace_report.specs.Front.{identifiers_text, name_text, page_start, shapes_text}
+use Rattle.trace_report.specs.Front.{identifiers_text, page_start, shapes_text}
+use Rattle.trace_report.specs.LogNames.{name_text}
 use Rattle.trace_report.specs.Kept.{KeptSessionsValue}
 use Rattle.trace_report.specs.Session.{SessionValue}
 use Rattle.trace_report.specs.Sorts.{counts_in}

@@ -14,7 +14,7 @@ use Rattle.trace_log.specs.Settings.{Settings}
 use Rattle.trace_log.specs.Trace.{trace}
 use Rattle.trace_report.specs.Events.{asked_in, completes_request, rows_of}
 use Rattle.trace_report.specs.Roles.{role_of_step, asked_at}
-use Rattle.trace_report.specs.Front.{name_text}
+use Rattle.trace_report.specs.LogNames.{name_text}
 use Rattle.trace_report.specs.Items.{item_value, items_in}
 use Rattle.trace_report.specs.Linked.{HasEachTarget, identifiers_in}
 use Rattle.trace_report.specs.Looks.{has_front, look_told, signs}

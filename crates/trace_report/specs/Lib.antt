@@ -17,6 +17,7 @@ pub mod Looks
 pub mod Causes
 pub mod Verdict
 pub mod Style
+pub mod LogNames
 pub mod Front
 pub mod Help
 pub mod Page

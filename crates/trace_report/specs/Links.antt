@@ -5,7 +5,7 @@ use Rattle.std.specs.List.{flat_map}
 use Rattle.trace_text.specs.Words.{direction_text}
 use Rattle.trace_report.specs.Sorts.{most_links}
 use Rattle.trace_report.specs.Targets.{identifier}
-use Rattle.trace_report.specs.declared.counts.SortCounts.{SortCounts}
+use Rattle.trace_report.specs.declared.tally.SortCounts.{SortCounts}
 use Rattle.trace_report.specs.declared.tally.Tally.{Tally}
 use Rattle.trace_report.specs.declared.targets.LinkTarget.{LinkTarget}
 use Rattle.trace_report.specs.declared.targets.LinkTarget.TheVariants as target

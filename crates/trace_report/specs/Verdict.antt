@@ -9,7 +9,7 @@ use Rattle.trace_report.specs.Links.{attention_text}
 use Rattle.trace_report.specs.Durations.{seconds_between}
 use Rattle.trace_log.specs.Summing.{is_clean, lacks_line_feed}
 use Rattle.trace_report.specs.declared.cause.RefusalCause.{RefusalCause}
-use Rattle.trace_report.specs.declared.counts.SortCounts.{SortCounts}
+use Rattle.trace_report.specs.declared.tally.SortCounts.{SortCounts}
 use Rattle.trace_report.specs.declared.tally.Tally.{Tally}
 use Rattle.trace_log.specs.declared.fault.Fault.{Fault}
 use Rattle.trace_log.specs.declared.fault.Fault.TheVariants as fault

@@ -24,7 +24,7 @@
 //! | the rows of a frame, by what the frames before it were | `follower`, `extents`, `frames`, `times` | `Events` |
 //! | the verdict of a log | `verdict_head`, `verdict`, `links`, `counts`, `reasons` | `Links`, `Counts`, `Verdict` |
 //! | why a log is refused | `looks`, `first_bytes`, `cause`, `refusal` | `Looks`, `Causes`, `Verdict` |
-//! | what stands before the rows and behind them | `style`, `front`, `log_names`, `help` | `Style`, `Front`, `Help` |
+//! | what stands before the rows and behind them | `style`, `log_names`, `front`, `help` | `Style`, `LogNames`, `Front`, `Help` |
 //! | [`report`] | `reporter` | `Page` |
 //! | the items of a session, by its rows | `kept_rows`, `item_places`, `items` | `Items` |
 //! | [`keep_two`], [`KeptSession`], [`KeptSessions`] | `keeper`, `session`, `sessions` | `Session`, `Kept` |
@@ -78,7 +78,7 @@ mod verdict_head;
 
 pub use cause::{CauseLine, CauseOf, RefusalCause, cause_of};
 pub use cells::CellFront;
-pub use counts::{Counts, SortCounts};
+pub use counts::Counts;
 pub use data::{BytesApart, Data, MoreWords};
 pub use durations::Seconds;
 pub use front::{Identifiers, PageStart, Shapes};
@@ -101,5 +101,6 @@ pub use row::{MessagePlace, Missing, SentMessage, SessionRow};
 pub use session::KeptSession;
 pub use sessions::KeptSessions;
 pub use style::report_style;
+pub use tally::SortCounts;
 pub use verdict::{SpanOf, is_called_clean};
 pub use verdict_head::VerdictHead;

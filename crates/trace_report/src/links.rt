@@ -2,8 +2,7 @@
 ghost use Rattle.std.specs.Prelude.{◌≡◌};
 ghost use Rattle.trace_report.specs.Links as Spec;
 
-use crate::counts::SortCounts;
-use crate::tally::{MOST_LINKS, Tally, Targets};
+use crate::tally::{MOST_LINKS, SortCounts, Tally, Targets};
 use crate::targets::LinkTarget;
 use text_parts::{Part, say};
 use trace_io::TextSink;

@@ -1,14 +1,69 @@
 //! What a report keeps of its rows for the verdict.
 ghost use Rattle.std.specs.Prelude.{◌≡◌, ◌<◌, ◌^◌, ◌-◌, List, [], ◌∷◌, ◌++◌, length, take};
 ghost use Rattle.trace_report.specs.Rows.{RowValue, row_of};
-ghost use Rattle.trace_report.specs.Sorts.{first_targets, most_links, tally_of};
-ghost use Rattle.trace_report.specs.proving.Tallying.{first_with};
+ghost use Rattle.trace_report.specs.Sorts.{counts_in, first_targets, most_links, tally_of};
+ghost use Rattle.trace_report.specs.proving.Tallying.{counts_with, first_with};
 
-use crate::counts::SortCounts;
 use crate::row::SessionRow;
 use crate::sorts::{Sort, sort_of, target_of};
 use crate::targets::LinkTarget;
 use arrayvec::ArrayVec;
+
+/// How many rows there are of each sort.
+#[derive(Clone, Copy, Debug)]
+pub struct SortCounts {
+    pub requests: u64,
+    pub positives: u64,
+    pub negatives: u64,
+    pub unanswered: u64,
+    pub silent: u64,
+    pub pendings: u64,
+    pub keep_alives: u64,
+    pub strays: u64,
+    pub dropped: u64,
+    pub ended: u64,
+    pub unfinished: u64,
+}
+
+impl SortCounts {
+    /// Before the first row.
+    pub(crate) fn start() -> SortCounts
+        ensures { result ≡ counts_in [] }
+    {
+        SortCounts {
+            requests: 0,
+            positives: 0,
+            negatives: 0,
+            unanswered: 0,
+            silent: 0,
+            pendings: 0,
+            keep_alives: 0,
+            strays: 0,
+            dropped: 0,
+            ended: 0,
+            unfinished: 0,
+        }
+    }
+
+    /// Takes a row of this sort.
+    pub(crate) fn take(&mut self, sort: Sort)
+        ensures { self.new ≡ counts_with sort self.old }
+    {
+        match sort {
+            Sort::Requests => self.requests = self.requests.saturating_add(1),
+            Sort::Positives => self.positives = self.positives.saturating_add(1),
+            Sort::Negatives => self.negatives = self.negatives.saturating_add(1),
+            Sort::Pendings => self.pendings = self.pendings.saturating_add(1),
+            Sort::KeepAlives => self.keep_alives = self.keep_alives.saturating_add(1),
+            Sort::Strays => self.strays = self.strays.saturating_add(1),
+            Sort::Unanswered => self.unanswered = self.unanswered.saturating_add(1),
+            Sort::Silent => self.silent = self.silent.saturating_add(1),
+            Sort::Dropped => self.dropped = self.dropped.saturating_add(1),
+            Sort::Ended => self.ended = self.ended.saturating_add(1),
+            Sort::Unfinished => self.unfinished = self.unfinished.saturating_add(1),
+        }
+    }
+}
 
 /// So many rows of a sort are linked to at the most.
 pub(crate) const MOST_LINKS: u64 = 10;

@@ -4,12 +4,12 @@ ghost use Rattle.std.specs.Prelude.{◌≡◌};
 ghost use Rattle.trace_report.specs.Verdict as Spec;
 
 use crate::cause::RefusalCause;
-use crate::counts::{AnswersOf, Counts};
+use crate::counts::Counts;
 use crate::durations::Seconds;
 use crate::links::Attention;
 use crate::reasons::UncleanReasons;
 use crate::refusal::RefusedHeading;
-use crate::tally::Tally;
+use crate::tally::{SortCounts, Tally};
 use crate::times::{Times, first_of, last_of};
 use crate::verdict_head::VerdictHead;
 use text_parts::{Either, Part, say};
@@ -174,6 +174,28 @@ impl<'a> Part for StartWords<'a> {
                 ),
             ),
         );
+    }
+}
+
+/// Whether each answer is positive, where something was asked.
+#[derive(Clone, Copy)]
+struct AnswersOf<'a>(&'a SortCounts);
+
+impl<'a> Part for AnswersOf<'a> {
+    ghost use Rattle.trace_report.specs.Verdict.{answers_of};
+
+    ghost text = { λ answers. answers_of answers.0.now };
+
+    fn say<S: TextSink>(self, out: &mut S) {
+        let counts = self.0;
+        if counts.requests == 0 {
+            return;
+        }
+        if counts.negatives == 0 && counts.unanswered == 0 {
+            say(out, " No answer is negative, and none is missing.");
+        } else {
+            say(out, " Not every request has a positive answer.");
+        }
     }
 }
 
