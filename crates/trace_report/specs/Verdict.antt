@@ -96,12 +96,12 @@ start_words summary =
     else codes "The recording is not clean"
 
 -- that heading
-abbrev pub start_by : Summary → List ℕ
-start_by summary = verdict_head (codes "warn") (codes "!") ++ start_words summary ++ codes "</h2>\n<p>"
+abbrev pub unclean_heading : Summary → List ℕ
+unclean_heading summary = verdict_head (codes "warn") (codes "!") ++ start_words summary ++ codes "</h2>\n<p>"
 
 -- the heading of a recording that is not called clean, and each reason
 abbrev pub unclean_verdict : Summary → List ℕ
-unclean_verdict summary = start_by summary ++ unclean_reasons summary
+unclean_verdict summary = unclean_heading summary ++ unclean_reasons summary
 
 -- the heading of the verdict of a log that is read to its end, and its sentences
 abbrev pub heading_text : Summary → List ℕ

@@ -142,7 +142,7 @@ impl Part for CauseLine {
         match self.0 {
             Some(cause) => say(
                 out,
-                ("<p><b>Cause:</b> ", CauseOf(cause, "this log"), ".</p>\n"),
+                ("<p><b>Cause:</b> ", RefusalCauseText(cause, "this log"), ".</p>\n"),
             ),
             None => {}
         }
@@ -151,30 +151,30 @@ impl Part for CauseLine {
 
 /// What is said of a cause, of a log with this name.
 #[derive(Clone, Copy)]
-pub struct CauseOf<N>(pub RefusalCause, pub N);
+pub struct RefusalCauseText<N>(pub RefusalCause, pub N);
 
-impl<N: Part> Part for CauseOf<N> {
+impl<N: Part> Part for RefusalCauseText<N> {
     ghost use Rattle.trace_report.specs.Causes.{refusal_cause_text};
 
     ghost text = { λ cause. refusal_cause_text cause.0 (N.text cause.1) };
 
     fn say<S: TextSink>(self, out: &mut S) {
-        let CauseOf(cause, name) = self;
-        say(out, RowOf(row_of_cause(cause), name));
+        let RefusalCauseText(cause, name) = self;
+        say(out, CauseRowText(row_of_cause(cause), name));
     }
 }
 
 /// What a row says of a log with this name.
 #[derive(Clone, Copy)]
-struct RowOf<N>(CauseRow, N);
+struct CauseRowText<N>(CauseRow, N);
 
-impl<N: Part> Part for RowOf<N> {
+impl<N: Part> Part for CauseRowText<N> {
     ghost use Rattle.trace_report.specs.Causes.{cause_row_text, row_value};
 
     ghost text = { λ row. cause_row_text (row_value row.0) (N.text row.1) };
 
     fn say<S: TextSink>(self, out: &mut S) {
-        let RowOf(row, name) = self;
+        let CauseRowText(row, name) = self;
         say(
             out,
             (

@@ -76,7 +76,7 @@ mod times;
 mod verdict;
 mod verdict_head;
 
-pub use cause::{CauseLine, CauseOf, RefusalCause, cause_of};
+pub use cause::{CauseLine, RefusalCause, RefusalCauseText, cause_of};
 pub use cells::CellFront;
 pub use counts::Counts;
 pub use data::{BytesApart, Data, MoreWords};

@@ -27,7 +27,7 @@ impl Part for DroppedWords {
                 " frame:</i> <em>",
                 DropReason(reason),
                 "</em>",
-                WhyDroppedInWords(reason),
+                ReasonWords(reason),
             ),
         );
     }
@@ -44,7 +44,7 @@ impl Part for EndedWords {
 
     fn say<S: TextSink>(self, out: &mut S) {
         let ended = self.0;
-        let part = PartOfMessage {
+        let part = PartialText {
             dir: ended.dir,
             line: ended.begun_line,
             len: ended.len,
@@ -57,7 +57,7 @@ impl Part for EndedWords {
                 "</i> <em>",
                 EndCause(ended.cause),
                 "</em> <i>",
-                WhyEndedInWords(ended.cause),
+                CauseWords(ended.cause),
                 "</i>",
             ),
         );
@@ -79,7 +79,7 @@ impl Part for UnfinishedWords {
             out,
             (
                 "<b>unfinished</b> <i>",
-                PartOfMessage { dir, line, len },
+                PartialText { dir, line, len },
                 " the log ends before its last frame</i>",
             ),
         );
@@ -88,9 +88,9 @@ impl Part for UnfinishedWords {
 
 /// Why a frame was dropped, for a reader who knows no ISO 15765-2.
 #[derive(Clone, Copy)]
-struct WhyDroppedInWords(Reason);
+struct ReasonWords(Reason);
 
-impl Part for WhyDroppedInWords {
+impl Part for ReasonWords {
     ghost use Rattle.trace_report.specs.MissingRows.{reason_words};
 
     ghost text = { λ why. reason_words why.0 };
@@ -150,13 +150,13 @@ fn say_layout_fault_words<S: TextSink>(fault: PduFault, out: &mut S)
 
 /// A message that is not whole: where it began, and how many bytes were announced.
 #[derive(Clone, Copy)]
-struct PartOfMessage {
+struct PartialText {
     dir: Dir,
     line: u64,
     len: u32,
 }
 
-impl Part for PartOfMessage {
+impl Part for PartialText {
     ghost use Rattle.trace_report.specs.MissingRows.{partial_text};
 
     ghost text = { λ part. partial_text part.dir part.line part.len };
@@ -178,9 +178,9 @@ impl Part for PartOfMessage {
 
 /// Why a reception ended, for a reader who knows no ISO 15765-2.
 #[derive(Clone, Copy)]
-struct WhyEndedInWords(Cause);
+struct CauseWords(Cause);
 
-impl Part for WhyEndedInWords {
+impl Part for CauseWords {
     ghost use Rattle.trace_report.specs.MissingRows.{cause_words};
 
     ghost text = { λ why. cause_words why.0 };

@@ -117,7 +117,7 @@ impl<'a> Part for Heading<'a> {
                 ),
             );
         } else {
-            say(out, (StartOf(summary), UncleanReasons(summary)));
+            say(out, (UncleanHeading(summary), UncleanReasons(summary)));
         }
     }
 }
@@ -131,12 +131,12 @@ pub fn is_called_clean(summary: &Summary) -> bool
 
 /// The heading of a log that has no frame of the two sides, or whose sides look exchanged, or that is not clean.
 #[derive(Clone, Copy)]
-struct StartOf<'a>(&'a Summary);
+struct UncleanHeading<'a>(&'a Summary);
 
-impl<'a> Part for StartOf<'a> {
-    ghost use Rattle.trace_report.specs.Verdict.{start_by};
+impl<'a> Part for UncleanHeading<'a> {
+    ghost use Rattle.trace_report.specs.Verdict.{unclean_heading};
 
-    ghost text = { λ start. start_by start.0.now };
+    ghost text = { λ heading. unclean_heading heading.0.now };
 
     fn say<S: TextSink>(self, out: &mut S) {
         let summary = self.0;

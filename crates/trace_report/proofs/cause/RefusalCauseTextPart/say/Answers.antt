@@ -1,7 +1,7 @@
 -- The row that is said is that of the table of causes.
 use Rattle.std.proofs.Common.{subst}
 use Rattle.trace_report.specs.Causes.{CauseRowValue, cause_row_text}
-use Rattle.trace_report.proofs.cause.CauseOfPart.say.Goals as goal
+use Rattle.trace_report.proofs.cause.RefusalCauseTextPart.say.Goals as goal
 
 pub returns : goal.returns
 returns g c =
