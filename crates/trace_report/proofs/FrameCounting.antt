@@ -1,5 +1,5 @@
 -- How many consecutive frames the receptions took that stand, after one more frame.
-use Rattle.std.proofs.Common.{◌≡◌, ℕ, ◌+◌, ◌<◌, ◌≤◌, ◌^◌, ◌==◌, true, ap, List, [], ◌∷◌, ◌++◌, length, Option, Some, None, Result, Ok, Err, IfSome, refl, sym, subst, ◌∙◌, nat_le, inl, inr, suc, min, arith, zero-le, option_map}
+use Rattle.std.proofs.Common.{◌≡◌, ℕ, ◌+◌, ◌<◌, ◌≤◌, ◌^◌, ◌==◌, true, ap, List, [], ◌∷◌, ◌++◌, length, Option, Some, None, Result, Ok, Err, IfSome, refl, sym, subst, ◌∙◌, nat_le, inl, inr, suc, arith, zero-le, option_map}
 use Rattle.std.proofs.lemmas.Bool.{cases_Bool}
 use Rattle.can_log.specs.Frame.{FrameValue}
 use Rattle.direction.specs.Dir.{other_direction}
@@ -172,7 +172,7 @@ module _ (line micros most : ℕ) (few : most < 2 ^ 63) (place : FramePlace) whe
   begun_at : Option StandingReception → Option FramePlace
   begun_at own = option_map (λ (s : StandingReception). place) own
 
-  two_higher : (taken kept : ℕ) → kept ≡ taken → taken ≤ most → min (kept + 2) 18446744073709551615 ≡ taken + 2
+  two_higher : (taken kept : ℕ) → kept ≡ taken → taken ≤ most → one_more_count (one_more_count kept) ≡ taken + 2
   two_higher taken kept is low = rw is (omega arith)
 
   found : (d : Dir) (own others : Option StandingReception) (taken : ℕ) (read : Result Layout PduFault) (whole : List ℕ) → Counts own taken → TookAtMost most own

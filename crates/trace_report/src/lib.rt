@@ -18,7 +18,7 @@
 //! |---|---|---|
 //! | times and bytes, as rows show them | `durations`, `letters`, `data` | `Durations`, `Letters`, `Data` |
 //! | what a row tells | `targets`, `roles`, `row` | `Targets`, `Roles`, `Rows` |
-//! | what is counted, and where links lead | `sorts`, `tally` | `Sorts`, `Linked` |
+//! | what is counted, and where links lead | `counting`, `sorts`, `tally` | `Sorts`, `Linked` |
 //! | the text of a row | `cells`, `message_rows`, `message_words`, `brief_rows`, `missing_rows`, `missing_words` | `Rows`, `MessageRows`, `BriefRows`, `MissingRows` |
 //! | the chart: rows one after another, in blocks that fold | `blocks`, `block_fronts`, `chart` | `Blocks`, `Chart` |
 //! | the rows of a frame, by what the frames before it were | `follower`, `extents`, `frames`, `times` | `Events` |
@@ -38,6 +38,7 @@ mod brief_rows;
 mod cause;
 mod cells;
 mod chart;
+mod counting;
 mod counts;
 mod data;
 mod durations;

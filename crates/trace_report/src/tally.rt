@@ -4,6 +4,7 @@ ghost use Rattle.trace_report.specs.Rows.{RowValue, row_of};
 ghost use Rattle.trace_report.specs.Sorts.{counts_in, first_targets, most_links, tally_of};
 ghost use Rattle.trace_report.specs.proving.Tallying.{counts_with, first_with};
 
+use crate::counting::one_more;
 use crate::row::SessionRow;
 use crate::sorts::{Sort, sort_of, target_of};
 use crate::targets::LinkTarget;
@@ -50,17 +51,17 @@ impl SortCounts {
         ensures { self.new ≡ counts_with sort self.old }
     {
         match sort {
-            Sort::Requests => self.requests = self.requests.saturating_add(1),
-            Sort::Positives => self.positives = self.positives.saturating_add(1),
-            Sort::Negatives => self.negatives = self.negatives.saturating_add(1),
-            Sort::Pendings => self.pendings = self.pendings.saturating_add(1),
-            Sort::KeepAlives => self.keep_alives = self.keep_alives.saturating_add(1),
-            Sort::Strays => self.strays = self.strays.saturating_add(1),
-            Sort::Unanswered => self.unanswered = self.unanswered.saturating_add(1),
-            Sort::Silent => self.silent = self.silent.saturating_add(1),
-            Sort::Dropped => self.dropped = self.dropped.saturating_add(1),
-            Sort::Ended => self.ended = self.ended.saturating_add(1),
-            Sort::Unfinished => self.unfinished = self.unfinished.saturating_add(1),
+            Sort::Requests => self.requests = one_more(self.requests),
+            Sort::Positives => self.positives = one_more(self.positives),
+            Sort::Negatives => self.negatives = one_more(self.negatives),
+            Sort::Pendings => self.pendings = one_more(self.pendings),
+            Sort::KeepAlives => self.keep_alives = one_more(self.keep_alives),
+            Sort::Strays => self.strays = one_more(self.strays),
+            Sort::Unanswered => self.unanswered = one_more(self.unanswered),
+            Sort::Silent => self.silent = one_more(self.silent),
+            Sort::Dropped => self.dropped = one_more(self.dropped),
+            Sort::Ended => self.ended = one_more(self.ended),
+            Sort::Unfinished => self.unfinished = one_more(self.unfinished),
         }
     }
 }

@@ -1,5 +1,5 @@
 -- Devices of proof: what a report keeps of the frames so far.
-use Rattle.std.specs.Prelude.{◌≡◌, ℕ, ◌+◌, ◌≤◌, ◌^◌, min, Bool, true, false, List, [], ◌∷◌, ◌++◌, length, Option, Some, None, IfSome, if◌then◌else◌}
+use Rattle.std.specs.Prelude.{◌≡◌, ℕ, ◌≤◌, ◌^◌, Bool, true, false, List, [], ◌∷◌, ◌++◌, length, Option, Some, None, IfSome, if◌then◌else◌}
 use Rattle.direction.specs.Dir.{Message}
 use Rattle.direction.specs.declared.Dir.{Dir}
 use Rattle.direction.specs.declared.Dir.TheVariants.{Tester, Unit}
@@ -56,7 +56,7 @@ pub record CountFrames (T : List Entry) (counts : FrameCounts) : Type 0 where
 -- did not end, if one did, and took so many consecutive frames
 abbrev pub frames_with : Option FramePlace → ℕ → ℕ
 frames_with None taken = 1
-frames_with (Some begun) taken = min (taken + 2) 18446744073709551615
+frames_with (Some begun) taken = one_more (one_more taken)
 
 -- where the receptions began that stand after the frames T, and how many frames they took
 pub record KnowsExtents (T : List Entry) (extents : ReceptionExtents) : Type 0 where
