@@ -8,7 +8,6 @@ mod BytesBehind
 mod WordPlaces
 mod ItemValues
 mod SessionItems
-mod ItemNumbers
 mod RowNumbers
 mod ItemParts
 mod Placing

@@ -74,7 +74,3 @@ refused_text title limit source T summary why =
 -- what a report tells: of each frame its text, and at the end of the log the last one
 abbrev pub report_script : PageTitleValue → ℕ → Script
 report_script title limit = record { strict = false; of_frame = frame_text title limit; at_the_end = last_text title limit }
-
--- a source of which nothing is seen
-abbrev pub nothing_seen : GlimpseValue
-nothing_seen = record { first = []; is_over = false }

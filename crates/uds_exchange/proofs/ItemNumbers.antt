@@ -7,7 +7,6 @@ use Rattle.std.proofs.lemmas.List.{length-map}
 use Rattle.std.proofs.lemmas.Option.{same_Some}
 use Rattle.direction.specs.Dir.{Message}
 use Rattle.uds_message.specs.Message.{sid}
-use Rattle.uds_exchange.proofs.Promises.{decided_then_undecided, meaning_goes_on}
 use Rattle.uds_exchange.specs.Decided.{decided, decided_in, exchange_items}
 use Rattle.uds_exchange.specs.Judging.{number_after, number_by, open_number, step_after}
 use Rattle.uds_exchange.specs.Meaning.{ItemValue, exchange, stray, stray_of, is_tester_request, is_answer_to, is_pending_reply_to, meaning}
@@ -17,15 +16,13 @@ use Rattle.uds_exchange.specs.Order.{has_exchange, held, open_request, open_requ
 use Rattle.uds_exchange.specs.declared.step.Step.{Step}
 use Rattle.uds_exchange.specs.declared.step.Step.TheVariants as becomes
 use Rattle.uds_exchange.specs.proving.Pairing.{items_with_other}
-use Rattle.trace_report.proofs.Distinct.{at-front}
-use Rattle.trace_report.specs.Numbers.{HasItem, HasPartBy, IsBegunBy, LineNumbersArePlaces}
+use Rattle.uds_exchange.specs.Numbers.{HasItem, HasPartBy, IsBegunBy}
+use Rattle.uds_exchange.specs.proving.Becoming.{Becomes, EachBecomes}
+use Rattle.uds_exchange.proofs.DecidedOfMore.{decided_then_undecided}
+use Rattle.uds_exchange.proofs.ListPlaces.{at-behind, at-front, set-there}
+use Rattle.uds_exchange.proofs.MeaningOfMore.{meaning-append}
 
 -- Items with more messages: one without an answer may get one, and each other one stays.
-
-abbrev pub Becomes : ItemValue → ItemValue → Type 0
-Becomes (stray d bytes) later = later ≡ stray d bytes
-Becomes (exchange request (Some reply)) later = later ≡ exchange request (Some reply)
-Becomes (exchange request None) later = IsBegunBy request later
 
 item-stays : (item : ItemValue) → Becomes item item
 item-stays (stray d bytes) = refl
@@ -42,11 +39,6 @@ becomes-then (exchange request (Some reply)) later last one other = subst (λ (i
 becomes-then (exchange request None) later last one other =
     begun-stays request one.0 last (subst (λ (it : ItemValue). Becomes it last) one.1 other)
 
--- each of these items is, or has become, that in its place among the others
-abbrev pub EachBecomes : List ItemValue → List ItemValue → Type 0
-EachBecomes items later =
-    (place : ℕ) (item : ItemValue) → slice_get items place ≡ Some item → (now : ItemValue) × (slice_get later place ≡ Some now) × Becomes item now
-
 each-stays : (items : List ItemValue) → EachBecomes items items
 each-stays items place item is = (item, is, item-stays item)
 
@@ -59,16 +51,7 @@ each-then items later last one other place item is =
 more-behind : (items more : List ItemValue) → EachBecomes items (items ++ more)
 more-behind items more place item is = (item, at-front items more place item is, item-stays item)
 
--- An item in its place.
-
-at-behind : (front rest : List ItemValue) (item : ItemValue) → slice_get (front ++ item ∷ rest) (length front) ≡ Some item
-at-behind [] rest item = refl
-at-behind (first ∷ front) rest item = at-behind front rest item
-
-set-there : (items : List ItemValue) (place : ℕ) (was item : ItemValue) → slice_get items place ≡ Some was → slice_get (slice_set items place item) place ≡ Some item
-set-there [] place was item is = cc
-set-there (first ∷ items) zero was item is = refl
-set-there (first ∷ items) (suc place) was item is = set-there items place was item is
+-- The item at a place gets its answer.
 
 one-answered : (items : List ItemValue) (at : ℕ) (request reply : List ℕ) → slice_get items at ≡ Some (exchange request None)
     → EachBecomes items (slice_set items at (exchange request (Some reply)))
@@ -160,14 +143,14 @@ module _ (M : List Message) (x : Message) where
 
   pub one-has : HasIts (meaning (M ++ x ∷ [])) (step_after M x)
   one-has =
-      subst (λ all. HasIts all (step_after M x)) (sym (meaning_goes_on M x)) (elim (cases_Bool (is_tester_request x)) [
+      subst (λ all. HasIts all (step_after M x)) (sym (meaning-append M x)) (elim (cases_Bool (is_tester_request x)) [
         | inl e ↦ rw e (length items, exchange x.1 None, refl, at-behind items [] (exchange x.1 None), (None, refl))
         | inr e ↦ rw (e, open-place items) (other-has (open_request M) refl)
       ])
 
   pub one-grows : EachBecomes items (meaning (M ++ x ∷ []))
   one-grows =
-      subst (EachBecomes items) (sym (meaning_goes_on M x)) (elim (cases_Bool (is_tester_request x)) [
+      subst (EachBecomes items) (sym (meaning-append M x)) (elim (cases_Bool (is_tester_request x)) [
         | inl e ↦ rw e (more-behind items (exchange x.1 None ∷ []))
         | inr e ↦ rw (e, open-place items) (other-grows (open_request M) refl)
       ])
@@ -198,8 +181,9 @@ part-still becomes.Removed sent item now become is = (is.0, begun-still is.0 ite
 part-still becomes.Hold sent item now become is = subst (λ (it : ItemValue). Becomes it now) is become
 part-still becomes.Pass sent item now become is = subst (λ (it : ItemValue). Becomes it now) is become
 
-pub line_numbers_are_places : LineNumbersArePlaces
-line_numbers_are_places M more sent start end =
-    subst (λ all. HasItem (meaning all) (number_after M sent) (HasPartBy (step_after M sent) sent)) (append_assoc M (sent ∷ []) more)
-    (item-still (HasPartBy (step_after M sent) sent) (part-still (step_after M sent) sent) (meaning (M ++ sent ∷ [])) (meaning ((M ++ sent ∷ []) ++ more))
-    (all-grow (M ++ sent ∷ []) more) (number_after M sent) (one-has M sent))
+-- The number of a message stays, and its part in the item of that number.
+pub number-stays : (M more : List Message) (x : Message) → HasItem (meaning (M ++ x ∷ more)) (number_after M x) (HasPartBy (step_after M x) x)
+number-stays M more x =
+    subst (λ all. HasItem (meaning all) (number_after M x) (HasPartBy (step_after M x) x)) (append_assoc M (x ∷ []) more)
+    (item-still (HasPartBy (step_after M x) x) (part-still (step_after M x) x) (meaning (M ++ x ∷ [])) (meaning ((M ++ x ∷ []) ++ more))
+    (all-grow (M ++ x ∷ []) more) (number_after M x) (one-has M x))
