@@ -1,5 +1,5 @@
 -- The rows of what is missing: answers, frames that were dropped, and messages that are not whole.
-use Rattle.std.specs.Prelude.{ℕ, Bool, ◌&&◌, List, [], ◌++◌, codes, if◌then◌else◌}
+use Rattle.std.specs.Prelude.{ℕ, Bool, ◌&&◌, List, [], ◌++◌, codes, None, if◌then◌else◌}
 use Rattle.std.specs.Fmt.{decimal}
 use Rattle.direction.specs.declared.Dir.{Dir}
 use Rattle.isotp_pdu.specs.declared.PduFault.{PduFault}
@@ -9,11 +9,11 @@ use Rattle.isotp_receive.specs.declared.event.Ended.{Ended}
 use Rattle.isotp_receive.specs.declared.event.Reason.{Reason}
 use Rattle.trace_canon.specs.declared.reception_starts.FramePlace.{FramePlace}
 use Rattle.trace_text.specs.RemarkLines.{cause_text, reason_text}
-use Rattle.trace_report.specs.Targets.{identifier}
-use Rattle.trace_report.specs.declared.targets.LinkTarget.TheVariants as target
+use Rattle.trace_report.specs.Targets.{target_if}
+use Rattle.trace_report.specs.declared.targets.LinkTarget.TheVariants.{Line, Side}
 use Rattle.trace_report.specs.Durations.{seconds_between}
 use Rattle.trace_text.specs.Words.{direction_text}
-use Rattle.trace_report.specs.Rows.{cell_front, cell_end}
+use Rattle.trace_report.specs.Rows.{cell_front, cell_end, item_repeated, no_item, row_front}
 use Rattle.direction.specs.declared.Dir.TheVariants as dir
 use Rattle.isotp_pdu.specs.declared.PduFault.TheVariants as pdu
 use Rattle.isotp_receive.specs.declared.event.Cause.TheVariants as cause
@@ -22,34 +22,31 @@ use Rattle.trace_report.specs.declared.row.Arrow.TheVariants as arrow
 use Rattle.trace_report.specs.declared.row.Missing.{Missing}
 use Rattle.trace_report.specs.declared.row.Missing.TheVariants as missing
 
--- the row of an item without an answer that asked for no positive one
-abbrev pub silent_row : ℕ → List ℕ
-silent_row number =
-    codes "<tr class=\"p\"><td>" ++ decimal number ++ codes "<td><td>" ++ cell_front dir.Unit ++ codes "<b>silent</b> <i>item " ++ decimal number
-    ++ codes " asked for no positive answer</i>" ++ cell_end dir.Unit arrow.Barred
+-- what stands in front of the row of an item without an answer, which asked for no positive one or did
+abbrev pub no_answer_front : ℕ → Bool → List ℕ
+no_answer_front number silent =
+    row_front (record { class = if silent then codes "p" else codes "m"; target = None; item = item_repeated number; lines = []; time = [] })
 
--- the row of an item without an answer that asked for one
-abbrev pub unanswered_row : ℕ → List ℕ
-unanswered_row number =
-    codes "<tr class=\"m\"><td>" ++ decimal number ++ codes "<td><td>" ++ cell_front dir.Unit ++ codes "<b>no answer</b> <i>to item " ++ decimal number
-    ++ codes "</i>" ++ cell_end dir.Unit arrow.Barred
+-- an item without an answer, which asked for no positive one or did, in words
+abbrev pub no_answer_words : ℕ → Bool → List ℕ
+no_answer_words number silent =
+    if silent then codes "<b>silent</b> <i>item " ++ decimal number ++ codes " asked for no positive answer</i>"
+    else codes "<b>no answer</b> <i>to item " ++ decimal number ++ codes "</i>"
 
 -- the row of an item without an answer, which asked for no positive one or did
 abbrev pub no_answer_row : ℕ → Bool → List ℕ
-no_answer_row number silent = if silent then silent_row number else unanswered_row number
-
--- the identifier of a line of the log, to which links lead
-abbrev pub line_target : ℕ → List ℕ
-line_target number = codes " id=\"" ++ identifier (target.Line number) ++ codes "\""
-
--- the identifier of a line, where links lead to this row of it
-abbrev pub target_if : Bool → ℕ → List ℕ
-target_if linked line = if linked then line_target line else []
+no_answer_row number silent =
+    no_answer_front number silent ++ cell_front dir.Unit ++ no_answer_words number silent ++ cell_end dir.Unit arrow.Barred
 
 -- where a frame stands, in a row to which links lead or not
 abbrev pub frame_front : Bool → ℕ → FramePlace → List ℕ
-frame_front linked origin place =
-    codes "<tr class=\"x\"" ++ target_if linked place.line ++ codes "><td><td>" ++ decimal place.line ++ codes "<td>" ++ seconds_between origin place.micros
+frame_front linked origin place = row_front (record {
+  class = codes "x";
+  target = target_if linked (Line place.line);
+  item = no_item;
+  lines = decimal place.line;
+  time = seconds_between origin place.micros;
+})
 
 -- why a frame has no layout, for a reader who knows no ISO 15765-2
 abbrev pub layout_fault_words : PduFault → List ℕ
@@ -103,9 +100,9 @@ abbrev pub ended_row : Bool → ℕ → FramePlace → Ended → List ℕ
 ended_row linked origin place end =
     frame_front linked origin place ++ cell_front end.dir ++ ended_words end ++ cell_end end.dir arrow.Barred
 
--- the identifier of what stands of a side at the end of the log, where links lead to this row
-abbrev pub side_target : Bool → Dir → List ℕ
-side_target linked d = if linked then codes " id=\"" ++ identifier (target.Side d) ++ codes "\"" else []
+-- what stands in front of the row of what stands of a side at the end of the log, to which links lead or not
+abbrev pub end_front : Bool → Dir → List ℕ
+end_front linked d = row_front (record { class = codes "x"; target = target_if linked (Side d); item = no_item; lines = []; time = [] })
 
 -- a reception that stands at the end of the log, in words
 abbrev pub unfinished_words : Dir → ℕ → ℕ → List ℕ
@@ -113,8 +110,7 @@ unfinished_words d line len = codes "<b>unfinished</b> <i>" ++ partial_text d li
 
 -- the row of a reception that stands at the end of the log, to which links lead or not
 abbrev pub unfinished_row : Bool → Dir → ℕ → ℕ → List ℕ
-unfinished_row linked d line len =
-    codes "<tr class=\"x\"" ++ side_target linked d ++ codes "><td><td><td>" ++ cell_front d ++ unfinished_words d line len ++ cell_end d arrow.Barred
+unfinished_row linked d line len = end_front linked d ++ cell_front d ++ unfinished_words d line len ++ cell_end d arrow.Barred
 
 -- the row of what is missing, to which links lead or not; to that of a dropped frame they lead only where it says so
 abbrev pub missing_row : Bool → ℕ → Missing → List ℕ

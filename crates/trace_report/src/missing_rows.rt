@@ -1,14 +1,14 @@
 //! The rows of a report that tell what is missing: answers, frames, and messages that are not whole.
 ghost use Rattle.trace_report.specs.MissingRows.{dropped_row, ended_row, missing_row, no_answer_row, unfinished_row};
 
-use crate::cells::{CellEnd, CellFront};
+use crate::cells::{CellEnd, CellFront, RowFront};
 use crate::durations::Seconds;
 use crate::missing_words::{DroppedWords, EndedWords, UnfinishedWords};
 use crate::row::{Arrow, Missing};
-use crate::targets::LinkTarget;
+use crate::targets::{LinkTarget, target_if};
 use direction::Dir;
 use isotp_receive::{Ended, Reason};
-use text_parts::{Part, When, say};
+use text_parts::{Either, Part, say};
 use trace_canon::reception_starts::FramePlace;
 use trace_io::TextSink;
 use trace_text::Number;
@@ -48,36 +48,28 @@ pub fn say_missing_row<S: TextSink>(linked: bool, origin: u64, missing: Missing,
 fn say_no_answer_row<S: TextSink>(number: u64, silent: bool, out: &mut S)
     ensures { S.says out.old (no_answer_row number silent) out.new }
 {
-    let number = Number(number);
-    if silent {
-        say(
-            out,
-            (
-                "<tr class=\"p\"><td>",
-                number,
-                "<td><td>",
-                CellFront(Dir::Unit),
-                "<b>silent</b> <i>item ",
-                number,
-                " asked for no positive answer</i>",
-                CellEnd(Dir::Unit, Arrow::Barred),
-            ),
-        );
-    } else {
-        say(
-            out,
-            (
-                "<tr class=\"m\"><td>",
-                number,
-                "<td><td>",
-                CellFront(Dir::Unit),
-                "<b>no answer</b> <i>to item ",
-                number,
-                "</i>",
-                CellEnd(Dir::Unit, Arrow::Barred),
-            ),
-        );
-    }
+    let item = Number(number);
+    let front = RowFront {
+        class: Either(silent, "p", "m"),
+        target: None,
+        item: ("<td>", item),
+        lines: (),
+        time: (),
+    };
+    let words = Either(
+        silent,
+        ("<b>silent</b> <i>item ", item, " asked for no positive answer</i>"),
+        ("<b>no answer</b> <i>to item ", item, "</i>"),
+    );
+    say(
+        out,
+        (
+            front,
+            CellFront(Dir::Unit),
+            words,
+            CellEnd(Dir::Unit, Arrow::Barred),
+        ),
+    );
 }
 
 /// Where a frame stands, in a row to which links lead or not.
@@ -99,17 +91,15 @@ impl Part for FrameFront {
             origin,
             place,
         } = self;
-        let line = Number(place.line);
         say(
             out,
-            (
-                "<tr class=\"x\"",
-                When(linked, (" id=\"", LinkTarget::Line(place.line), "\"")),
-                "><td><td>",
-                line,
-                "<td>",
-                Seconds(origin, place.micros),
-            ),
+            RowFront {
+                class: "x",
+                target: target_if(linked, LinkTarget::Line(place.line)),
+                item: "<td>",
+                lines: Number(place.line),
+                time: Seconds(origin, place.micros),
+            },
         );
     }
 }
@@ -148,12 +138,17 @@ fn say_ended_row<S: TextSink>(front: FrameFront, ended: Ended, out: &mut S)
 fn say_unfinished_row<S: TextSink>(linked: bool, dir: Dir, line: u64, len: u32, out: &mut S)
     ensures { S.says out.old (unfinished_row linked dir line len) out.new }
 {
+    let front = RowFront {
+        class: "x",
+        target: target_if(linked, LinkTarget::Side(dir)),
+        item: "<td>",
+        lines: (),
+        time: (),
+    };
     say(
         out,
         (
-            "<tr class=\"x\"",
-            When(linked, (" id=\"", LinkTarget::Side(dir), "\"")),
-            "><td><td><td>",
+            front,
             CellFront(dir),
             UnfinishedWords(dir, line, len),
             CellEnd(dir, Arrow::Barred),

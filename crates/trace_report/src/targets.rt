@@ -1,5 +1,7 @@
 //! The places of a page of one log to which links lead, and their identifiers.
-use crate::cells::Side;
+ghost use Rattle.std.specs.Prelude.{◌≡◌};
+ghost use Rattle.trace_report.specs.Targets as Spec;
+
 use direction::Dir;
 use text_parts::{Part, say};
 use trace_io::TextSink;
@@ -39,5 +41,30 @@ impl Default for LinkTarget {
 
     fn default() -> Self {
         LinkTarget::Item(0)
+    }
+}
+
+/// A place, where links lead to it.
+#[inline(always)]
+pub(crate) fn target_if(linked: bool, place: LinkTarget) -> Option<LinkTarget>
+    ensures { result ≡ Spec.target_if linked place }
+{
+    if linked { Some(place) } else { None }
+}
+
+/// The letter of a side.
+#[derive(Clone, Copy)]
+pub(crate) struct Side(pub Dir);
+
+impl Part for Side {
+    ghost use Rattle.trace_report.specs.Targets.{side_text};
+
+    ghost text = { λ side. side_text side.0 };
+
+    fn say<S: TextSink>(self, out: &mut S) {
+        match self.0 {
+            Dir::Tester => say(out, "t"),
+            Dir::Unit => say(out, "u"),
+        }
     }
 }
