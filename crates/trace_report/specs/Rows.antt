@@ -1,6 +1,6 @@
--- The rows of a report: what each tells, what stands in it before its cell of the chart, and that cell. A row is one line of HTML: the number of its item,
--- the lines of the log, the time since the first frame of the two sides, and a cell, in which words stand at the sender's side and
--- an arrow fills the rest. End tags are left out where HTML lets one.
+-- The rows of a report: what each tells, what stands in it before its cell of the chart, and that cell. A row is one line of HTML:
+-- the number of its item, the lines of the log, the time since the first frame of the two sides, and a cell, in which words stand at
+-- the sender's side and an arrow fills the rest. End tags are left out where HTML lets one.
 use Rattle.std.specs.Prelude.{ℕ, Bool, List, [], ◌++◌, codes, Option, Some, None}
 use Rattle.std.specs.Fmt.{decimal}
 use Rattle.direction.specs.declared.Dir.{Dir}
