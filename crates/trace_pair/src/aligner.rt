@@ -61,7 +61,10 @@ pub fn align_two<A: Source, B: Source>(
 }
 
 /// What is answered of two logs that were kept, set side by side.
-fn set_beside(alloc: Global, kept: Result<KeptSessions, CompareFault>) -> Result<Aligned, CompareFault>
+fn set_beside(
+    alloc: Global,
+    kept: Result<KeptSessions, CompareFault>,
+) -> Result<Aligned, CompareFault>
     ensures { IsSetBeside kept result }
 {
     match kept {

@@ -55,7 +55,12 @@ pub fn pair_page(
 }
 
 /// What two logs say, as [`keep_two`](trace_report::keep_two) answers it.
-fn keep_both(alloc: Global, config: &Config, left: &[u8], right: &[u8]) -> Result<KeptSessions, CompareFault>
+fn keep_both(
+    alloc: Global,
+    config: &Config,
+    left: &[u8],
+    right: &[u8],
+) -> Result<KeptSessions, CompareFault>
     ensures { KeepsInMemory MESSAGE_LIMIT config.now left.now right.now result }
 {
     keep_two(alloc, config, &mut Bytes::new(left), &mut Bytes::new(right))

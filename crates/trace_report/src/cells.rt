@@ -19,7 +19,8 @@ pub(crate) struct RowFront<C, I, L, T> {
 impl<C: Part, I: Part, L: Part, T: Part> Part for RowFront<C, I, L, T> {
     ghost use Rattle.trace_report.specs.Rows.{row_front};
 
-    ghost text = { λ front. row_front (record { class = C.text front.class; target = front.target; item = I.text front.item; lines = L.text front.lines; time = T.text front.time }) };
+    ghost text = { λ front. row_front (record { class = C.text front.class; target = front.target; item = I.text front.item;
+        lines = L.text front.lines; time = T.text front.time }) };
 
     #[inline(always)]
     fn say<S: TextSink>(self, out: &mut S) {

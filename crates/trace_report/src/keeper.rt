@@ -74,7 +74,11 @@ pub fn keep_two<A: Source, B: Source>(
 }
 
 /// Reads a log, and answers what it says.
-fn keep_session<R: Source>(alloc: Global, config: &Config, reader: &mut R) -> Result<KeptSession, Fault>
+fn keep_session<R: Source>(
+    alloc: Global,
+    config: &Config,
+    reader: &mut R,
+) -> Result<KeptSession, Fault>
     requires reader { HasLowCounts R.Source reader.old }
     ensures answer { (log : List ℕ) → AgreesWith R.Source reader.old reader.new log → KeepsOne MESSAGE_LIMIT config.now log result }
     ensures near { (log : List ℕ) → AgreesWith R.Source reader.old reader.new log
