@@ -1,7 +1,7 @@
 -- Lists of which none is equal to one behind it, and what is among a list.
 use Prim.Native.Nat.{suc}
 use Rattle.std.proofs.Common.{◌≡◌, ℕ, List, [], ◌∷◌, ◌++◌, Option, Some, None, refl, ap, sym, subst, ◌∙◌, map}
-use Rattle.std.specs.Prelude.{◌≢◌, slice_get, take, drop}
+use Rattle.std.specs.Prelude.{◌≢◌, take, drop}
 use Rattle.std.specs.List.{AllByRecursion, cons_option, filter_map}
 use Rattle.std.proofs.lemmas.List.{take-append-drop}
 use Rattle.can_log.proofs.Promises.{AllByRecursion-append, AllByRecursion-front, AllByRecursion-weaker}
