@@ -4,7 +4,7 @@ ghost use Rattle.shown_rows.specs.Rows.{changes_within, count_of, differs, is_ch
 
 use uds_difference::Row;
 
-/// How many rows that are the same are shown in front of a change, and behind one, as `diff -U3` has it.
+/// How many rows that are the same are shown in front of a change, and behind one, as `diff -u` has it.
 pub const CONTEXT: usize = 3;
 
 /// Whether what stands in a row is not the same in both sessions.
