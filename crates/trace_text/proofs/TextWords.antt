@@ -12,7 +12,8 @@ use Rattle.trace_text.specs.Words.{bytes_text, service_text, code_text}
 
 -- ---- words
 
--- no byte of a word is below the digit 0, nor a backslash: so no quote is in it, and nothing that a string of JSON escapes
+-- no byte of a word is below the digit 0, nor a backslash: so no quote is in it, and nothing that a string of JSON
+-- escapes
 abbrev pub is_in_word : ℕ → Bool
 is_in_word b = nat_le 48 b && not (b == 92)
 

@@ -112,16 +112,16 @@ impl<'a> Part for RequestOutcome<'a> {
         match self.answer {
             None if is_suppressing(self.request) => say(out, "silent"),
             None => say(out, "unanswered"),
-            Some(reply) => say(out, Answer(reply)),
+            Some(reply) => say(out, WordedAnswer(reply)),
         }
     }
 }
 
-/// The answer to a request.
+/// The answer to a request, in words.
 #[derive(Clone, Copy)]
-struct Answer<'a>(&'a [u8]);
+struct WordedAnswer<'a>(&'a [u8]);
 
-impl<'a> Part for Answer<'a> {
+impl<'a> Part for WordedAnswer<'a> {
     ghost use Rattle.trace_text.specs.ItemLines.{answer_text};
 
     ghost text = { λ answer. answer_text answer.0.now };
