@@ -177,10 +177,10 @@ messages_are_read_as_meant placed =
               tt,
               (
                 plain (codes "start") refl,
-                stamp_plain placed.first.micros,
+                stamp_plain placed.extent.first.micros,
                 (
                   plain (codes "end") refl,
-                  stamp_plain placed.last.micros,
+                  stamp_plain placed.extent.last.micros,
                   (
                     plain (codes "message") refl,
                     bytes_plain placed.sent.1,

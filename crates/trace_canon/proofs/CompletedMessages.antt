@@ -29,9 +29,9 @@ completes_message T e judged completes = (judged.bytes.now, completes.did)
 pub completes_such : (IsSuch : List Message → Message → Type 0) (T : List Entry) (e : Entry) (judged : Judged)
     → CompletesJudged T e judged → IsSuch (messages MESSAGE_LIMIT T) (sent judged)
     → CompletesSuch IsSuch MESSAGE_LIMIT T e
+unfolding completes_message
 completes_such IsSuch T e judged completes such = (
-  judged.bytes.now,
-  completes.did,
+  completes_message T e judged completes,
   subst (λ d. IsSuch (messages MESSAGE_LIMIT T) (d, judged.bytes.now)) (sym completes.dir) such,
 )
 

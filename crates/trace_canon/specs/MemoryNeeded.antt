@@ -1,9 +1,9 @@
 -- For which frames a command needs memory, and so for which logs.
-use Rattle.std.specs.Prelude.{◌≡◌, ℕ, ◌⊎◌, List, Option}
+use Rattle.std.specs.Prelude.{ℕ, ◌⊎◌, List, Option}
 use Rattle.can_log.specs.declared.frame.Stamped.{Stamped}
 use Rattle.direction.specs.Dir.{Message}
 use Rattle.isotp_receive.specs.Trace.{Entry}
-use Rattle.isotp_receive.specs.Verdict.{message, messages, verdict}
+use Rattle.isotp_receive.specs.Verdict.{messages}
 use Rattle.uds_exchange.specs.Decider.{IsKept}
 use Rattle.uds_exchange.specs.Orderer.{IsHeld}
 use Rattle.trace_log.specs.Settings.{Settings}
@@ -14,8 +14,7 @@ use Rattle.uds_find.specs.Credit.{HasCredit}
 
 -- The frame completes a message which is such behind the messages so far.
 abbrev pub CompletesSuch : (List Message → Message → Type 0) → ℕ → List Entry → Entry → Type 0
-CompletesSuch IsSuch limit T e =
-    (bytes : List ℕ) × ((verdict limit T e).verdict ≡ message bytes) × IsSuch (messages limit T) (e.dir, bytes)
+CompletesSuch IsSuch limit T e = (completes : CompletesMessage limit T e) × IsSuch (messages limit T) (e.dir, completes.0)
 
 -- The frame completes a message that is held: a stray behind a request that waits for its answer.
 abbrev pub CompletesHeld : ℕ → List Entry → Entry → Type 0

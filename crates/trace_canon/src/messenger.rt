@@ -82,7 +82,8 @@ impl Machine for Messenger {
         };
         let first = self.starts.take(here, seen.dir, seen.event);
         if let Some(message) = seen.message {
-            say_message(self.notation, &message, first, here, out);
+            let extent = FrameExtent { first, last: here };
+            say_message(self.notation, &message, extent, out);
         }
         Ok(())
     }
@@ -105,30 +106,24 @@ impl Machine for Messenger {
     ) {}
 }
 
-/// Says the line of a message that has its first frame and its last one in these places.
+/// Says the line of a message, from its first frame to its last one.
 fn say_message<S: TextSink>(
     notation: Notation,
     message: &Judged<'_>,
-    first: FramePlace,
-    last: FramePlace,
+    extent: FrameExtent,
     out: &mut S,
 )
-    ensures { S.says out.old (placed_text notation (judged_at message.now first last)) out.new }
+    ensures { S.says out.old (placed_text notation (judged_at message.now extent)) out.new }
 {
     match notation {
-        Notation::Text => say_message_line(message, first, last, out),
-        Notation::Json => say_message_object(message, first, last, out),
+        Notation::Text => say_message_line(message, extent, out),
+        Notation::Json => say_message_object(message, extent, out),
     }
 }
 
 /// Says the line of a message in words.
-fn say_message_line<S: TextSink>(
-    message: &Judged<'_>,
-    first: FramePlace,
-    last: FramePlace,
-    out: &mut S,
-)
-    ensures { S.says out.old (placed_line (judged_at message.now first last)) out.new }
+fn say_message_line<S: TextSink>(message: &Judged<'_>, extent: FrameExtent, out: &mut S)
+    ensures { S.says out.old (placed_line (judged_at message.now extent)) out.new }
 {
     say(
         out,
@@ -138,7 +133,7 @@ fn say_message_line<S: TextSink>(
             Role(message.step),
             " ",
             Sender(message.dir),
-            FrameExtent { first, last },
+            extent,
             " ",
             HexBytes(message.bytes),
             "\n",

@@ -1,0 +1,15 @@
+-- The end first, and then what became of the frame.
+use Rattle.std.proofs.Common.{ap, ◌∙◌}
+use Rattle.std.specs.Prelude.{unwrap_or}
+use Rattle.isotp_receive.specs.EventSeen.{seen_verdict}
+use Rattle.isotp_receive.specs.Trace.{same_direction}
+use Rattle.trace_canon.specs.proving.MovedStarts.{start_after_verdict}
+use Rattle.trace_canon.proofs.reception_starts.ReceptionStarts.advance.Goals as goal
+
+pub returns-clause-stands : goal.returns-clause-stands
+returns-clause-stands c = λ d.
+    c.move_by.ensures d
+    ∙ ap (start_after_verdict (same_direction d c.args.dir) (seen_verdict c.args.event.verdict) c.args.here) (c.end.ensures d)
+
+pub returns-clause-first : goal.returns-clause-first
+returns-clause-first c = c.unwrap_or.ensures ∙ ap (λ begun. unwrap_or begun c.args.here) (c.of-begun.ensures ∙ c.end.ensures c.args.dir)
