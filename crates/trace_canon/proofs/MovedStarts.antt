@@ -7,8 +7,7 @@ use Rattle.isotp_receive.specs.declared.TheConstants.{MESSAGE_LIMIT}
 use Rattle.isotp_receive.specs.declared.event.Reason.{Reason}
 use Rattle.isotp_receive.specs.Trace.{same_direction}
 use Rattle.isotp_receive.specs.Verdict.{message, began, stored, flowed, dropped}
-use Rattle.trace_canon.specs.ReceptionStarts.{AreStartsAfter, reception_start}
-use Rattle.trace_canon.specs.proving.MovedStarts.{start_after_verdict}
+use Rattle.trace_canon.specs.ReceptionStarts.{AreStartsAfter, reception_start, start_after_verdict}
 use Rattle.trace_canon.specs.declared.reception_starts.FramePlace.{FramePlace}
 use Rattle.trace_canon.specs.declared.reception_starts.ReceptionStarts.{ReceptionStarts}
 

@@ -23,8 +23,7 @@ use Rattle.isotp_receive.specs.Verdict.{message, on_layout, on_fit, verdict}
 use Rattle.isotp_receive.proofs.Promises.{one_more, same-self, other-apart, apart-flipped}
 use Rattle.trace_run.specs.Seen.{IsEventOf}
 use Rattle.trace_canon.specs.FirstFrames.{CompletesMessage, place_of, starts_message, last_start, first_frame}
-use Rattle.trace_canon.specs.ReceptionStarts.{AreStartsAfter, IsBegunAt, reception_start}
-use Rattle.trace_canon.specs.proving.MovedStarts.{start_after_event, message_start}
+use Rattle.trace_canon.specs.ReceptionStarts.{AreStartsAfter, IsBegunAt, reception_start, start_after_event, message_start}
 use Rattle.trace_canon.specs.declared.reception_starts.FramePlace.{FramePlace}
 use Rattle.trace_canon.specs.declared.reception_starts.ReceptionStarts.{ReceptionStarts}
 

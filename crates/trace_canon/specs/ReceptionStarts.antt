@@ -1,9 +1,10 @@
 -- Where the receptions began that stand after the frames of a log.
-use Rattle.std.specs.Prelude.{◌≡◌, ℕ, List, Option, Some, None, option_map, if◌then◌else◌}
+use Rattle.std.specs.Prelude.{◌≡◌, ℕ, Bool, true, false, List, Option, Some, None, option_map, unwrap_or, if◌then◌else◌}
 use Rattle.direction.specs.declared.Dir.{Dir}
 use Rattle.direction.specs.declared.Dir.TheVariants.{Tester, Unit}
 use Rattle.isotp_receive.specs.StandingReception.{StandingReception, stands}
 use Rattle.isotp_receive.specs.Trace.{Entry, same_direction}
+use Rattle.isotp_receive.specs.Verdict.{VerdictValue, message, began, stored, flowed, dropped, EventValue}
 use Rattle.isotp_receive.specs.declared.event.Ended.{Ended}
 use Rattle.trace_canon.specs.FirstFrames.{last_start, place_of}
 use Rattle.trace_canon.specs.declared.reception_starts.FramePlace.{FramePlace}
@@ -25,7 +26,29 @@ IsBegunAt limit d T begun =
 abbrev pub AreStartsAfter : ℕ → List Entry → ReceptionStarts → Type 0
 AreStartsAfter limit T starts = (d : Dir) → IsBegunAt limit d T (reception_start starts d)
 
+-- How one frame moves a start, whatever it is of.
+
 -- where a reception of d began, if one stands, after an end
 abbrev pub still_begun : Dir → Option Ended → Option FramePlace → Option FramePlace
 still_begun d None begun = begun
 still_begun d (Some ended) begun = if same_direction d ended.dir then None else begun
+
+-- where a reception began, if one stands, after what became of a frame in this place, of the same direction or the
+-- other one
+abbrev pub start_after_verdict : Bool → VerdictValue → FramePlace → Option FramePlace → Option FramePlace
+start_after_verdict true (message bytes) here begun = None
+start_after_verdict true began here begun = Some here
+start_after_verdict true stored here begun = begun
+start_after_verdict true flowed here begun = begun
+start_after_verdict true (dropped reason) here begun = begun
+start_after_verdict false did here begun = begun
+
+-- where a reception of d began, if one stands, after all that a frame of this sender did in this place: the end first
+abbrev pub start_after_event : Dir → Dir → EventValue → FramePlace → Option FramePlace → Option FramePlace
+start_after_event d sender event here begun =
+    start_after_verdict (same_direction d sender) event.verdict here (still_begun d event.ended begun)
+
+-- where a message began that a frame completed: where its reception did, if one stood that the frame did not end, else
+-- here
+abbrev pub message_start : Dir → EventValue → FramePlace → Option FramePlace → FramePlace
+message_start sender event here begun = unwrap_or (still_begun sender event.ended begun) here

@@ -2,7 +2,6 @@
 pub mod Writing
 pub mod Saying
 pub mod CanonicalScript
-pub mod MovedStarts
 pub mod MessageSaying
 pub mod Watching
 pub mod Measuring

@@ -1,14 +1,13 @@
 //! Where the receptions that stand began, frame by frame. The page of `trace_report` stands on it, too.
-ghost use Rattle.std.specs.Prelude.{◌≡◌, List, [], ◌∷◌, ◌++◌, if◌then◌else◌};
+ghost use Rattle.std.specs.Prelude.{◌≡◌, List, [], ◌∷◌, ◌++◌, None, if◌then◌else◌};
 ghost use Rattle.direction.specs.declared.Dir.{Dir as DirValue};
 ghost use Rattle.isotp_receive.specs.declared.TheConstants.{MESSAGE_LIMIT};
 ghost use Rattle.isotp_receive.specs.EventSeen.{seen_event, seen_verdict};
 ghost use Rattle.isotp_receive.specs.Trace.{Entry, same_direction};
 ghost use Rattle.trace_run.specs.Seen.{IsEventOf};
 ghost use Rattle.trace_canon.specs.FirstFrames.{CompletesMessage, first_frame, place_of};
-ghost use Rattle.trace_canon.specs.ReceptionStarts.{AreStartsAfter, reception_start};
+ghost use Rattle.trace_canon.specs.ReceptionStarts.{AreStartsAfter, message_start, reception_start, start_after_event, start_after_verdict};
 ghost use Rattle.trace_canon.specs.ReceptionStarts as Spec;
-ghost use Rattle.trace_canon.specs.proving.MovedStarts.{message_start, start_after_event, start_after_verdict};
 
 use direction::Dir;
 use isotp_receive::{Ended, Event, Verdict};
@@ -30,6 +29,7 @@ pub struct ReceptionStarts {
 impl ReceptionStarts {
     /// Before the first frame.
     pub fn start() -> ReceptionStarts
+        ensures none { (d : DirValue) → reception_start result d ≡ None }
         ensures begun { AreStartsAfter MESSAGE_LIMIT [] result }
     {
         ReceptionStarts {
@@ -57,13 +57,6 @@ impl ReceptionStarts {
         ensures place { (T : List Entry) (e : Entry) → IsEventOf T e here.line here.micros dir event.entry
             → AreStartsAfter MESSAGE_LIMIT T self.old → CompletesMessage MESSAGE_LIMIT T e
             → result ≡ place_of (first_frame T e) }
-    {
-        self.advance(here, dir, event)
-    }
-
-    /// Takes what a frame did, by that and the starts alone: `take` promises the same by the frames.
-    #[inline(always)]
-    fn advance(&mut self, here: FramePlace, dir: Dir, event: Event<'_>) -> FramePlace
         ensures stands { (d : DirValue)
             → reception_start self.new d ≡ start_after_event d dir (seen_event event.entry) here (reception_start self.old d) }
         ensures first { result ≡ message_start dir (seen_event event.entry) here (reception_start self.old dir) }

@@ -3,8 +3,7 @@ use Rattle.std.proofs.Common.{ap, sym, ◌∙◌, inl, inr}
 use Rattle.isotp_receive.specs.EventSeen.{seen_verdict}
 use Rattle.isotp_receive.specs.Trace.{same_direction}
 use Rattle.isotp_receive.specs.declared.event.Verdict.{Verdict}
-use Rattle.trace_canon.specs.ReceptionStarts.{reception_start}
-use Rattle.trace_canon.specs.proving.MovedStarts.{start_after_verdict}
+use Rattle.trace_canon.specs.ReceptionStarts.{reception_start, start_after_verdict}
 use Rattle.trace_canon.proofs.MovedStarts.{over, anew, on_stored, on_flow, on_drop}
 use Rattle.trace_canon.proofs.reception_starts.ReceptionStarts.move_by.Goals as goal
 
