@@ -19,6 +19,7 @@ MAN := $(PREFIX)/share/man/man1/udsnorm.1
 BASH := $(PREFIX)/share/bash-completion/completions/udsnorm
 ZSH := $(PREFIX)/share/zsh/site-functions/_udsnorm
 FISH := $(PREFIX)/share/fish/vendor_completions.d/udsnorm.fish
+PAGES := $(PREFIX)/share/doc/udsnorm
 
 EVIDENCE ?= out/udsnorm-$(VERSION)-evidence.md
 
@@ -81,7 +82,7 @@ gate:
 evidence:
 	@scripts/evidence '$(EVIDENCE)' $(if $(GATE),'$(GATE)')
 
-# Installs the program with manual page and completions, and the library. They go below PREFIX; DESTDIR is put
+# Installs the program with manual page, completions, pages and sample logs, and the library. They go below PREFIX; DESTDIR is put
 # in front of each path.
 install: build lib
 	@$(MAKE) --no-print-directory install-built install-built-lib
@@ -98,6 +99,7 @@ install-built:
 	install -D -m 644 share/completions/udsnorm.bash $(DESTDIR)$(BASH)
 	install -D -m 644 share/completions/_udsnorm $(DESTDIR)$(ZSH)
 	install -D -m 644 share/completions/udsnorm.fish $(DESTDIR)$(FISH)
+	packaging/pages $(DESTDIR)$(PAGES)
 
 # Installs the library as it was built before, with its header and what pkg-config reads.
 install-built-lib:
@@ -113,6 +115,7 @@ uninstall:
 	rm -f $(DESTDIR)$(PREFIX)/bin/udsnorm $(DESTDIR)$(MAN) $(DESTDIR)$(BASH) $(DESTDIR)$(ZSH) $(DESTDIR)$(FISH)
 	rm -f $(DESTDIR)$(HEADER) $(DESTDIR)$(PKG_CONFIG) $(DESTDIR)$(LIBDIR)/libudsnorm.a
 	rm -f $(DESTDIR)$(LIBDIR)/libudsnorm.so $(DESTDIR)$(LIBDIR)/$(SONAME) $(DESTDIR)$(LIBDIR)/libudsnorm.so.$(VERSION)
+	rm -rf $(DESTDIR)$(PAGES)
 
 # Makes a release for other machines as a tarball, and prints its path.
 dist: build lib
