@@ -622,7 +622,8 @@ class Shipped(unittest.TestCase):
         names = re.findall(r"^(docs/\w+\.md) ", described, re.M)
         self.assertIn("docs/python.md", names)
         samples = ["python/examples/sessions.py", *(f"examples/{path.name}" for path in (TOP / "examples").iterdir())]
-        self.assertEqual(sorted(names + samples), sorted(re.findall(r"^  \S*share/doc/udsnorm/(\S+)$", files, re.M)))
+        lying = [name for name in re.findall(r"^  \S*share/doc/udsnorm/(\S+)$", files, re.M) if "__pycache__" not in name]
+        self.assertEqual(sorted(names + samples), sorted(lying))
         for name in names:
             shown = re.search(rf"^  (\S*/{name})$", files, re.M)[1]
             page = (location / shown).resolve()
