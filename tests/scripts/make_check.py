@@ -76,7 +76,7 @@ OF_LIBRARIES = {
     "trace_pair: proofs": ["shown_rows: proofs", "trace_report: proofs"],
 }
 QUICK_TESTS = [*(f"program/{name}" for name in ["command_line", "program", "sessions"]), *(f"documents/{name}" for name in ["shipped", "recipes", "release"])]
-OTHER_TESTS = ["documents/documents", "scripts/make_check", "scripts/make_test"]
+OTHER_TESTS = ["documents/documents", *(f"scripts/{name}" for name in ["make_check", "make_test", "make_evidence", "make_help"])]
 OF_PROGRAM = {"udsnorm: make build": ["trace_pair: proofs", "trace_difference: proofs"], **{f"tests/{test}.py": [] for test in OTHER_TESTS}}
 OF_PROGRAM |= {f"tests/{test}.py": ["udsnorm: make build"] for test in QUICK_TESTS}
 
