@@ -34,7 +34,7 @@ abbrev pub parted_service : ℕ → List ℕ
 parted_service service = unwrap_or (option_map parted_name (option_map (λ row. row.name) (service_row service))) (service_text service)
 
 -- a response code of which `list` has no name: by the name that a page alone has for it, which may be parted
-pub further_code : ℕ → List ℕ
+unfoldable pub further_code : ℕ → List ℕ
 further_code why = code_by (option_map parted_name (response_code_name why)) why
 
 -- the name of a response code, which may be parted, or what a page tells where `list` has none
