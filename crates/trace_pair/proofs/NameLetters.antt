@@ -37,5 +37,5 @@ parted-code why found is = ap (λ (name : Option (List ℕ)). unwrap_or (option_
 -- a response code by what the table of the further ones has of it
 pub further-code : (why : ℕ) (found : Option (List ℕ)) → found ≡ response_code_name why
     → code_by (option_map parted_name found) why ≡ further_code why
-  unfolding further_code
+unfolding further_code
 further-code why found is = ap (λ (name : Option (List ℕ)). code_by (option_map parted_name name) why) is
