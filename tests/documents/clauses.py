@@ -105,7 +105,7 @@ def read_functions(source):
 
 
 # The files with the records of runs.
-RUNS = ["trace_run/specs/Ran.antt", *(f"trace_canon/specs/{name}.antt" for name in ("WrittenAtEnd", "ItemText", "Finding", "ReadOnly", "Sessions"))]
+RUNS = ["trace_run/specs/Ran.antt", *(f"trace_canon/specs/{name}.antt" for name in ("WaysOfReading", "WrittenAtEnd", "ItemText", "Finding", "ReadOnly", "Sessions"))]
 OF_RUNS = ("trace_run", "trace_canon")
 RUN = "ran"
 
@@ -116,7 +116,7 @@ def run_of(folder, name):
     is_short_for = re.search(rf"^{name} .*=\s+(\w+)", text, re.M)
     record = re.search(rf"^pub record {name} (.*?)(?:\n\n|\Z)", text, re.M | re.S)
     names, fields = [name], re.findall(r"^  pub (\w+) : (\w*)", record[1], re.M) if record else []
-    for below in [is_short_for[1]] if is_short_for else [head for _, head in fields if head.startswith("Ran")]:
+    for below in [is_short_for[1]] if is_short_for else [head for _, head in fields if head.startswith(("Ran", "ReadInThisWay"))]:
         more, of_more = run_of(folder, below)
         names, fields = names + more, [field for field in fields if field[1] != below] + of_more
     return names, fields

@@ -353,7 +353,7 @@ TAKEN_AWAY = [
     ("clause again is deleted", "trace_canon/src/normaliser.rt", r"    ensures again \{.*\n.*\n", ""),
     ("clause again has another name", "trace_canon/src/normaliser.rt", "ensures again", "ensures once_more"),
     ("clause again says less", "trace_canon/src/normaliser.rt", "IsCanonicalFor MESSAGE_LIMIT config.now log text", "HaveSameMeaning MESSAGE_LIMIT config.now log text"),
-    ("normalise requires more", "trace_canon/src/normaliser.rt", "requires writer {", "requires small { config.now.max_bytes ≡ 1 }\n    requires writer {"),
+    ("normalise requires more", "trace_canon/src/normaliser.rt", "requires target {", "requires small { config.now.max_bytes ≡ 1 }\n    requires target {"),
     ("a law is deleted", "trace_log/src/laws.rt", r"pub fn same_meaning_same_text\(\)\n.*\n\{\}", ""),
     ("a law has another name", "trace_log/src/laws.rt", "fn outcome_is_one", "fn outcome_is_single"),
     ("a law is private", "trace_log/src/laws.rt", "pub fn outcome_is_there", "fn outcome_is_there"),

@@ -12,8 +12,8 @@ from difference_oracle import ADDED, CHANGED, REMOVED, SAME
 
 # How the program ends over two logs and what it tells then; the items of both, where both can be read, and else the letter of the one that
 # can't; and of both whether it is clean, and whether its sides look exchanged; the charts of both, where they differ; what is found of each
-# recording; and what is missing of each log, by items.
-Came = namedtuple("Came", "status fault items refused clean exchanged charts recordings losses", defaults=(None, None))
+# recording; what is missing of each log, by items; and whether something is in front of its first item.
+Came = namedtuple("Came", "status fault items refused clean exchanged charts recordings losses fronts", defaults=(None, None, None))
 
 # A recording: its state up to the counts, how many items it has, when its first frame was, and how long it is.
 Recording = namedtuple("Recording", "state items first length")
@@ -24,8 +24,8 @@ Row = namedtuple("Row", "kind left right")
 # A change: what kind its rows are of, the first of them, and how many they are.
 Change = namedtuple("Change", "kind first count")
 
-# A chart: what each of its rows is told as, how many rows it leaves out, and whether it says that the log ends.
-Chart = namedtuple("Chart", "rows more is_end")
+# A chart: what each of its rows is told as, how many rows it leaves out, how many items of the difference, and whether it says that the log ends.
+Chart = namedtuple("Chart", "rows more items is_end")
 
 # A row of a chart: how it looks, its item, its lines, its time, whether the item that it is of is not the same in both logs, and the lines
 # of its bytes, where some of them have marks, with how many are told of each fold.
@@ -63,8 +63,8 @@ def came_of(left, right, limit=oracle.GIBIBYTE, sides=oracle.SIDES, is_strict=Fa
     exchanged = [oracle.look_exchanged(session) for session in sessions]
     charts = None if items[0] == items[1] else charts_of(frames, items)
     recordings = [recording_of(*log) for log in zip(frames, items, unclean, exchanged)]
-    losses = [losses_of(trace) for trace in frames]
-    return Came(status, "\n".join(told) or None, items, None, [not fault for fault in unclean], exchanged, charts, recordings, losses)
+    losses, fronts = [losses_of(trace) for trace in frames], [begins_with_loss(trace) for trace in frames]
+    return Came(status, "\n".join(told) or None, items, None, [not fault for fault in unclean], exchanged, charts, recordings, losses, fronts)
 
 
 def recording_of(frames, items, unclean, exchanged):
@@ -111,8 +111,10 @@ def changes_of(rows):
 def charts_of(frames, items):
     """The charts of two logs around their first difference."""
     rows = rows_of(*items)
-    same = rows[: changes_of(rows)[0].first]
-    return [chart_of(trace, len(same), beside(rows, items, side)) for side, trace in enumerate(frames)]
+    first = changes_of(rows)[0]
+    lacking = {ADDED: 0, REMOVED: 1}.get(first.kind)
+    counts = [0 if side == lacking else first.count for side in (0, 1)]
+    return [chart_of(trace, first.first, counts[side], beside(rows, items, side)) for side, trace in enumerate(frames)]
 
 
 def beside(rows, items, side):
@@ -123,20 +125,27 @@ def beside(rows, items, side):
     return pairs, side
 
 
-def chart_of(frames, item, others):
-    """The chart of a log around the item of this place, counted from 0. It goes from the row with which the item before begins, or from the
-    request in whose exchange that row stands, to before the first request at or behind the row with which the second item behind begins."""
-    rows = [*report_facts.rows_of(frames), *report_facts.end_rows(frames)]
+def chart_of(frames, item, count, others):
+    """The chart of a log around the item of this place, counted from 0, of so many that the difference has from that on. It goes from the row
+    with which the item before begins, or from the request in whose exchange that row stands, to before the first request at or behind the
+    row with which the second item behind begins. With the first item it has what is lost in front of it."""
+    rows = all_rows(frames)
     begun = [place for place, row in enumerate(rows) if isinstance(row, report_facts.Message) and row.asked is None]
     begun += 3 * [len(rows)]
     requests = [place for place in begun[:-3] if rows[place].kind == report_facts.REQUEST]
-    begin = max((place for place in requests if place <= begun[max(item - 1, 0)]), default=0)
+    begin = max((place for place in requests if item > 1 and place <= begun[item - 1]), default=0)
     begin = max(begin, begun[item] - MOST_BEFORE)
     end = min((place for place in requests if place >= begun[item + 2]), default=len(rows))
     last = min(end, begin + MOST_ROWS)
     numbers = numbers_of(rows)
     told = [chart_row(frames[0].micros, rows[place], numbers[place], others) for place in range(begin, last)]
-    return Chart(told, end - last, last == len(rows))
+    left = sum(place >= end for place in begun[item : item + count])
+    return Chart(told, end - last, left, last == len(rows))
+
+
+def all_rows(frames):
+    """The rows of a log, with those at its end."""
+    return [*report_facts.rows_of(frames), *report_facts.end_rows(frames)] if frames else []
 
 
 def numbers_of(rows):
@@ -256,14 +265,17 @@ def cut(columns):
 
 def counts_of(one, other, only=None):
     """Of each longest run of lines that are folded, and of what stands behind all lines, how many bytes there are, and how many of them
-    differ: columns, where both messages are told, and else the bytes of one of them. Nothing is said of none behind all lines."""
+    differ: columns, where both messages are told, and else the bytes of one of them; then also how many the other one has alone, with its
+    letter, if there are some. Nothing is said of none behind all lines."""
     columns = columns_of(one, other)
     runs = [[]]
     for _, line, _, is_shown in cut(columns):
         runs = [*runs, []] if is_shown else [*runs[:-1], runs[-1] + line]
-    counted = [[pair for pair in run if only is None or pair[only] is not None] for run in [*filter(None, runs), columns[MOST_COLUMNS:]]]
-    counts = [(len(run), sum(left != right for left, right in run)) for run in counted]
-    return counts if counts[-1][0] else counts[:-1]
+    runs = [*filter(None, runs), columns[MOST_COLUMNS:]]
+    counted = [[pair for pair in run if only is None or pair[only] is not None] for run in runs]
+    alone = [(len(run) - len(own), "BA"[only]) if len(own) < len(run) else None for run, own in zip(runs, counted)]
+    counts = [(len(own), sum(left != right for left, right in own), others) for own, others in zip(counted, alone)]
+    return counts if runs[-1] else counts[:-1]
 
 
 # --- What is missing ----------------------------------------------------------------------------------------------------
@@ -271,13 +283,22 @@ def counts_of(one, other, only=None):
 
 def losses_of(frames):
     """What is missing of a log, by the places of its items: each loss belongs to the item that began last before it, or to the first."""
-    rows = [*report_facts.rows_of(frames), *report_facts.end_rows(frames)] if frames else []
+    rows = all_rows(frames)
     begun = [place for place, row in enumerate(rows) if isinstance(row, report_facts.Message) and row.asked is None]
     losses = {}
     for place, row in enumerate(rows):
-        if not isinstance(row, (report_facts.Message, report_facts.NoAnswer)):
+        if is_loss(row):
             losses.setdefault(max(sum(begin < place for begin in begun) - 1, 0), []).append(loss_words(row))
     return losses
+
+
+def is_loss(row):
+    return not isinstance(row, (report_facts.Message, report_facts.NoAnswer))
+
+
+def begins_with_loss(frames):
+    """Whether something is missing in front of the first item of a log: of the messages the first one always begins an item."""
+    return any(map(is_loss, all_rows(frames)[:1]))
 
 
 def loss_words(row):
@@ -300,19 +321,34 @@ def losses_told(log, losses):
     return [f"{log} {words}" for words in losses[:TOLD_LOSSES]] + ([f"and {more} more in {log}"] if more > 0 else [])
 
 
-def is_lossy(losses, has_item, before, count):
-    """Whether something is missing of the items that a log has in a change, or where it has none, of the last one before it."""
-    places = range(before, before + count) if has_item else [max(before - 1, 0)]
+def is_lossy(losses, begins_lossy, has_item, before, count):
+    """Whether something is missing of the items that a log has in a change, or where it has none, of the last one before it; in front of
+    the first one, before that."""
+    if not has_item and before == 0:
+        return begins_lossy
+    places = range(before, before + count) if has_item else [before - 1]
     return any(losses.get(place) for place in places)
 
 
-def lossy_note(came, rows, changes):
-    """What is said of the changes at which a log is not clean, if there are some."""
+def lossy_at(came, rows, changes):
+    """Of each log at which changes it is not clean."""
     at = [[], []]
     for change in changes:
         for side, kind in ((0, ADDED), (1, REMOVED)):
             before = sum(row[1 + side] is not None for row in rows[: change.first])
-            at[side].append(is_lossy(came.losses[side], change.kind != kind, before, change.count))
+            at[side].append(is_lossy(came.losses[side], came.fronts[side], change.kind != kind, before, change.count))
+    return at
+
+
+def unclean_notes(came, rows, changes):
+    """What is said behind each change of a log that is not clean there."""
+    words = {(True, True): "neither is clean here", (True, False): "A is not clean here", (False, True): "B is not clean here"}
+    return [words.get(both) for both in zip(*lossy_at(came, rows, changes))]
+
+
+def lossy_note(came, rows, changes):
+    """What is said of the changes at which a log is not clean, if there are some."""
+    at = lossy_at(came, rows, changes)
     lossy, everywhere = sum(map(any, zip(*at))), len(changes)
     if not lossy:
         return []

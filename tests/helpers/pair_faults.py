@@ -39,6 +39,7 @@ def told_otherwise(page, came):
         *recording_faults(read, came),
         *chart_faults(read, came),
         *loss_faults(read, came),
+        *unclean_faults(read, came, rows, changes),
     ]
 
 
@@ -58,8 +59,7 @@ def chart_faults(read, came):
     wrong = []
     for log, told, wanted in zip("AB", read.charts, came.charts):
         wrong += [] if [plain(row) for row in told.rows] == [plain(row) for row in wanted.rows] else [f"the chart of {log} has other rows"]
-        if (told.more, told.is_end) != (wanted.more, wanted.is_end):
-            wrong.append(f"the chart of {log} ends with {told.more} rows more, {told.is_end}, not {wanted.more}, {wanted.is_end}")
+        wrong += [] if told[1:] == wanted[1:] else [f"the chart of {log} ends with {told[1:]}, not {wanted[1:]}"]
     return wrong
 
 
@@ -159,6 +159,15 @@ def note_faults(read, came, rows, changes):
     return [] if read.notes == notes else [f"the notes are {read.notes}, not {notes}"]
 
 
+def unclean_faults(read, came, rows, changes):
+    """Whether list and first difference say of each change which log is not clean there."""
+    notes = pair_facts.unclean_notes(came, rows, changes)[:LISTED]
+    told = [line.note for line in read.listed]
+    wrong = [] if told == notes or not told else [f"of the differences it is said that {told}, not {notes}"]
+    first = [read.first.note] if read.first else []
+    return wrong + ([] if first == notes[:1] else [f"of the first difference it is said that {first}, not {notes[:1]}"])
+
+
 def loss_faults(read, came):
     """Whether each loss stands in the row of its item, and is counted where that is folded; and above the items of a log that has none."""
     wrong, alone = [], []
@@ -213,4 +222,6 @@ def text_faults(page):
     """What must not stand in any page: what is no ASCII, what is fetched, or an empty group of rows."""
     wrong = [] if page.isascii() else ["a byte that is no ASCII"]
     wrong += ["something is fetched"] if re.search(r'\b(?:src|href)="(?!#)', page) else []
+    wrong += [f"a long name is not parted: {name}" for name in re.findall(r"<(?:b|em|mark)>[^<]*[a-z][A-Z][^<]*", page)[:1]]
+    wrong += ["something else than a name is parted"] if re.search(r"(?<![a-z])<wbr>|<wbr>(?![A-Z])", page) else []
     return wrong + (["an empty group of rows"] if re.search(r"<tbody[^>]*>\n(?:<tbody|</table>)|</thead>\n</table>", page) else [])

@@ -25,13 +25,13 @@ Line = namedtuple("Line", "whose first cells letters is_folded")
 # A fold of equal items: how many, the first and last numbers of both logs, and how much is missing of each log.
 Fold = namedtuple("Fold", "count left right losses")
 
-# A line of the list: the number of the difference, where it stands, what kind it is of, and what it says.
-Listed = namedtuple("Listed", "number place tag words")
+# A line of the list: the number of the difference, where it stands, what kind it is of, what it says, and which log is not clean there.
+Listed = namedtuple("Listed", "number place tag words note")
 
-# A chart: its rows, how many more it says that there are, and whether it says that the log ends; and of a row how it looks, its item, its
-# lines, its time, whether its item is told as another one than in the other log, and the lines of bytes that stand in it with marks, with how
-# many of them are told of each fold.
-Chart = namedtuple("Chart", "rows more is_end")
+# A chart: its rows, how many more it says that there are, how many items more of the difference, and whether it says that the log ends; and of
+# a row how it looks, its item, its lines, its time, whether its item is told as another one than in the other log, and the lines of bytes that
+# stand in it with marks, with how many of them are told of each fold.
+Chart = namedtuple("Chart", "rows more items is_end")
 ChartRow = namedtuple("ChartRow", "look item lines time is_other bytes")
 
 KINDS = {"same": "same", "d ch": "changed", "d oa": "removed", "d ob": "added"}
@@ -51,10 +51,12 @@ CHARTS = re.compile(r'<section id="difference">\n.*?\n<div class="two">\n(.*?)</
 CHART = re.compile(r'<section>\n<h3>[^\n]*</h3>\n<table class="ch w[2-7] l[2-8] s[2-7]">\n<thead>[^\n]*</thead>\n((?:<[^\n]*\n)*?)</table>\n</section>\n')
 CHART_ROW = re.compile(
     r'<tr class="(\w+)">(?:<th scope="row">(\d+)|<td>(\d*))<td>(?:(\d+)(?:&#8211;(\d+))?)?<td>((?:-?\d+\.\d{6})?)<td><div class="[tu]"><div>(.*)'
-    r'</div><svg aria-hidden="true"(?: width="32" height="12")?><use href="#\w+"/></svg></div>'
+    r'</div><svg aria-hidden="true" width="32" height="12"><use href="#\w+"/></svg></div>'
 )
-WORDS_ROW = re.compile(
-    r'<tr class="p(?: end)?"><td><td><td><td><div class="t"><div>(?:<i>(\d+) rows? more, not shown here</i>|<b>end</b> <i>of the log</i>)</div></div>'
+WORDS_ROW = re.compile(r'<tr class="p(?: end)?"><td><td><td><td><div class="t"><div>(.*)</div></div>')
+CHART_END = re.compile(
+    r"(?:<i>(\d+) (?:(?<=>1 )row|(?<!>1 )rows) more, not shown here</i>)?"
+    r"(?:<i>(\d+) (?:(?<=>1 )item|(?<!>1 )items) more of this difference, not shown here</i>)?(<b>end</b> <i>of the log</i>)?"
 )
 # The groups of rows of a chart: of items that are the same in both logs, and of others.
 BODIES = {"<tbody>": False, '<tbody class="df">': True}
@@ -68,8 +70,9 @@ RECORDING = re.compile(r'<tr><th scope="row"><span class="who">[AB]</span> [^<\n
 ALONE = re.compile(r'<section id="items" class="[^"\n]*">\n<h2>Items</h2>\n(?:<p class="filter">[^\n]*\n)?((?:<p class="lost">.*?</p>)*)<')
 LINES = re.compile(r'<div class="hx">(.*?)</div>')
 LINE = re.compile(r'<p><i>(\d*)(?:, (\d+))?</i> (?:<span class="who(?: eq)?">([AB=])</span> )?<code>(.*?)</code>(?: <samp>([^<]*)</samp>)?</p>')
-MORE = re.compile(r"<details><summary>(?:no byte more|(\d+) bytes? more, (the same|(\d+) of them differs?))</summary>(.*?)</details>")
-HIDDEN = re.compile(r'<p class="rest"><i>(\d+) bytes? more, not shown; (the same|(\d+) of them differs?)</i></p>')
+ALONE_THERE = r"(?:; (?:(1) byte|(\d+) bytes) only in ([AB]))?"
+MORE = re.compile(rf"<details><summary>(?:no byte more|(\d+) bytes? more, (?:the same|(\d+) of them differs?)){ALONE_THERE}</summary>(.*?)</details>")
+HIDDEN = re.compile(rf'<p class="rest"><i>(?:no byte more|(\d+) bytes? more, not shown; (?:the same|(\d+) of them differs?)){ALONE_THERE}</i></p>')
 
 
 def cells_of(text):
@@ -90,22 +93,28 @@ def cells_of(text):
 
 
 def lines_of(text, is_folded=False):
-    """The lines of bytes of a text, which holds nothing else, and of each fold of them how many bytes it tells, and how many differ."""
+    """The lines of bytes of a text, which holds nothing else, and of each fold of them how many bytes it tells, how many differ, and how many
+    another log has alone, with its letter, if it tells some."""
     lines, told, rest = [], [], text
     while rest:
         more, line, hidden = MORE.match(rest), LINE.match(rest), HIDDEN.match(rest)
         if line:
             lines.append(Line(line[3], tuple(int(part) for part in line.group(1, 2) if part), cells_of(line[4]), line[5], is_folded))
         elif more:
-            inner, _ = lines_of(more[4], True)
+            inner, _ = lines_of(more[6], True)
             lines += inner
-            told.append((int(more[1] or 0), int(more[3] or 0)))
+            told.append(counts_in(more))
         elif hidden:
-            told.append((int(hidden[1]), int(hidden[3] or 0)))
+            told.append(counts_in(hidden))
         else:
             raise ValueError(f"no line of bytes: {rest[:80]!r}")
         rest = rest[(more or line or hidden).end() :]
     return lines, told
+
+
+def counts_in(match):
+    count, differing, one, several, log = match.groups()[:5]
+    return int(count or 0), int(differing or 0), (int(one or several), log) if log else None
 
 
 def number(text):
@@ -147,15 +156,16 @@ def fold_spans(page):
     return spans
 
 
-def words_of(text):
-    """The words of a text, without what is said of a loss behind them."""
-    return TAG.sub("", re.sub(r' <em class="loss">.*?</em>', "", text))
+def listed_of(number, place, tag, text):
+    """A line of the list, with what is said of a loss behind its words."""
+    words, note = re.fullmatch(r'(.*?)(?: <em class="loss">(.*)</em>)?', text).groups()
+    return Listed(number, place, tag, TAG.sub("", words), note)
 
 
 def first_of(page):
     """What the first difference is said to be, if there is one."""
     match = FIRST.search(page)
-    return Listed(1, match[2], match[3], words_of(match[4])) if match else None
+    return listed_of(1, match[2], match[3], match[4]) if match else None
 
 
 def charts_of(page):
@@ -170,12 +180,14 @@ def charts_of(page):
 
 
 def chart_of(text):
-    """A chart, by its lines: rows, and then perhaps one of words alone."""
-    lines, words, rows, is_other = text.splitlines(), None, [], None
-    if lines and (words := WORDS_ROW.fullmatch(lines[-1])):
+    """A chart, by its lines: rows, and then perhaps some of words alone."""
+    lines, words, rows, is_other = text.splitlines(), "", [], None
+    while lines and (told := WORDS_ROW.fullmatch(lines[-1])):
         if lines[-2:-1] != ["<tbody>"]:
             raise ValueError("the words at the end of a chart have no group of their own")
-        lines = lines[:-2]
+        lines, words = lines[:-2], told[1] + words
+    if not (end := CHART_END.fullmatch(words)):
+        raise ValueError(f"a chart ends in other words: {words!r}")
     for line in lines:
         if line in BODIES:
             is_other = BODIES[line]
@@ -185,7 +197,7 @@ def chart_of(text):
             bytes_told = [lines_of(block) for block in LINES.findall(match[7])]
             numbers = tuple(line for line in match.group(4, 5) if line)
             rows.append(ChartRow(match[1], match[2] or match[3], numbers, match[6], is_other, bytes_told))
-    return Chart(rows, int(words[1] or 0) if words else 0, bool(words and not words[1]))
+    return Chart(rows, int(end[1] or 0), int(end[2] or 0), bool(end[3]))
 
 
 def read(page):
@@ -207,7 +219,7 @@ def read(page):
         paragraphs[0] if paragraphs else None,
         paragraphs[1:],
         [Recording(plain(match[1]), int(match[2]), plain(match[3]), plain(match[4])) for match in RECORDING.finditer(page)],
-        [Listed(int(match[1]), match[2], match[3], words_of(match[4])) for match in LISTED.finditer(page)],
+        [listed_of(int(match[1]), match[2], match[3], match[4]) for match in LISTED.finditer(page)],
         first_of(page),
         charts_of(page),
         losses_in(alone[1]),

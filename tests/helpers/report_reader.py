@@ -41,7 +41,7 @@ ROW = re.compile(
     rf"""
     <tr\ class="(?P<look>\w+)" (?:\ id="(?P<id>\w+)")? >
     (?: <th\ scope="row">(?P<begun>\d+) | <td>(?P<item>\d*) ) <td>(?:(?P<first>\d+)(?:&\#8211;(?P<last>\d+))?)? <td>(?P<time>(?:{TIME})?)
-    (?: <td><div\ class="(?P<side>[tu])"><div>(?P<words>.*)</div><svg\ aria-hidden="true"><use\ href="\#(?P<arrow>\w+)"/></svg></div>
+    (?: <td><div\ class="(?P<side>[tu])"><div>(?P<words>.*)</div><svg\ aria-hidden="true"\ width="32"\ height="12"><use\ href="\#(?P<arrow>\w+)"/></svg></div>
       | <td\ class="(?P<side_>[tu])">(?P<brief>.*) )
     \n""",
     re.VERBOSE,

@@ -58,11 +58,12 @@ LONGEST_PLACE_OBJECT = (
 )
 
 # What a page of two logs has at most for each byte of both, where numbers have four digits: the row of an item that one log has alone, with
-# which a difference begins. It is a request of one byte for the service with the longest name.
-ROW_OF_ONE = Fraction(400 + 6 * 4, 22)
+# which a difference begins. It is a request of one byte for the service with the longest name, counted with the places where that may be
+# parted.
+ROW_OF_ONE = Fraction(419 + 6 * 4, 22)
 
-# What it has for two such requests of which one asks for no answer, and for one behind them that one log has alone, of a service whose name
-# has a letter less. The numbers of these differences, of which each row has four, have three digits. After 200 rows a table ends, and another
+# What it has for two requests of which one asks for no answer, of the service with the most letters, and for such a request behind them that
+# one log has alone. The numbers of these differences, of which each row has four, have three digits. After 200 rows a table ends, and another
 # one begins.
 SILENT_REQUEST, ALONE = b"(0.000000) a 7E0#022C80\n", b"(0.000000) a 7E0#012F\n"
 BLOCK = len("""</table>
@@ -73,7 +74,7 @@ BLOCK = len("""</table>
 <thead><tr><th scope="col">A<th scope="col">B<th scope="col">Item</thead>
 <tbody>
 """)
-CHANGED_AND_ALONE = Fraction(100 * ((814 + 8 * 4 - 4) + (399 + 6 * 4 - 4)) + BLOCK, 100 * (24 + 22 + 22))
+CHANGED_AND_ALONE = Fraction(100 * ((829 + 8 * 4 - 4) + (419 + 6 * 4 - 4)) + BLOCK, 100 * (24 + 22 + 22))
 
 # Who sends a message of each role.
 ROLES = {"request tester", "stray tester", "answer unit", "pending unit", "stray unit"}
@@ -229,7 +230,7 @@ def pair_page_growth(cases):
     on with nothing, or with other lines. Requests that changed, with one behind each that one log has alone, come close to that."""
     grown = pair_page_grown(cases, SILENT_REQUEST + ALONE, REQUEST)
     wrong = [] if grown == CHANGED_AND_ALONE else [f"{SILENT_REQUEST + ALONE!r} beside {REQUEST!r}: {grown}, not {CHANGED_AND_ALONE}"]
-    single = [b"", b"00", b"10", b"21", b"30", b"40", b"012C", b"016C", b"026C26", b"022C80", b"023E80", b"037F3178", b"300000"]
+    single = [b"", b"00", b"10", b"21", b"30", b"40", b"012C", b"012F", b"016C", b"026C26", b"022C80", b"023E80", b"037F3178", b"300000"]
     frames = [b"(0.000000) a %s#%s\n" % frame for frame in itertools.product((b"7E0", b"7E8"), single)]
     more = [REQUEST + ANSWER, FIRST + REQUEST, FOURTEEN_BYTES, FIRST, FOREIGN, LONGEST]
     for lines, other in itertools.product((*frames, *more), (b"", ONE_BYTE, SHORT_FIRST, REQUEST)):

@@ -6,13 +6,14 @@
 The built program, by each of its jobs over each log of examples/, two small sessions and a long log, and with words that
 it only answers: whichever growth is refused, it ends with status 5 and has written a front of what it writes otherwise. Of
 two logs it says which one it was reading.
-Each call of the libraries that takes memory, over three sessions, by the tests of the crate `refused_memory`: a call that
-is refused memory says so and has written a front of its text, and the same call made again gives what it gives otherwise.
+Each call of the libraries that takes memory, over three sessions, by the tests of the crates `refused_memory` and
+`refused_pages`: a call that is refused memory says so and has written a front of its text, and the same call made again gives
+what it gives otherwise.
 The calls that keep messages have one session more, of large messages.
 
 Two tables have the number of growths of jobs and calls, so that one that slips in is seen: a count that is not the table's
 fails. How many words have is up to the parser, and is counted where a file is missing, which is told before a job begins.
-The crate's tests are proved before they run, which takes a minute or two where they were not proved before.
+The tests of the crates are proved before they run, which takes a minute or two where they were not proved before.
 
 Prints a line for each case and ends with `N passed, M failed`; its status is 1 where a case failed.
 """
@@ -36,11 +37,12 @@ from runs import run
 from tables import EXAMPLES
 from told import OUT_OF_MEMORY
 
-CALLS = EXAMPLES.parent / "crates" / "refused_memory"
+# The crates of the calls: those that make pages stand on more, and are proved later.
+CALLS = [EXAMPLES.parent / "crates" / name for name in ["refused_memory", "refused_pages"]]
 
 MOST_GROWTHS = 1000
 
-# How many growths each call of the libraries has over each session of the crate.
+# How many growths each call of the libraries has over each session of `tried_sessions`.
 CALL_GROWTHS = """
                vin  stray  both  large
 pair_accept      2      0     2      -
@@ -209,13 +211,13 @@ def differences_refused(cases, refuser):
         cases.report(f"diff {words} of {name}, each of {len(told)} growths refused", [] if kinds == [left, right] else in_short(told))
 
 
-def build_calls(cases):
-    """The tests of the calls of the libraries, proved and built."""
+def build_calls(cases, crate):
+    """The tests of the calls of a crate, proved and built."""
     words = ["rt", "test"]
-    done = subprocess.run(words, cwd=CALLS, stdin=subprocess.DEVNULL, capture_output=True, text=True, timeout=3600)
+    done = subprocess.run(words, cwd=crate, stdin=subprocess.DEVNULL, capture_output=True, text=True, timeout=3600)
     wrong = [] if done.returncode == 0 else [done.stdout[-1000:]]
-    cases.report("the tests of the libraries are proved, and pass with ample memory", wrong)
-    return CALLS / "out" / f"{CALLS.name}_tests"
+    cases.report(f"the tests of {crate.name} are proved, and pass with ample memory", wrong)
+    return crate / "out" / f"{crate.name}_tests"
 
 
 def call_growths(tests, refuser, test):
@@ -234,12 +236,14 @@ def call_growths(tests, refuser, test):
 
 
 def the_libraries(cases, refuser):
-    tests = build_calls(cases)
-    found = run(tests, ["--list"]).output.decode()
-    rows, names = table(CALL_GROWTHS), re.findall(r"^calls::(\w+): test$", found, re.M)
-    cases.report("the table has each call", sorted(set(rows) ^ set(names)))
+    rows, tests = table(CALL_GROWTHS), {}
+    for crate in CALLS:
+        built = build_calls(cases, crate)
+        found = run(built, ["--list"]).output.decode()
+        tests |= {name: built for name in re.findall(r"^calls::(\w+): test$", found, re.M)}
+    cases.report("the table has each call", sorted(set(rows) ^ set(tests)))
     for call, expected in rows.items():
-        found = call_growths(tests, refuser, f"calls::{call}")
+        found = call_growths(tests[call], refuser, f"calls::{call}") if call in tests else None
         wanted = Counter({session: sum(numbers) for session, numbers in expected.items()})
         numbers = ", ".join(f"{number} over {session}" for session, number in wanted.items())
         cases.report(f"{call}, each growth refused: {numbers}", [] if found == wanted else [f"{found}"])

@@ -87,6 +87,13 @@ DIFFERENCES = [
     ("more than that", [REQUEST], [REQUEST, *21 * [UNKNOWN], FIRST], None),
     ("more than that before any item", [*22 * [UNKNOWN], REQUEST], [REQUEST], None),
     ("more than that, and no item", [*22 * [UNKNOWN]], [STRAY], (1, "only in B", "stray from the unit 41")),
+    ("an item before the first one of A, behind which a frame is dropped", [REQUEST, ANSWER, UNKNOWN], [STRAY, REQUEST, ANSWER], (1, "only in B", "stray from the unit 41")),
+    ("an item before the first one of A, before which a frame is dropped", [UNKNOWN, REQUEST, ANSWER], [STRAY, REQUEST, ANSWER], (1, "only in B", "stray from the unit 41")),
+    ("an item behind the first one of A, before which a frame is dropped", [UNKNOWN, REQUEST, ANSWER], [REQUEST, ANSWER, STRAY], (1, "only in B", "stray from the unit 41")),
+    ("other answers in the first item, before which frames are dropped", [*3 * [UNKNOWN], REQUEST, ANSWER], [REQUEST, OTHER_ANSWER], (1, "changed", "ReadDataByIdentifier 22 F1 90: answer byte 4: 41 in A, 42 in B")),
+    ("other answers in the second item, before both of which a frame is dropped", [UNKNOWN, STRAY, UNKNOWN, REQUEST, ANSWER], [STRAY, REQUEST, OTHER_ANSWER], (1, "changed", "ReadDataByIdentifier 22 F1 90: answer byte 4: 41 in A, 42 in B")),
+    ("other answers in the third item, before the first of which a frame is dropped", [UNKNOWN, *2 * [REQUEST, ANSWER], SILENT], [*2 * [REQUEST, ANSWER], SILENT, SILENT_ANSWER], (1, "changed", "DiagnosticSessionControl 10 83: silent in A, as the request asks; positive in B")),
+    ("other answers behind more dropped frames than a chart goes back", [*9 * [UNKNOWN], REQUEST, ANSWER], [REQUEST, OTHER_ANSWER], (1, "changed", "ReadDataByIdentifier 22 F1 90: answer byte 4: 41 in A, 42 in B")),
     ("more than that, and no item in both", [FIRST, *23 * [UNKNOWN]], [*20 * [UNKNOWN]], None),
 ]
 
@@ -99,8 +106,11 @@ PLANTED = [
     ("a bound that was not passed", "request_changed", r'<table class="recs">', '<p>Perhaps not the shortest: more than 2000 items would be removed or added.</p>\n\\g<0>'),
     ("a loss of an item", "request_changed", r'(?<=<tr class="d ch)(.*)\n', '\\1<p class="lost"><span class="who">A</span> line 1: <b>dropped</b></p>\n'),
     ("a loss above the items", "none_in_a", r"<h2>Items</h2>\n", '\\g<0><p class="lost"><span class="who">A</span> line 1: <b>dropped</b></p>'),
+    ("an item of a run that is not counted", "none_in_a", "28 items more of", "27 items more of"),
+    ("a loss at a difference", "request_changed", r'(<p><span class="where">.*)(</span></p>\n<div class="two">)', '\\1 <em class="loss">A is not clean here</em>\\2'),
     ("a loss of a fold", "request_changed", r"</i></summary>", '</i> <em class="loss">1 dropped, ended or unfinished in B</em></summary>'),
     ("a mark of a byte that is the same", "request_changed", r'(?s)(<section id="items".*?<div class="hx">.*?<code>)22', "\\1<mark>22</mark>"),
+    ("folded bytes that one log lacks", "bytes_put_in", r'(?s)(<section id="difference".*?bytes more, the same)', "\\1; 3 bytes only in B"),
     ("a folded byte that differs", "bytes_put_in", r'(?s)(<section id="items".*?bytes more, )the same', "\\g<1>1 of them differs"),
 ]
 
@@ -164,7 +174,7 @@ BYTES_BESIDE = 42
 MEASURED_ITEMS = 100_000
 
 # Elements whose end tags HTML lets out, and those that have none.
-OPEN_ENDED = {"tr", "td", "th", "tbody", "p", "li", "meta", "input", "br"}
+OPEN_ENDED = {"tr", "td", "th", "tbody", "p", "li", "meta", "input", "br", "wbr"}
 
 
 # --- Pages beside the oracle --------------------------------------------------------------------------------------------
@@ -420,7 +430,7 @@ def known_texts(cases):
     long, other = bytes(range(100)), bytes(range(99)) + b"\xFF"
     for name, left, right, texts in [
         ("other answers", log_of(REQUEST, ANSWER), log_of(REQUEST, OTHER_ANSWER), [
-            '<h2><span aria-hidden="true">&#8800;</span> 1 difference: 1 item changed</h2>\n<p>No item is the same. <a href="#difference">See it.</a></p>\n',
+            '<h2><span aria-hidden="true">&#8800;</span> 1 difference: 1 item changed</h2>\n<p>No item is the same. <a href="#difference">See the difference.</a></p>\n',
             '<p><i></i> <span class="who">A</span> <code>62 F1 90 <mark>41</mark></code>',
             '<p><i></i> <span class="who">B</span> <code>62 F1 90 <mark>42</mark></code>',
             "<title>left.log and right.log - udsnorm report</title>",
@@ -435,6 +445,10 @@ def known_texts(cases):
             "message: 60 bytes only in B, from byte 41 on: <b>28 29 2A 2B 2C 2D 2E 2F</b> and 52 more; 40 bytes in A, 100 in B",
             "<code>20 21 22 23 24 25 26 27 <mark>-- -- -- -- -- -- -- --</mark></code>",
             "<code><mark>no byte</mark></code>",
+        ]),
+        ("an end of many lines", strays(long[:40]), strays(bytes(range(250))), [
+            "<summary>no byte more; 90 bytes only in B</summary>",
+            "<summary>90 bytes more, 90 of them differ</summary>",
         ]),
         ("an item that is the same", log_of(REQUEST, ANSWER), log_of("123#00", REQUEST, PENDING, ANSWER), [
             "</span> The two sessions are the same</h2>\n<p>One item is equal in both, byte for byte.</p>\n",
@@ -495,6 +509,7 @@ def refused_logs(cases):
         texts = [f"{letter} is refused, so nothing is compared</h2>\n<p><em>{reason}.</em>", "<p>Nothing is compared.</p>"]
         wrong = differences("how it ends", (found.status, found.error), (REFUSAL, told))
         wrong += [f"{text!r} is not there" for text in texts if text not in found.output.decode()]
+        wrong += differences("whether lines before are shown", b"shows the lines before that" in found.output, not reason.startswith("line 1 "))
         cases.report(f"refused: {name}", wrong + (["it has a row"] if b"<tr" in found.output else []))
 
 

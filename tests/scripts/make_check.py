@@ -81,16 +81,22 @@ OF_PROGRAM = {"udsnorm: make build": ["trace_pair: proofs", "trace_difference: p
 OF_PROGRAM |= {f"tests/{test}.py": ["udsnorm: make build"] for test in QUICK_TESTS}
 
 # The crates beside the program, each with those below it that are checked.
-UP_TO_CANON = ["uds_message", "uds_exchange", "uds_find", "trace_log", "trace_run", "trace_text", "trace_canon"]
+UP_TO_LOG = ["uds_message", "uds_exchange", "trace_log"]
+UP_TO_CANON = [*UP_TO_LOG, "uds_find", "trace_run", "trace_text", "trace_canon"]
 PAGES = [*UP_TO_CANON, "uds_difference", "shown_rows", "trace_report", "trace_pair"]
 LIBRARIES = [*PAGES, "trace_difference"]
+TEXTS = [*UP_TO_CANON, "uds_difference", "shown_rows", "trace_difference", "tried_sessions"]
 APART = {
     "json_reading": UP_TO_CANON,
     "udsnorm_c": LIBRARIES,
     "layer_bench": ["uds_message", "uds_exchange"],
     "session_bench": PAGES,
-    "acceptance": PAGES,
-    "refused_memory": LIBRARIES,
+    "tried_sessions": UP_TO_LOG,
+    "acceptance": ["uds_message", "uds_exchange", "uds_difference", "uds_find"],
+    "call_acceptance": TEXTS,
+    "page_acceptance": [*PAGES, "tried_sessions"],
+    "refused_memory": TEXTS,
+    "refused_pages": [*PAGES, "tried_sessions"],
 }
 OF_APART = {f"{crate}: proofs": [f"{name}: proofs" for name in below] for crate, below in APART.items()}
 ALL_STEPS = OF_LIBRARIES | OF_PROGRAM | OF_APART
@@ -227,8 +233,8 @@ def ends_the_other_proof(cases, tree):
 
 def is_ended(cases, tree):
     """By a signal: with all that it started. Beside it no other one begins."""
-    last = ["udsnorm", "acceptance"]
-    path = stand_ins(tree, {"udsnorm run": STAY, "acceptance test": STAY}, "ended")
+    last = ["udsnorm", "page_acceptance"]
+    path = stand_ins(tree, {"udsnorm run": STAY, "page_acceptance test": STAY}, "ended")
     check = {"args": [tree / "scripts" / "check", "uds_message"], "env": OUTERMOST | {"PATH": path}}
     running = subprocess.Popen(**check, stdout=subprocess.PIPE, stderr=subprocess.PIPE)
     for _ in range(1200):

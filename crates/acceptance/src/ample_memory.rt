@@ -1,12 +1,9 @@
 //! Calls that take memory, with ample supply and much to keep: none of them gives up.
 
-use crate::calls::meaning;
-use crate::pages::aligned;
-use crate::rows::{frame_of, repeated};
+use crate::rows::frame_of;
 use direction::Dir::{self, Tester, Unit};
 use isotp_receive::{Pair, Verdict};
 use std::test::Fail;
-use trace_canon::Comparison;
 use uds_exchange::{MessageSink, Orderer, Pairing};
 
 /// How many messages of a kind a session has.
@@ -94,24 +91,5 @@ fn thousands_of_frames_are_received(rt: HostRuntime) -> Result<(), Fail> {
         }
     }
     assert!(rt; begun == 2 * MANY && finished == 2 * MANY);
-    Ok(())
-}
-
-#[test]
-fn thousands_of_frames_have_a_meaning(rt: HostRuntime) -> Result<(), Fail> {
-    let alloc = rt.alloc();
-    let log = repeated(alloc, "(1.000000) can0 7E8#0759595959595959\n", 4 * MANY)?;
-    assert!(rt; meaning(alloc, log.as_bytes())??.len() == 4 * MANY);
-    Ok(())
-}
-
-#[test]
-fn thousands_of_items_are_held(rt: HostRuntime) -> Result<(), Fail> {
-    let alloc = rt.alloc();
-    let log = repeated(alloc, "(1.000000) can0 7E8#0759595959595959\n", 4 * MANY)?;
-    let held = aligned(alloc, log.as_bytes(), log.as_bytes())?.or(Err("not held"))?;
-    assert!(rt; held.comparison() == Comparison::Same);
-    let two = held.two();
-    assert!(rt; two.left().summary().messages == 2_000 && two.right().summary().messages == 2_000);
     Ok(())
 }

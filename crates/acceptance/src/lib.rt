@@ -1,23 +1,18 @@
-//! The layers together: a library of tests and of nothing else.
+//! The layers by themselves: a library of tests and of nothing else.
 //!
 //! Each crate below is proved by itself, without a test: the gate would prove it again with them. That its definitions say
 //! what was meant is shown here, layer by layer, by worked values: `log_lines`, `device_calls`, `frame_layouts`,
 //! `frame_verdicts`, `message_frames`, `message_kinds`, `pairings`, `credited_answers`,
 //! `session_rows`.
 //!
-//! `said_texts` has each part of a line, and each name and number that commands share.
-//!
 //! `message_frames` also tries the lengths at which a message has a frame more, and `sizes` those at which a buffer may grow.
 //!
-//! `calls` takes a session through each call of the engine, over devices that only a test has, and `pages` through each call that
-//! makes a page. What whole logs become is tested over the built program, by `tests/program/sessions.py` and
-//! `tests/pages/report.py`.
+//! No crate of a log's texts is below, so that these tests are proved beside those crates. The calls that make texts are in
+//! `call_acceptance`, those that make pages in `page_acceptance`.
 #![tactic(auto)]
 
 #[cfg(test)]
 mod ample_memory;
-#[cfg(test)]
-mod calls;
 #[cfg(test)]
 mod credited_answers;
 #[cfg(test)]
@@ -33,13 +28,9 @@ mod message_frames;
 #[cfg(test)]
 mod message_kinds;
 #[cfg(test)]
-mod pages;
-#[cfg(test)]
 mod pairings;
 #[cfg(test)]
 mod rows;
-#[cfg(test)]
-mod said_texts;
 #[cfg(test)]
 mod session_rows;
 #[cfg(test)]

@@ -77,15 +77,6 @@ pub(crate) fn log_marked(alloc: Global, row: &str) -> Result<String, AllocError>
     Ok(log)
 }
 
-/// A text so many times.
-pub(crate) fn repeated(alloc: Global, text: &str, times: usize) -> Result<String, AllocError> {
-    let mut whole = String::new(alloc);
-    for _ in 0..times {
-        whole.push_str(text)?;
-    }
-    Ok(whole)
-}
-
 /// The frame that a line of a log spells so.
 pub(crate) fn frame_of(alloc: Global, spelled: &str) -> Result<Frame, Fail> {
     let line = format!(in alloc; "(0.000000) can0 {spelled}\n")?;

@@ -1,12 +1,14 @@
-pub mod Places
+pub mod Lists
 pub mod Columns
 pub mod BytesBefore
 pub mod BothMessages
 pub mod Counting
 pub mod PairedPieces
 pub mod LineNumbers
+pub mod NextStretches
 pub mod LinePlaces
 pub mod StretchKinds
 pub mod CommonEnds
+pub mod PutIn
 pub mod LineColumns
 pub mod Promises

@@ -1,10 +1,11 @@
 -- Where lines stand.
-use Rattle.std.proofs.Common.{◌≡◌, ℕ, zero, suc, ◌+◌, ◌-◌, ◌*◌, ◌≤◌, ◌<◌, min, Bool, true, false, List, [], ◌∷◌, ◌++◌, length, take, drop, arith, ap, sym, ◌∙◌, refl}
-use Rattle.std.proofs.lemmas.List.{length-append, length-take, length-drop, drop-take, take_min}
+use Rattle.std.proofs.Common.{◌≡◌, ℕ, zero, suc, ◌+◌, ◌-◌, ◌*◌, ◌≤◌, ◌<◌, min, Bool, true, false, List, [], ◌∷◌, length, take, drop, arith, ap, sym, ◌∙◌, refl}
+use Rattle.std.proofs.lemmas.List.{length-take, length-drop, drop-take, take_min}
 use Rattle.byte_columns.specs.declared.column.Column.{Column}
 use Rattle.byte_columns.specs.Columns.{differing, differs}
-use Rattle.byte_columns.specs.Lines.{columns_from, differing_before, folded_from, in_lines, is_shown, line, line_count, line_differs}
+use Rattle.byte_columns.specs.Lines.{differing_before, folded_from, in_lines, is_shown, line, line_count, line_differs}
 use Rattle.byte_columns.proofs.Counting.{one_if}
+use Rattle.byte_columns.proofs.Lists.{take-within}
 
 -- the places of a line
 pub record HasPlaces (columns : List Column) (number : ℕ) : Type 0 where
@@ -35,15 +36,6 @@ pub differing-few : (columns : List Column) → differing columns ≤ length col
 differing-few [] = omega arith
 differing-few (here ∷ later) = differing-one (differs here) (differing later) (length later) (differing-few later)
 
--- one cut within another
-take-both : (m n : ℕ) (l : List Column) → take m (take n l) ≡ take (min m n) l
-take-both zero n l = let none : min 0 n ≡ 0 = omega arith in ap (λ (k : ℕ). take k l) (sym none)
-take-both (suc m) zero l = let none : min (suc m) 0 ≡ 0 = omega arith in ap (λ (k : ℕ). take k l) (sym none)
-take-both (suc m) (suc n) [] = let some : min (suc m) (suc n) ≡ suc (min m n) = omega arith in ap (λ (k : ℕ). take k []) (sym some)
-take-both (suc m) (suc n) (x ∷ l) =
-    let some : min (suc m) (suc n) ≡ suc (min m n) = omega arith in
-    ap (λ (v : List Column). x ∷ v) (take-both m n l) ∙ ap (λ (k : ℕ). take k (x ∷ l)) (sym some)
-
 -- a line, as a stretch of all columns
 pub line-is : (columns : List Column) (number end : ℕ) → number < line_count columns → end ≡ min (16 * number + 16) (min (length columns) 4095)
     → take (end - 16 * number) (drop (16 * number) columns) ≡ line columns number
@@ -59,7 +51,7 @@ line-is columns number end below e =
     let count : end - 16 * number ≡ min (min 16 (4095 - 16 * number)) (length (drop (16 * number) columns)) = omega arith in
     ap (λ (n : ℕ). take n (drop (16 * number) columns)) count
     ∙ take_min (min 16 (4095 - 16 * number)) (drop (16 * number) columns)
-    ∙ sym (take-both 16 (4095 - 16 * number) (drop (16 * number) columns))
+    ∙ sym (take-within 16 (4095 - 16 * number) (drop (16 * number) columns))
     ∙ ap (take 16) (sym cut)
 
 -- what is folded together from a line on
@@ -86,25 +78,3 @@ before-few columns (suc number) = one-few (line_differs columns number) (differi
 
 pub folded-none : (columns : List Column) (number more : ℕ) → more ≡ 0 → folded_from columns number more ≡ 0
 folded-none columns number more e = ap (folded_from columns number) e
-
--- ---- the columns of lines, one line after another
-
-differing-append : (a b : List Column) → differing (a ++ b) ≡ differing a + differing b
-differing-append [] b = omega arith
-differing-append (here ∷ a) b = let rest = differing-append a b in omega arith
-
-columns-next : (columns : List Column) (at end : ℕ) → at < end → columns_from columns at (end - at) ≡ line columns at ++ columns_from columns (at + 1) (end - (at + 1))
-columns-next columns at end below = let next : end - at ≡ suc (end - (at + 1)) = omega arith in ap (columns_from columns at) next
-
-pub length-next : (columns : List Column) (at end : ℕ) → at < end
-    → length (columns_from columns at (end - at)) ≡ length (line columns at) + length (columns_from columns (at + 1) (end - (at + 1)))
-length-next columns at end below =
-    ap length (columns-next columns at end below) ∙ length-append (line columns at) (columns_from columns (at + 1) (end - (at + 1)))
-
-pub differing-next : (columns : List Column) (at end : ℕ) → at < end
-    → differing (columns_from columns at (end - at)) ≡ differing (line columns at) + differing (columns_from columns (at + 1) (end - (at + 1)))
-differing-next columns at end below =
-    ap differing (columns-next columns at end below) ∙ differing-append (line columns at) (columns_from columns (at + 1) (end - (at + 1)))
-
-pub columns-none : (columns : List Column) (at more : ℕ) → more ≡ 0 → columns_from columns at more ≡ []
-columns-none columns at more e = ap (columns_from columns at) e

@@ -1,5 +1,5 @@
 //! What holds of the columns of any two messages. Each law is its contract; a call does nothing.
-ghost use Rattle.byte_columns.specs.Laws.{ColumnsHaveBothMessages, CommonEndsStandTogether, EqualLengthsPairByPlace, LinesHaveTheColumns, LinesStandOnce, NoneDiffersInTheSame, StretchesAreOfOneKind};
+ghost use Rattle.byte_columns.specs.Laws.{ColumnsHaveBothMessages, CommonEndsStandTogether, EqualLengthsPairByPlace, LinesHaveTheColumns, LinesStandOnce, NoneDiffersInTheSame, OnlyPutIn, StretchesAreOfOneKind};
 
 /// Without gaps the columns are both messages.
 pub fn columns_have_both_messages()
@@ -22,6 +22,11 @@ pub fn none_differs_in_the_same()
     ensures { NoneDiffersInTheSame }
 {}
 
+/// Where no more columns differ than one message is longer, it is the other one with these bytes put in.
+pub fn only_put_in()
+    ensures { OnlyPutIn }
+{}
+
 /// Each column stands in one line, in order, or behind all that are shown.
 pub fn lines_have_the_columns()
     ensures { LinesHaveTheColumns }
@@ -32,7 +37,7 @@ pub fn lines_stand_once()
     ensures { LinesStandOnce }
 {}
 
-/// Each stretch is a line that is shown, or a longest run of lines that are not.
+/// Each stretch is a line that is there and shown, or a longest run of lines that are there and not shown.
 pub fn stretches_are_of_one_kind()
     ensures { StretchesAreOfOneKind }
 {}

@@ -17,6 +17,8 @@ mod column;
 pub mod laws;
 mod lines;
 mod pairs;
+mod stretches;
 
-pub use column::{Beside, Column};
-pub use lines::{LINE, MOST_SHOWN};
+pub use column::{ByteColumns, Column};
+pub use lines::LINE_LENGTH;
+pub use stretches::{Stretch, Stretches};

@@ -1,71 +1,65 @@
 //! The lines of columns.
 ghost use Rattle.std.specs.Prelude.{◌≡◌, ◌+◌, ◌-◌, ◌*◌, ◌≤◌, ◌<◌, length, min};
 ghost use Rattle.byte_columns.specs.Columns.{differing};
-ghost use Rattle.byte_columns.specs.Lines.{columns_from, differing_before, folded_from, hidden, is_shown, line, line_count};
+ghost use Rattle.byte_columns.specs.Lines.{differing_before, folded_from, is_shown, line, line_count, line_length, most_in_lines};
 ghost use Rattle.byte_columns.specs.Lines as Spec;
 
-use crate::column::Beside;
+use crate::column::ByteColumns;
+use std::ops::Range;
 
-/// How many columns a line has.
-pub const LINE: usize = 16;
+/// So many columns has a line, but the last one, which may have fewer.
+pub const LINE_LENGTH: usize = 16;
 
-/// How many columns are shown at all.
-pub const MOST_SHOWN: usize = 4_095;
+/// So many columns stand in lines at most.
+const MOST_IN_LINES: usize = 4_095;
 
 /// Up to so many columns each line is shown.
 const ALL_SHOWN: usize = 64;
 
-/// How many of the lines that differ are shown of more.
+/// Of more, so many of the lines that differ are shown.
 const LINES_SHOWN: usize = 8;
 
-impl<'a> Beside<'a> {
+impl<'a> ByteColumns<'a> {
     /// How many columns stand in lines.
-    pub fn in_lines(&self) -> usize
+    pub fn columns_in_lines(&self) -> usize
         ensures value { result ≡ length (Spec.in_lines self.now) }
-        ensures few { result ≡ min (length self.now) 4095 }
+        ensures few { result ≡ min (length self.now) most_in_lines }
     {
-        self.len().min(MOST_SHOWN)
+        self.len().min(MOST_IN_LINES)
     }
 
     /// How many lines there are.
-    pub fn lines(&self) -> usize
+    pub fn line_count(&self) -> usize
         ensures value { result ≡ line_count self.now }
         ensures few { result ≤ 256 }
     {
-        (self.in_lines() + (LINE - 1)) / LINE
+        (self.columns_in_lines() + (LINE_LENGTH - 1)) / LINE_LENGTH
     }
 
-    /// The first column of a line, and the one behind its last.
-    pub fn line(&self, number: usize) -> (usize, usize)
+    /// From the first column of a line up to the one behind its last.
+    pub fn line_range(&self, number: usize) -> Range<usize>
         requires { number < line_count self.now }
-        ensures first { result.0 ≡ 16 * number }
-        ensures end { result.1 ≡ min (result.0 + 16) (min (length self.now) 4095) }
-        ensures length { result.1 ≡ result.0 + length (line self.now number) }
-        ensures inside { result.1 ≤ length self.now }
+        ensures first { result.start ≡ line_length * number }
+        ensures end { result.end ≡ min (result.start + line_length) (min (length self.now) most_in_lines) }
+        ensures length { result.end ≡ result.start + length (line self.now number) }
+        ensures inside { result.end ≤ length self.now }
     {
-        let first = number * LINE;
-        (first, (first + LINE).min(self.in_lines()))
+        let first = number * LINE_LENGTH;
+        first..(first + LINE_LENGTH).min(self.columns_in_lines())
     }
 
     /// How many columns of a line differ.
     pub fn differing_in(&self, number: usize) -> usize
         requires { number < line_count self.now }
         ensures value { result ≡ differing (line self.now number) }
-        ensures few { result ≤ 16 }
+        ensures few { result ≤ line_length }
     {
-        let (first, end) = self.line(number);
-        self.differing(first, end)
-    }
-
-    /// How many columns that are not shown differ.
-    pub fn hidden_differing(&self) -> usize
-        ensures { result ≡ differing (hidden self.now) }
-    {
-        self.differing(self.in_lines(), self.len())
+        let range = self.line_range(number);
+        self.differing(range.start, range.end)
     }
 
     /// Whether a line is shown, before which so many differ.
-    pub fn is_shown(&self, number: usize, before: usize) -> bool
+    fn is_shown(&self, number: usize, before: usize) -> bool
         requires inside { number < line_count self.now }
         requires before { before ≡ differing_before self.now number }
         ensures { result ≡ is_shown self.now number }
@@ -76,13 +70,13 @@ impl<'a> Beside<'a> {
     }
 
     /// How many lines are folded together, from this one on, before which so many differ.
-    pub fn folded(&self, number: usize, before: usize) -> usize
+    pub(crate) fn folded(&self, number: usize, before: usize) -> usize
         requires inside { number ≤ line_count self.now }
         requires before { before ≡ differing_before self.now number }
         ensures value { result ≡ folded_from self.now number (line_count self.now - number) }
         ensures inside { result + number ≤ line_count self.now }
     {
-        let count = self.lines();
+        let count = self.line_count();
         let mut differ = before;
         'lines: for at in number..count {
             if self.is_shown(at, differ) {
@@ -95,35 +89,8 @@ impl<'a> Beside<'a> {
         count - number
     }
 
-    /// How many columns so many lines have, from this one on.
-    pub fn columns_from(&self, number: usize, count: usize) -> usize
-        requires { number + count ≤ line_count self.now }
-        ensures value { result ≡ length (columns_from self.now number count) }
-        ensures few { result ≤ 16 * count }
-    {
-        let mut columns: usize = 0;
-        'lines: for at in number..number + count {
-            let (first, end) = self.line(at);
-            columns += end - first;
-        }
-        columns
-    }
-
-    /// How many of their columns differ.
-    pub fn differing_from(&self, number: usize, count: usize) -> usize
-        requires { number + count ≤ line_count self.now }
-        ensures value { result ≡ differing (columns_from self.now number count) }
-        ensures few { result ≤ 16 * count }
-    {
-        let mut columns: usize = 0;
-        'lines: for at in number..number + count {
-            columns += self.differing_in(at);
-        }
-        columns
-    }
-
     /// How many lines differ before the one behind so many, from this one on, before which so many do.
-    pub fn differing_behind(&self, number: usize, before: usize, count: usize) -> usize
+    pub(crate) fn differing_behind(&self, number: usize, before: usize, count: usize) -> usize
         requires inside { number + count ≤ line_count self.now }
         requires before { before ≡ differing_before self.now number }
         ensures { result ≡ differing_before self.now (number + count) }

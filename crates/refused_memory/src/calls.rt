@@ -1,6 +1,5 @@
 //! The calls, each over every session.
 
-use crate::sessions::{Message, OF_MESSAGES, SESSIONS, Session};
 use can_log::{Frame, Id};
 use direction::Dir;
 use isotp_receive::{Pair, Verdict};
@@ -8,10 +7,11 @@ use std::alloc::Global;
 use std::io::{Error, ErrorKind, Result as IoResult, Write};
 use std::test::Fail;
 use trace_canon::Comparison;
+use trace_difference::in_memory::CountedDifference;
 use trace_io::{Reading, Writing};
-use trace_log::{CompareFault, Config, Fault};
-use trace_pair::{Title, align_two, write_pair_page};
+use trace_log::{CompareFault, Fault, Summary};
 use trace_text::{ItemStyle, Notation, Numbering};
+use tried_sessions::{Message, OF_MESSAGES, Page, SESSIONS, Session, sides};
 use uds_exchange::{
     Decider, Item, ItemSink, Judge, Meaning, MessageSink, OrderFault, Orderer, Pairing,
 };
@@ -42,10 +42,6 @@ fn tell(made: Made, session: Session) -> Result<(), Fail> {
         Made::Once => Ok(()),
         Made::Again => Err(session.name)?,
     }
-}
-
-fn config() -> Result<Config, Fail> {
-    Ok(Config::new(Id::Std(0x7E0), Id::Std(0x7E8), 1000)?)
 }
 
 #[test]
@@ -195,7 +191,7 @@ fn meaning_of(rt: HostRuntime) -> Result<(), Fail> {
 
 fn meant(alloc: Global, session: Session) -> Result<Made, Fail> {
     for made in TRIES {
-        match trace_canon::meaning_of(alloc, &config()?, &mut Reading::new(session.log)) {
+        match meaning_in(alloc, session.log)? {
             Err(Fault::Memory) => {}
             answer => {
                 assert_means(&answer?, session)?;
@@ -206,58 +202,76 @@ fn meant(alloc: Global, session: Session) -> Result<Made, Fail> {
     Err(REFUSED_AGAIN)?
 }
 
-/// A call that writes a text about a log, made over a session.
-macro_rules! written {
-    ($call:path, $alloc:expr, [$($setting:expr),*], $log:expr, $text:expr) => {{
-        for made in TRIES {
-            let mut writer = Writing::new(Rest { of: $text });
-            match $call($alloc, &config()?, $($setting,)* &mut Reading::new($log), &mut writer) {
-                Err(Fault::Memory) => {}
-                answer => {
-                    answer?;
-                    writer.into_inner().end()?;
-                    return Ok(made);
-                }
-            }
+/// What a log means. Like each call below it promises nothing, so that no proof of a caller weighs what the call in it promises.
+fn meaning_in(alloc: Global, log: &[u8]) -> Result<Result<Meaning, Fault>, Fail> {
+    Ok(trace_canon::meaning_of(alloc, &sides()?, &mut Reading::new(log)))
+}
+
+/// A call whose whole text is known.
+#[derive(Clone, Copy)]
+enum Call {
+    Normalise,
+    List,
+    Find,
+}
+
+/// What a call answers over a log, and what is left of the text that it has to write.
+fn answer_of(
+    alloc: Global,
+    call: Call,
+    log: &[u8],
+    text: &'static [u8],
+) -> Result<(Result<Summary, Fault>, Rest), Fail> {
+    let config = sides()?;
+    let (mut reader, mut writer) = (Reading::new(log), Writing::new(Rest { of: text }));
+    let answer = match call {
+        Call::Normalise => trace_canon::normalise(alloc, &config, &mut reader, &mut writer),
+        Call::List => trace_canon::list(alloc, &config, NUMBERED, &mut reader, &mut writer),
+        Call::Find => {
+            trace_canon::find(alloc, &config, Notation::Text, &mut reader, &mut writer)
         }
-        Err(REFUSED_AGAIN)?
-    }};
+    };
+    Ok((answer, writer.into_inner()))
+}
+
+/// Makes a call over a log, which writes this text.
+fn written(alloc: Global, call: Call, log: &[u8], text: &'static [u8]) -> Result<Made, Fail> {
+    for made in TRIES {
+        let (answer, rest) = answer_of(alloc, call, log, text)?;
+        if answer != Err(Fault::Memory) {
+            answer?;
+            rest.end()?;
+            return Ok(made);
+        }
+    }
+    Err(REFUSED_AGAIN)?
 }
 
 #[test]
 fn normalise(rt: HostRuntime) -> Result<(), Fail> {
     for session in SESSIONS {
-        tell(normalised(rt.alloc(), session)?, session)?;
+        let made = written(rt.alloc(), Call::Normalise, session.log, session.canonical)?;
+        tell(made, session)?;
     }
     Ok(())
-}
-
-fn normalised(alloc: Global, session: Session) -> Result<Made, Fail> {
-    written!(
-        trace_canon::normalise,
-        alloc,
-        [],
-        session.log,
-        session.canonical
-    )
 }
 
 #[test]
 fn list(rt: HostRuntime) -> Result<(), Fail> {
     for session in SESSIONS {
-        tell(listed(rt.alloc(), session)?, session)?;
+        let made = written(rt.alloc(), Call::List, session.log, session.listed)?;
+        tell(made, session)?;
     }
     Ok(())
 }
 
-fn listed(alloc: Global, session: Session) -> Result<Made, Fail> {
-    written!(
-        trace_canon::list,
-        alloc,
-        [NUMBERED],
-        session.log,
-        session.listed
-    )
+#[test]
+fn find(rt: HostRuntime) -> Result<(), Fail> {
+    for session in SESSIONS {
+        let made = written(rt.alloc(), Call::Find, session.log, session.found)?;
+        tell(made, session)?;
+    }
+    Ok(())
 }
 
 #[test]
@@ -272,38 +286,22 @@ fn explain(rt: HostRuntime) -> Result<(), Fail> {
 fn explained(alloc: Global, session: Session) -> Result<Made, Fail> {
     let mut begun = Page::new();
     for made in TRIES {
-        let mut log = Reading::new(session.log);
-        let mut writer = Writing::new(Page::new());
-        match trace_canon::explain(alloc, &config()?, Notation::Text, &mut log, &mut writer) {
-            Err(Fault::Memory) => begun = writer.into_inner(),
-            answer => {
-                answer?;
-                let text = writer.into_inner();
-                text.assert_begins_with(begun.bytes())?;
-                text.assert_begins_with(session.explained)?;
-                return Ok(made);
-            }
+        let (answer, text) = explanation_of(alloc, session.log)?;
+        if answer != Err(Fault::Memory) {
+            answer?;
+            text.assert_begins_with(begun.bytes())?;
+            text.assert_begins_with(session.explained)?;
+            return Ok(made);
         }
+        begun = text;
     }
     Err(REFUSED_AGAIN)?
 }
 
-#[test]
-fn find(rt: HostRuntime) -> Result<(), Fail> {
-    for session in SESSIONS {
-        tell(found(rt.alloc(), session)?, session)?;
-    }
-    Ok(())
-}
-
-fn found(alloc: Global, session: Session) -> Result<Made, Fail> {
-    written!(
-        trace_canon::find,
-        alloc,
-        [Notation::Text],
-        session.log,
-        session.found
-    )
+fn explanation_of(alloc: Global, log: &[u8]) -> Result<(Result<Summary, Fault>, Page), Fail> {
+    let (mut reader, mut writer) = (Reading::new(log), Writing::new(Page::new()));
+    let answer = trace_canon::explain(alloc, &sides()?, Notation::Text, &mut reader, &mut writer);
+    Ok((answer, writer.into_inner()))
 }
 
 #[test]
@@ -317,15 +315,25 @@ fn compare(rt: HostRuntime) -> Result<(), Fail> {
 /// Compares the log of a session with its canonical log.
 fn compared(alloc: Global, session: Session) -> Result<Made, Fail> {
     for made in TRIES {
-        let mut log = Reading::new(session.log);
-        let mut canonical = Reading::new(session.canonical);
-        match trace_canon::compare(alloc, &config()?, &mut log, &mut canonical) {
+        match comparison_of(alloc, session.log, session.canonical)? {
             Err(CompareFault::Left(Fault::Memory) | CompareFault::Right(Fault::Memory)) => {}
-            Ok(compared) if compared.comparison == Comparison::Same => return Ok(made),
+            Ok(Comparison::Same) => return Ok(made),
             _ => Err("not the same")?,
         }
     }
     Err(REFUSED_AGAIN)?
+}
+
+fn comparison_of(
+    alloc: Global,
+    left: &[u8],
+    right: &[u8],
+) -> Result<Result<Comparison, CompareFault>, Fail> {
+    let (mut left, mut right) = (Reading::new(left), Reading::new(right));
+    match trace_canon::compare(alloc, &sides()?, &mut left, &mut right) {
+        Ok(compared) => Ok(Ok(compared.comparison)),
+        Err(fault) => Ok(Err(fault)),
+    }
 }
 
 #[test]
@@ -338,18 +346,8 @@ fn pair_difference(rt: HostRuntime) -> Result<(), Fail> {
 
 /// Sets a session beside its canonical log. As objects even of that there is a text.
 fn differed(alloc: Global, session: Session) -> Result<Made, Fail> {
-    let (config, notation) = (config()?, Notation::Json);
-    let (log, canonical) = (session.log, session.canonical);
     for made in TRIES {
-        match trace_difference::in_memory::pair_difference(
-            alloc,
-            &config,
-            notation,
-            b"log",
-            b"canonical",
-            log,
-            canonical,
-        ) {
+        match difference_of(alloc, session.log, session.canonical)? {
             Err(CompareFault::Left(Fault::Memory) | CompareFault::Right(Fault::Memory)) => {}
             Ok(told) if told.text.as_slice().ends_with(NO_CHANGE) => return Ok(made),
             _ => Err("not the same")?,
@@ -358,139 +356,20 @@ fn differed(alloc: Global, session: Session) -> Result<Made, Fail> {
     Err(REFUSED_AGAIN)?
 }
 
-#[test]
-fn report(rt: HostRuntime) -> Result<(), Fail> {
-    for session in SESSIONS {
-        tell(reported(rt.alloc(), session)?, session)?;
-    }
-    Ok(())
-}
-
-/// Writes the page of a session. Where that was refused memory, a front of the page was written.
-fn reported(alloc: Global, session: Session) -> Result<Made, Fail> {
-    let mut begun = Page::new();
-    for made in TRIES {
-        let mut log = Reading::new(session.log);
-        let mut writer = Writing::new(Page::new());
-        match trace_report::report(alloc, &config()?, "", b"log", &mut log, &mut writer) {
-            Err(Fault::Memory) => begun = writer.into_inner(),
-            answer => {
-                answer?;
-                let page = writer.into_inner();
-                page.assert_begins_with(begun.bytes())?;
-                page.assert_tells(b"The recording is clean")?;
-                return Ok(made);
-            }
-        }
-    }
-    Err(REFUSED_AGAIN)?
-}
-
-#[test]
-fn two_are_aligned(rt: HostRuntime) -> Result<(), Fail> {
-    for session in SESSIONS {
-        tell(held(rt.alloc(), session)?, session)?;
-    }
-    Ok(())
-}
-
-/// Holds the log of a session and its canonical log, and writes the page of both. Where they were refused memory, there is none.
-fn held(alloc: Global, session: Session) -> Result<Made, Fail> {
-    let title = Title {
-        style: "",
-        left: b"log",
-        right: b"canonical",
-        tester: Id::Std(0x7E0),
-        unit: Id::Std(0x7E8),
-    };
-    for made in TRIES {
-        let mut log = Reading::new(session.log);
-        let mut canonical = Reading::new(session.canonical);
-        let answer = align_two(alloc, &config()?, &mut log, &mut canonical);
-        let mut writer = Writing::new(Page::new());
-        write_pair_page(&title, &answer, None, &mut writer)?;
-        let page = writer.into_inner();
-        match answer {
-            Err(CompareFault::Left(Fault::Memory) | CompareFault::Right(Fault::Memory)) => {
-                if !page.bytes().is_empty() {
-                    Err("a page of nothing")?
-                }
-            }
-            Ok(aligned) if aligned.comparison() == Comparison::Same => {
-                page.assert_tells(b"The two sessions are the same")?;
-                return Ok(made);
-            }
-            _ => Err("not the same")?,
-        }
-    }
-    Err(REFUSED_AGAIN)?
-}
-
-/// More bytes than a page of a session has.
-const PAGE: usize = 32_768;
-
-/// What was written of a page or of an explanation, in memory that no call is asked for.
-#[derive(Drop)]
-struct Page {
-    bytes: [u8; PAGE],
-    len: usize,
-}
-
-impl Page {
-    fn new() -> Page {
-        Page {
-            bytes: [0; PAGE],
-            len: 0,
-        }
-    }
-
-    fn bytes(&self) -> &[u8] {
-        self.bytes.get(..self.len).unwrap_or(&[])
-    }
-
-    fn assert_begins_with(&self, front: &[u8]) -> Result<(), Fail> {
-        if self.bytes().starts_with(front) {
-            Ok(())
-        } else {
-            Err("another front")?
-        }
-    }
-
-    /// It is whole, and has these words in it.
-    fn assert_tells(&self, words: &[u8]) -> Result<(), Fail> {
-        self.assert_begins_with(b"<!doctype html>\n")?;
-        if !self.bytes().ends_with(b"</body>\n</html>\n") {
-            Err("the page breaks off")?
-        }
-        for start in 0..self.len {
-            if self
-                .bytes
-                .get(start..self.len)
-                .unwrap_or(&[])
-                .starts_with(words)
-            {
-                return Ok(());
-            }
-        }
-        Err("the page does not say so")?
-    }
-}
-
-impl Write for Page {
-    fn write(&mut self, piece: &[u8]) -> IoResult<usize> {
-        for byte in piece {
-            match self.bytes.get_mut(self.len) {
-                Some(place) => *place = *byte,
-                None => return Err(Error::from(ErrorKind::WriteZero)),
-            }
-            self.len = self.len.saturating_add(1);
-        }
-        Ok(piece.len())
-    }
-
-    fn flush(&mut self) -> IoResult<()> {
-        Ok(())
-    }
+fn difference_of(
+    alloc: Global,
+    left: &[u8],
+    right: &[u8],
+) -> Result<Result<CountedDifference, CompareFault>, Fail> {
+    Ok(trace_difference::in_memory::pair_difference(
+        alloc,
+        &sides()?,
+        Notation::Json,
+        b"log",
+        b"canonical",
+        left,
+        right,
+    ))
 }
 
 /// What is still to be written of a text. Other bytes are refused, so that what was written is a front of it.

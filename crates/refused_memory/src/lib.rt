@@ -1,4 +1,5 @@
-//! Each call that takes memory, over small sessions: a library of tests and of nothing else.
+//! Each call that takes memory, over small sessions, but for those that make pages, which are in `refused_pages`: a library of tests
+//! and of nothing else.
 //!
 //! With ample memory all of them pass. `tests/memory/refused_memory.py` runs each with every growth of memory refused in
 //! turn. A call that is refused memory has to say so, and to have written a front of its text. The same call is then made
@@ -10,5 +11,3 @@
 
 #[cfg(test)]
 mod calls;
-#[cfg(test)]
-mod sessions;

@@ -3,8 +3,8 @@ use Rattle.std.proofs.Common.{◌≡◌, ℕ, suc, ◌+◌, ◌<◌, Bool, true,
 use Rattle.std.proofs.lemmas.Bool.{cases_lt}
 use Rattle.uds_difference.specs.declared.row.Row.{Row}
 use Rattle.shown_rows.specs.Folds.{folded, is_shown}
-use Rattle.shown_rows.specs.Laws.{FoldedRowsStandFar, NoneNear, StandsNearChange, more_behind}
-use Rattle.shown_rows.proofs.ChangeSteps.{fold-first, fold-next}
+use Rattle.shown_rows.specs.Laws.{FoldedRowsStandFar, NoneNear, StandsNearChange}
+use Rattle.shown_rows.proofs.FoldSteps.{fold-first, fold-next}
 use Rattle.shown_rows.proofs.HunkPlaces.{is-far}
 use Rattle.shown_rows.proofs.NearChanges.{Since, drop-front, near-shown, one-on, row-at, shown-near, since-all}
 

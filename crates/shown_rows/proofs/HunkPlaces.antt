@@ -15,22 +15,22 @@ use Rattle.shown_rows.proofs.ShownRows.{rest_by, rest_of, rest-change, rest-near
 
 -- ---- how many rows a hunk still has, by whether the first of them is shown
 
-rest-shown : (more : ℕ) (row : Row) (rows : List Row) → more ≤ 3 → is_shown more (row ∷ rows) ≡ true
-    → rest_of more (row ∷ rows) ≡ suc (rest_of (context_behind more row) rows)
+rest-shown : (still_shown : ℕ) (row : Row) (rows : List Row) → still_shown ≤ 3 → is_shown still_shown (row ∷ rows) ≡ true
+    → rest_of still_shown (row ∷ rows) ≡ suc (rest_of (context_behind still_shown row) rows)
 rest-shown zero Same rows small shown = rest-near rows shown
-rest-shown (suc more) Same rows small shown = rest-same more rows (changes_within (more + 4) rows) (omega arith) refl
-rest-shown more Changed rows small shown = rest-change more Changed rows (changes_within 7 rows) refl refl
-rest-shown more OnlyLeft rows small shown = rest-change more OnlyLeft rows (changes_within 7 rows) refl refl
-rest-shown more OnlyRight rows small shown = rest-change more OnlyRight rows (changes_within 7 rows) refl refl
+rest-shown (suc still_shown) Same rows small shown = rest-same still_shown rows (changes_within (still_shown + 4) rows) (omega arith) refl
+rest-shown still_shown Changed rows small shown = rest-change still_shown Changed rows (changes_within 7 rows) refl refl
+rest-shown still_shown OnlyLeft rows small shown = rest-change still_shown OnlyLeft rows (changes_within 7 rows) refl refl
+rest-shown still_shown OnlyRight rows small shown = rest-change still_shown OnlyRight rows (changes_within 7 rows) refl refl
 
 -- a row that is not shown is the same, and none was still shown behind the ones before it
-pub record IsFar (more : ℕ) (row : Row) (rows : List Row) : Type 0 where
-  pub none : more ≡ 0
-  pub none_behind : context_behind more row ≡ 0
-  pub rest : rest_of more (row ∷ rows) ≡ 0
+pub record IsFar (still_shown : ℕ) (row : Row) (rows : List Row) : Type 0 where
+  pub none : still_shown ≡ 0
+  pub none_behind : context_behind still_shown row ≡ 0
+  pub rest : rest_of still_shown (row ∷ rows) ≡ 0
   pub far : changes_within 4 (row ∷ rows) ≡ false
 
-pub is-far : (more : ℕ) (row : Row) (rows : List Row) → is_shown more (row ∷ rows) ≡ false → IsFar more row rows
+pub is-far : (still_shown : ℕ) (row : Row) (rows : List Row) → is_shown still_shown (row ∷ rows) ≡ false → IsFar still_shown row rows
 is-far zero Same rows not = record {
   none = refl;
   none_behind = refl;
@@ -40,20 +40,20 @@ is-far zero Same rows not = record {
   where
     none : (n : ℕ) → min 0 n ≡ 0
     none n = omega arith
-is-far (suc more) Same rows not = absurd (cc not)
+is-far (suc still_shown) Same rows not = absurd (cc not)
 is-far zero Changed rows not = absurd (cc not)
-is-far (suc more) Changed rows not = absurd (cc not)
+is-far (suc still_shown) Changed rows not = absurd (cc not)
 is-far zero OnlyLeft rows not = absurd (cc not)
-is-far (suc more) OnlyLeft rows not = absurd (cc not)
+is-far (suc still_shown) OnlyLeft rows not = absurd (cc not)
 is-far zero OnlyRight rows not = absurd (cc not)
-is-far (suc more) OnlyRight rows not = absurd (cc not)
+is-far (suc still_shown) OnlyRight rows not = absurd (cc not)
 
-few-behind : (more : ℕ) (row : Row) → more ≤ 3 → context_behind more row ≤ 3
+few-behind : (still_shown : ℕ) (row : Row) → still_shown ≤ 3 → context_behind still_shown row ≤ 3
 few-behind zero Same small = omega arith
-few-behind (suc more) Same small = omega arith
-few-behind more Changed small = omega arith
-few-behind more OnlyLeft small = omega arith
-few-behind more OnlyRight small = omega arith
+few-behind (suc still_shown) Same small = omega arith
+few-behind still_shown Changed small = omega arith
+few-behind still_shown OnlyLeft small = omega arith
+few-behind still_shown OnlyRight small = omega arith
 
 -- ---- what holds from a row on, where a hunk still has so many
 
@@ -180,36 +180,36 @@ counts-on all place left right row rows is are =
     let more = ap (λ (n : ℕ). take n all) next ∙ take-suc all place Same here.inside ∙ ap (λ (r : Row). take place all ++ (r ∷ [])) here.row_is in
     subst (λ (l : List Row). AreCounts l (left + left_in row) (right + right_in row)) (sym more) (one-more (take place all) left right row are)
 
-reach-row : (all : List Row) (place more left right : ℕ) (row : Row) (rows : List Row) → more ≤ 3 → drop place all ≡ row ∷ rows → Since all place more
+reach-row : (all : List Row) (place still_shown left right : ℕ) (row : Row) (rows : List Row) → still_shown ≤ 3 → drop place all ≡ row ∷ rows → Since all place still_shown
     → AreCounts (take place all) left right
-    → Reaches all (place + 1) (rest_of (context_behind more row) rows) (left + left_in row) (right + right_in row) rows
-    → Reaches all place (rest_of more (row ∷ rows)) left right (row ∷ rows)
-reach-row all place more left right row rows small is since are next = by (is_shown more (row ∷ rows)) refl
+    → Reaches all (place + 1) (rest_of (context_behind still_shown row) rows) (left + left_in row) (right + right_in row) rows
+    → Reaches all place (rest_of still_shown (row ∷ rows)) left right (row ∷ rows)
+reach-row all place still_shown left right row rows small is since are next = by (is_shown still_shown (row ∷ rows)) refl
   where
-    by : (shown : Bool) → is_shown more (row ∷ rows) ≡ shown → Reaches all place (rest_of more (row ∷ rows)) left right (row ∷ rows)
+    by : (shown : Bool) → is_shown still_shown (row ∷ rows) ≡ shown → Reaches all place (rest_of still_shown (row ∷ rows)) left right (row ∷ rows)
     by true e =
-        subst (λ (n : ℕ). Reaches all place n left right (row ∷ rows)) (sym (rest-shown more row rows small e))
-        (one-near all place (rest_of (context_behind more row) rows) left right row rows (shown-near all place (row ∷ rows) is more since e) next)
+        subst (λ (n : ℕ). Reaches all place n left right (row ∷ rows)) (sym (rest-shown still_shown row rows small e))
+        (one-near all place (rest_of (context_behind still_shown row) rows) left right row rows (shown-near all place (row ∷ rows) is still_shown since e) next)
     by false e =
-        let far = is-far more row rows e in
+        let far = is-far still_shown row rows e in
         let here = row-at all place row rows is in
         let behind = subst (λ (n : ℕ). Reaches all (place + 1) (rest_of n rows) (left + left_in row) (right + right_in row) rows) far.none_behind next in
         subst (λ (n : ℕ). Reaches all place n left right (row ∷ rows)) (sym far.rest)
-        (one-far all place left right row rows is far.far (λ near. cc (sym (near-shown all place (row ∷ rows) is more since near) ∙ e))
+        (one-far all place left right row rows is far.far (λ near. cc (sym (near-shown all place (row ∷ rows) is still_shown since near) ∙ e))
         (in-front all (place + 1) (left + left_in row) (right + right_in row) rows here.next (counts-on all place left right row rows is are) behind))
 
-reach : (rows all : List Row) (place more left right : ℕ) → more ≤ 3 → place ≤ length all → drop place all ≡ rows → Since all place more
-    → AreCounts (take place all) left right → Reaches all place (rest_of more rows) left right rows
-reach [] all place more left right small within is since are =
+reach : (rows all : List Row) (place still_shown left right : ℕ) → still_shown ≤ 3 → place ≤ length all → drop place all ≡ rows → Since all place still_shown
+    → AreCounts (take place all) left right → Reaches all place (rest_of still_shown rows) left right rows
+reach [] all place still_shown left right small within is since are =
     let long = ap length is in
     let rest = length-drop place all in
-    subst (λ (n : ℕ). Reaches all place n left right []) (sym (rest-none more)) (no-rows all place left right (omega arith))
-reach (row ∷ rows) all place more left right small within is since are =
+    subst (λ (n : ℕ). Reaches all place n left right []) (sym (rest-none still_shown)) (no-rows all place left right (omega arith))
+reach (row ∷ rows) all place still_shown left right small within is since are =
     let here = row-at all place row rows is in
     let inside = here.inside in
-    reach-row all place more left right row rows small is since are
-    (reach rows all (place + 1) (context_behind more row) (left + left_in row) (right + right_in row) (few-behind more row small) (omega arith)
-    here.next (one-on all place more row here.row_is since) (counts-on all place left right row rows is are))
+    reach-row all place still_shown left right row rows small is since are
+    (reach rows all (place + 1) (context_behind still_shown row) (left + left_in row) (right + right_in row) (few-behind still_shown row small) (omega arith)
+    here.next (one-on all place still_shown row here.row_is since) (counts-on all place left right row rows is are))
 
 pub hunks_stand_at_their_places : HunksStandAtTheirPlaces
 hunks_stand_at_their_places rows =

@@ -2,7 +2,8 @@ pub mod RowSteps
 pub mod Counted
 pub mod ShownRows
 pub mod EachChange
-pub mod ChangeSteps
+pub mod FoldSteps
+pub mod ChangeCounts
 pub mod ChangePlaces
 pub mod NearChanges
 pub mod HunkPlaces

@@ -5,7 +5,7 @@ use Rattle.std.proofs.lemmas.List.{drop_more, get_or-drop, length-drop}
 use Rattle.uds_difference.specs.declared.row.Row.{Row}
 use Rattle.uds_difference.specs.declared.row.Row.TheVariants.{Same, Changed, OnlyLeft, OnlyRight}
 use Rattle.shown_rows.specs.Folds.{context_behind, is_shown, one_less}
-use Rattle.shown_rows.specs.Laws.{ChangesAt, ShownRowsStandNearChanges, StandsNearChange, more_behind}
+use Rattle.shown_rows.specs.Laws.{ChangesAt, ShownRowsStandNearChanges, StandsNearChange, still_shown_behind}
 use Rattle.shown_rows.specs.Rows.{changes_within, is_change}
 
 -- ---- the row at a place
@@ -49,32 +49,32 @@ is-found (suc count) (OnlyRight ∷ rows) k below at = refl
 -- ---- how many rows are still shown at a place
 
 -- they are those within three behind the latest change
-pub record Since (all : List Row) (place more : ℕ) : Type 0 where
-  pub latest : 0 < more → (other : ℕ) × ChangesAt all other × (other < place) × (other + 4 ≡ place + more)
-  pub most : (other : ℕ) → ChangesAt all other → other < place → other + 4 ≤ place + more
+pub record Since (all : List Row) (place still_shown : ℕ) : Type 0 where
+  pub latest : 0 < still_shown → (other : ℕ) × ChangesAt all other × (other < place) × (other + 4 ≡ place + still_shown)
+  pub most : (other : ℕ) → ChangesAt all other → other < place → other + 4 ≤ place + still_shown
 
 pub at-start : (all : List Row) → Since all 0 0
 at-start all = record { latest = λ some. absurd (omega arith); most = λ other at below. absurd (omega arith) }
 
-one-less-is : (more : ℕ) → one_less more ≡ more - 1
+one-less-is : (still_shown : ℕ) → one_less still_shown ≡ still_shown - 1
 one-less-is zero = omega arith
-one-less-is (suc more) = omega arith
+one-less-is (suc still_shown) = omega arith
 
-behind-change : (more : ℕ) (row : Row) → is_change row ≡ true → context_behind more row ≡ 3
-behind-change more row is = rw is refl
+behind-change : (still_shown : ℕ) (row : Row) → is_change row ≡ true → context_behind still_shown row ≡ 3
+behind-change still_shown row is = rw is refl
 
-behind-same : (more : ℕ) (row : Row) → is_change row ≡ false → context_behind more row ≡ more - 1
-behind-same more row is = let less = one-less-is more in rw is less
+behind-same : (still_shown : ℕ) (row : Row) → is_change row ≡ false → context_behind still_shown row ≡ still_shown - 1
+behind-same still_shown row is = let less = one-less-is still_shown in rw is less
 
-module _ (all : List Row) (place more : ℕ) (row : Row) (row_is : get_or all place Same ≡ row) (since : Since all place more) where
-  since-change : is_change row ≡ true → Since all (place + 1) (context_behind more row)
+module _ (all : List Row) (place still_shown : ℕ) (row : Row) (row_is : get_or all place Same ≡ row) (since : Since all place still_shown) where
+  since-change : is_change row ≡ true → Since all (place + 1) (context_behind still_shown row)
   since-change is =
-      let three = behind-change more row is in
+      let three = behind-change still_shown row is in
       record { latest = λ some. (place, ap is_change row_is ∙ is, omega arith, omega arith); most = λ other at below. omega arith }
 
-  since-same : is_change row ≡ false → Since all (place + 1) (context_behind more row)
+  since-same : is_change row ≡ false → Since all (place + 1) (context_behind still_shown row)
   since-same is =
-      let less = behind-same more row is in
+      let less = behind-same still_shown row is in
       record {
         latest = λ some. (let before = since.latest (omega arith) in (before.0, before.1, omega (arith, before.2), omega (arith, before.3)));
         most = λ other at below. elim (cases_lt other place) [
@@ -85,37 +85,37 @@ module _ (all : List Row) (place more : ℕ) (row : Row) (row_is : get_or all pl
         ];
       }
 
-  pub one-on : Since all (place + 1) (context_behind more row)
+  pub one-on : Since all (place + 1) (context_behind still_shown row)
   one-on = by (is_change row) refl
     where
-      by : (change : Bool) → is_change row ≡ change → Since all (place + 1) (context_behind more row)
+      by : (change : Bool) → is_change row ≡ change → Since all (place + 1) (context_behind still_shown row)
       by true is = since-change is
       by false is = since-same is
 
 -- behind several rows
-since-behind : (all : List Row) (place more : ℕ) (front later : List Row) → drop place all ≡ front ++ later → Since all place more
-    → Since all (place + length front) (more_behind more front)
-since-behind all place more [] later is since =
+since-behind : (all : List Row) (place still_shown : ℕ) (front later : List Row) → drop place all ≡ front ++ later → Since all place still_shown
+    → Since all (place + length front) (still_shown_behind still_shown front)
+since-behind all place still_shown [] later is since =
     let none : place ≡ place + length {A = Row} [] = omega arith in
-    subst (λ (n : ℕ). Since all n more) none since
-since-behind all place more (row ∷ front) later is since =
+    subst (λ (n : ℕ). Since all n still_shown) none since
+since-behind all place still_shown (row ∷ front) later is since =
     let here = row-at all place row (front ++ later) is in
     let sum : place + 1 + length front ≡ place + length (row ∷ front) = omega arith in
-    subst (λ (n : ℕ). Since all n (more_behind (context_behind more row) front)) sum
-    (since-behind all (place + 1) (context_behind more row) front later here.next (one-on all place more row here.row_is since))
+    subst (λ (n : ℕ). Since all n (still_shown_behind (context_behind still_shown row) front)) sum
+    (since-behind all (place + 1) (context_behind still_shown row) front later here.next (one-on all place still_shown row here.row_is since))
 
 -- ---- what is shown
 
 module _ (all : List Row) (place : ℕ) (rows : List Row) (is : drop place all ≡ rows) where
-  pub shown-near : (more : ℕ) → Since all place more → is_shown more rows ≡ true → StandsNearChange all place
+  pub shown-near : (still_shown : ℕ) → Since all place still_shown → is_shown still_shown rows ≡ true → StandsNearChange all place
   shown-near zero since shown =
       let found = found-in 4 rows shown in
       (place + found.0, ap is_change (sym (shifted all place found.0 rows is)) ∙ found.2, omega (arith, found.1), omega arith)
-  shown-near (suc more) since shown =
+  shown-near (suc still_shown) since shown =
       let before = since.latest (omega arith) in
       (before.0, before.1, omega (arith, before.2), omega (arith, before.3))
 
-  pub near-shown : (more : ℕ) → Since all place more → StandsNearChange all place → is_shown more rows ≡ true
+  pub near-shown : (still_shown : ℕ) → Since all place still_shown → StandsNearChange all place → is_shown still_shown rows ≡ true
   near-shown zero since near = elim (cases_lt near.0 place) [
     | inl before ↦ let far = since.most near.0 near.1 before in absurd (omega (arith, near.3))
     | inr behind ↦
@@ -123,19 +123,19 @@ module _ (all : List Row) (place : ℕ) (rows : List Row) (is : drop place all �
         is-found 4 rows (near.0 - place) (omega (arith, near.2))
         (ap is_change (shifted all place (near.0 - place) rows is) ∙ ap (λ (n : ℕ). is_change (get_or all n Same)) sum ∙ near.1)
   ]
-  near-shown (suc more) since near = refl
+  near-shown (suc still_shown) since near = refl
 
 pub drop-front : (front later : List Row) → drop (length front) (front ++ later) ≡ later
 drop-front [] later = refl
 drop-front (row ∷ front) later = drop-front front later
 
-pub since-all : (front later : List Row) → Since (front ++ later) (length front) (more_behind 0 front)
+pub since-all : (front later : List Row) → Since (front ++ later) (length front) (still_shown_behind 0 front)
 since-all front later =
     let none : 0 + length front ≡ length front = omega arith in
-    subst (λ (n : ℕ). Since (front ++ later) n (more_behind 0 front)) none (since-behind (front ++ later) 0 0 front later refl (at-start (front ++ later)))
+    subst (λ (n : ℕ). Since (front ++ later) n (still_shown_behind 0 front)) none (since-behind (front ++ later) 0 0 front later refl (at-start (front ++ later)))
 
 pub shown_rows_stand_near_changes : ShownRowsStandNearChanges
 shown_rows_stand_near_changes front row later = (
-  shown-near (front ++ (row ∷ later)) (length front) (row ∷ later) (drop-front front (row ∷ later)) (more_behind 0 front) (since-all front (row ∷ later)),
-  near-shown (front ++ (row ∷ later)) (length front) (row ∷ later) (drop-front front (row ∷ later)) (more_behind 0 front) (since-all front (row ∷ later)),
+  shown-near (front ++ (row ∷ later)) (length front) (row ∷ later) (drop-front front (row ∷ later)) (still_shown_behind 0 front) (since-all front (row ∷ later)),
+  near-shown (front ++ (row ∷ later)) (length front) (row ∷ later) (drop-front front (row ∷ later)) (still_shown_behind 0 front) (since-all front (row ∷ later)),
 )

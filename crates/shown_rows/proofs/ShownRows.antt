@@ -1,13 +1,10 @@
 -- What a page shows unfolded is what the hunks of a text have.
-use Rattle.std.proofs.Common.{◌≡◌, ℕ, zero, suc, ◌+◌, ◌-◌, ◌≤◌, ◌<◌, min, Bool, true, false, List, [], ◌∷◌, ◌++◌, map, length, take, ap, ap₂, sym, ◌∙◌, arith, refl}
-use Rattle.std.specs.Prelude.{if◌then◌else◌}
+use Rattle.std.proofs.Common.{◌≡◌, ℕ, zero, suc, ◌+◌, ◌-◌, ◌≤◌, ◌<◌, min, Bool, true, false, List, [], ◌∷◌, ◌++◌, length, take, ap, sym, ◌∙◌, arith, refl}
 use Rattle.std.specs.List.{flat_map}
-use Rattle.std.proofs.lemmas.List.{map-append}
 use Rattle.uds_difference.specs.declared.row.Row.{Row}
 use Rattle.uds_difference.specs.declared.row.Row.TheVariants.{Same, Changed, OnlyLeft, OnlyRight}
-use Rattle.shown_rows.specs.Folds.{context_behind, is_shown, shown_from}
-use Rattle.shown_rows.specs.Hunks.{Hunk, hunk_length, hunks, hunks_behind, rows_to_last_change}
-use Rattle.shown_rows.specs.Laws.{RowAt, ShownRowsAreThoseOfHunks, ShownRowsStandInHunks, places_of_hunk, row_at, rows_at, rows_of_hunk, shown_at}
+use Rattle.shown_rows.specs.Hunks.{hunk_length, hunks_behind, rows_to_last_change}
+use Rattle.shown_rows.specs.Laws.{RowAt, ShownRowsStandInHunks, places_of_hunk, row_at, rows_at, shown_at}
 use Rattle.shown_rows.specs.Rows.{changes_within, is_change, left_in, right_in}
 use Rattle.shown_rows.proofs.RowSteps.{none-within}
 
@@ -15,14 +12,14 @@ use Rattle.shown_rows.proofs.RowSteps.{none-within}
 abbrev pub flat : ℕ → ℕ → ℕ → List Row → List RowAt
 flat count i j rows = flat_map places_of_hunk (hunks_behind count i j rows)
 
--- how many rows a hunk still has, of which so many are shown since a change stands before them, by whether another change
--- is near
+-- how many rows a hunk still has, where so many of the next are shown for a change before them, by whether another change is
+-- near
 abbrev pub rest_by : Bool → ℕ → List Row → ℕ
-rest_by true context rows = hunk_length rows
-rest_by false context rows = min context (length rows)
+rest_by true still_shown rows = hunk_length rows
+rest_by false still_shown rows = min still_shown (length rows)
 
 abbrev pub rest_of : ℕ → List Row → ℕ
-rest_of context rows = rest_by (changes_within (context + 4) rows) context rows
+rest_of still_shown rows = rest_by (changes_within (still_shown + 4) rows) still_shown rows
 
 -- a change that is near is near for a longer look
 nearer : (m n : ℕ) (rows : List Row) → m ≤ n → changes_within m rows ≡ true → changes_within n rows ≡ true
@@ -55,51 +52,51 @@ length-last row rows far =
 
 -- what the law says of the rows from one on, in a hunk or in front of the next
 abbrev pub InHunk : ℕ → ℕ → ℕ → List Row → Type 0
-InHunk context i j rows = rows_at i j (take (rest_of context rows) rows) ++ flat (rest_of context rows) i j rows ≡ shown_at context i j rows
+InHunk still_shown i j rows = rows_at i j (take (rest_of still_shown rows) rows) ++ flat (rest_of still_shown rows) i j rows ≡ shown_at still_shown i j rows
 
 -- one more row in front, which is shown
-one-shown : (context next i j : ℕ) (row : Row) (rows : List Row) → rest_of context (row ∷ rows) ≡ suc (rest_of next rows)
-    → shown_at context i j (row ∷ rows) ≡ row_at row i j ∷ shown_at next (i + left_in row) (j + right_in row) rows
-    → InHunk next (i + left_in row) (j + right_in row) rows → InHunk context i j (row ∷ rows)
-one-shown context next i j row rows more is rest =
+one-shown : (still_shown next i j : ℕ) (row : Row) (rows : List Row) → rest_of still_shown (row ∷ rows) ≡ suc (rest_of next rows)
+    → shown_at still_shown i j (row ∷ rows) ≡ row_at row i j ∷ shown_at next (i + left_in row) (j + right_in row) rows
+    → InHunk next (i + left_in row) (j + right_in row) rows → InHunk still_shown i j (row ∷ rows)
+one-shown still_shown next i j row rows more is rest =
     ap (λ (n : ℕ). rows_at i j (take n (row ∷ rows)) ++ flat n i j (row ∷ rows)) more ∙ ap (λ (l : List RowAt). row_at row i j ∷ l) rest ∙ sym is
 
 -- a change
-shown-change : (context i j : ℕ) (row : Row) (rows : List Row) → is_change row ≡ true
-    → shown_at context i j (row ∷ rows) ≡ row_at row i j ∷ shown_at 3 (i + left_in row) (j + right_in row) rows
+shown-change : (still_shown i j : ℕ) (row : Row) (rows : List Row) → is_change row ≡ true
+    → shown_at still_shown i j (row ∷ rows) ≡ row_at row i j ∷ shown_at 3 (i + left_in row) (j + right_in row) rows
 shown-change zero i j row rows is = rw is refl
-shown-change (suc context) i j row rows is = rw is refl
+shown-change (suc still_shown) i j row rows is = rw is refl
 
 near-change : (count : ℕ) (row : Row) (rows : List Row) → is_change row ≡ true → changes_within (suc count) (row ∷ rows) ≡ true
 near-change count row rows is = rw is refl
 
-pub rest-change : (context : ℕ) (row : Row) (rows : List Row) (near : Bool) → changes_within 7 rows ≡ near → is_change row ≡ true
-    → rest_of context (row ∷ rows) ≡ suc (rest_of 3 rows)
-rest-change context row rows near e is =
-    let four : context + 4 ≡ suc (context + 3) = omega arith in
-    let here : changes_within (context + 4) (row ∷ rows) ≡ true = ap (λ (n : ℕ). changes_within n (row ∷ rows)) four ∙ near-change (context + 3) row rows is in
-    ap (λ (b : Bool). rest_by b context (row ∷ rows)) here ∙ behind near e
+pub rest-change : (still_shown : ℕ) (row : Row) (rows : List Row) (near : Bool) → changes_within 7 rows ≡ near → is_change row ≡ true
+    → rest_of still_shown (row ∷ rows) ≡ suc (rest_of 3 rows)
+rest-change still_shown row rows near e is =
+    let four : still_shown + 4 ≡ suc (still_shown + 3) = omega arith in
+    let here : changes_within (still_shown + 4) (row ∷ rows) ≡ true = ap (λ (n : ℕ). changes_within n (row ∷ rows)) four ∙ near-change (still_shown + 3) row rows is in
+    ap (λ (b : Bool). rest_by b still_shown (row ∷ rows)) here ∙ behind near e
   where
     behind : (near : Bool) → changes_within 7 rows ≡ near → hunk_length (row ∷ rows) ≡ suc (rest_of 3 rows)
     behind true e = length-more row rows e ∙ ap (λ (b : Bool). suc (rest_by b 3 rows)) (sym e)
     behind false e = length-last row rows e ∙ ap (λ (b : Bool). suc (rest_by b 3 rows)) (sym e)
 
 -- a row that is the same, behind a change
-pub rest-same : (context : ℕ) (rows : List Row) (near : Bool) → context ≤ 2 → changes_within (context + 4) rows ≡ near
-    → rest_of (suc context) (Same ∷ rows) ≡ suc (rest_of context rows)
-rest-same context rows true small e =
-    let four : suc context + 4 ≡ suc (context + 4) = omega arith in
-    ap (λ (n : ℕ). rest_by (changes_within n (Same ∷ rows)) (suc context) (Same ∷ rows)) four
-    ∙ ap (λ (b : Bool). rest_by b (suc context) (Same ∷ rows)) e
-    ∙ length-more Same rows (nearer (context + 4) 7 rows (omega arith) e)
-    ∙ ap (λ (b : Bool). suc (rest_by b context rows)) (sym e)
-rest-same context rows false small e =
-    let four : suc context + 4 ≡ suc (context + 4) = omega arith in
-    let fewer : min (suc context) (length (Same ∷ rows)) ≡ suc (min context (length rows)) = omega arith in
-    ap (λ (n : ℕ). rest_by (changes_within n (Same ∷ rows)) (suc context) (Same ∷ rows)) four
-    ∙ ap (λ (b : Bool). rest_by b (suc context) (Same ∷ rows)) e
+pub rest-same : (still_shown : ℕ) (rows : List Row) (near : Bool) → still_shown ≤ 2 → changes_within (still_shown + 4) rows ≡ near
+    → rest_of (suc still_shown) (Same ∷ rows) ≡ suc (rest_of still_shown rows)
+rest-same still_shown rows true small e =
+    let four : suc still_shown + 4 ≡ suc (still_shown + 4) = omega arith in
+    ap (λ (n : ℕ). rest_by (changes_within n (Same ∷ rows)) (suc still_shown) (Same ∷ rows)) four
+    ∙ ap (λ (b : Bool). rest_by b (suc still_shown) (Same ∷ rows)) e
+    ∙ length-more Same rows (nearer (still_shown + 4) 7 rows (omega arith) e)
+    ∙ ap (λ (b : Bool). suc (rest_by b still_shown rows)) (sym e)
+rest-same still_shown rows false small e =
+    let four : suc still_shown + 4 ≡ suc (still_shown + 4) = omega arith in
+    let fewer : min (suc still_shown) (length (Same ∷ rows)) ≡ suc (min still_shown (length rows)) = omega arith in
+    ap (λ (n : ℕ). rest_by (changes_within n (Same ∷ rows)) (suc still_shown) (Same ∷ rows)) four
+    ∙ ap (λ (b : Bool). rest_by b (suc still_shown) (Same ∷ rows)) e
     ∙ fewer
-    ∙ ap (λ (b : Bool). suc (rest_by b context rows)) (sym e)
+    ∙ ap (λ (b : Bool). suc (rest_by b still_shown rows)) (sym e)
 
 -- a row that is the same, with a change among the three behind it
 pub rest-near : (rows : List Row) → changes_within 3 rows ≡ true → rest_of 0 (Same ∷ rows) ≡ suc (rest_of 0 rows)
@@ -158,55 +155,26 @@ one-same : (i j : ℕ) (rows : List Row) (near : Bool) → changes_within 3 rows
 one-same i j rows true e rest = one-shown 0 0 i j Same rows (rest-near rows e) (shown-near i j rows e) rest
 one-same i j rows false e rest = one-folded i j rows e rest
 
-pub rest-none : (context : ℕ) → rest_of context [] ≡ 0
-rest-none context =
-    let few : min context (length {A = Row} []) ≡ 0 = omega arith in
-    ap (λ (b : Bool). rest_by b context []) (none-within (context + 4)) ∙ few
+pub rest-none : (still_shown : ℕ) → rest_of still_shown [] ≡ 0
+rest-none still_shown =
+    let few : min still_shown (length {A = Row} []) ≡ 0 = omega arith in
+    ap (λ (b : Bool). rest_by b still_shown []) (none-within (still_shown + 4)) ∙ few
 
-in-hunk : (rows : List Row) (context i j : ℕ) → context ≤ 3 → InHunk context i j rows
-in-hunk [] context i j small = ap (λ (n : ℕ). rows_at i j (take n []) ++ flat n i j []) (rest-none context)
+in-hunk : (rows : List Row) (still_shown i j : ℕ) → still_shown ≤ 3 → InHunk still_shown i j rows
+in-hunk [] still_shown i j small = ap (λ (n : ℕ). rows_at i j (take n []) ++ flat n i j []) (rest-none still_shown)
 in-hunk (Same ∷ rows) zero i j small = one-same i j rows (changes_within 3 rows) refl (in-hunk rows 0 (i + 1) (j + 1) (omega arith))
-in-hunk (Same ∷ rows) (suc context) i j small =
-    one-shown (suc context) context i j Same rows (rest-same context rows (changes_within (context + 4) rows) (omega arith) refl) refl
-    (in-hunk rows context (i + 1) (j + 1) (omega arith))
-in-hunk (Changed ∷ rows) context i j small =
-    one-shown context 3 i j Changed rows (rest-change context Changed rows (changes_within 7 rows) refl refl) (shown-change context i j Changed rows refl)
+in-hunk (Same ∷ rows) (suc still_shown) i j small =
+    one-shown (suc still_shown) still_shown i j Same rows (rest-same still_shown rows (changes_within (still_shown + 4) rows) (omega arith) refl) refl
+    (in-hunk rows still_shown (i + 1) (j + 1) (omega arith))
+in-hunk (Changed ∷ rows) still_shown i j small =
+    one-shown still_shown 3 i j Changed rows (rest-change still_shown Changed rows (changes_within 7 rows) refl refl) (shown-change still_shown i j Changed rows refl)
     (in-hunk rows 3 (i + 1) (j + 1) (omega arith))
-in-hunk (OnlyLeft ∷ rows) context i j small =
-    one-shown context 3 i j OnlyLeft rows (rest-change context OnlyLeft rows (changes_within 7 rows) refl refl) (shown-change context i j OnlyLeft rows refl)
+in-hunk (OnlyLeft ∷ rows) still_shown i j small =
+    one-shown still_shown 3 i j OnlyLeft rows (rest-change still_shown OnlyLeft rows (changes_within 7 rows) refl refl) (shown-change still_shown i j OnlyLeft rows refl)
     (in-hunk rows 3 (i + 1) (j + 0) (omega arith))
-in-hunk (OnlyRight ∷ rows) context i j small =
-    one-shown context 3 i j OnlyRight rows (rest-change context OnlyRight rows (changes_within 7 rows) refl refl) (shown-change context i j OnlyRight rows refl)
+in-hunk (OnlyRight ∷ rows) still_shown i j small =
+    one-shown still_shown 3 i j OnlyRight rows (rest-change still_shown OnlyRight rows (changes_within 7 rows) refl refl) (shown-change still_shown i j OnlyRight rows refl)
     (in-hunk rows 3 (i + 0) (j + 1) (omega arith))
 
 pub shown_rows_stand_in_hunks : ShownRowsStandInHunks
 shown_rows_stand_in_hunks rows = sym (in-front 0 0 rows (in-hunk rows 0 0 0 (omega arith)))
-
--- Without their places.
-
-abbrev kind_of : RowAt → Row
-kind_of row = row.kind
-
-kinds : (i j : ℕ) (rows : List Row) → map kind_of (rows_at i j rows) ≡ rows
-kinds i j [] = refl
-kinds i j (row ∷ rows) = ap (λ (l : List Row). row ∷ l) (kinds (i + left_in row) (j + right_in row) rows)
-
-hunk-kinds : (hunks : List Hunk) → map kind_of (flat_map places_of_hunk hunks) ≡ flat_map rows_of_hunk hunks
-hunk-kinds [] = refl
-hunk-kinds (hunk ∷ later) =
-    map-append kind_of (places_of_hunk hunk) (flat_map places_of_hunk later)
-    ∙ ap₂ (λ (a b : List Row). a ++ b) (kinds hunk.left hunk.right hunk.rows) (hunk-kinds later)
-
-one-kind : (is : Bool) (row : Row) (i j : ℕ) (later : List RowAt) (rows : List Row) → map kind_of later ≡ rows
-    → map kind_of (if is then row_at row i j ∷ later else later) ≡ (if is then row ∷ rows else rows)
-one-kind true row i j later rows are = ap (λ (l : List Row). row ∷ l) are
-one-kind false row i j later rows are = are
-
-shown-kinds : (context i j : ℕ) (rows : List Row) → map kind_of (shown_at context i j rows) ≡ shown_from context rows
-shown-kinds context i j [] = refl
-shown-kinds context i j (row ∷ rows) =
-    one-kind (is_shown context (row ∷ rows)) row i j (shown_at (context_behind context row) (i + left_in row) (j + right_in row) rows)
-    (shown_from (context_behind context row) rows) (shown-kinds (context_behind context row) (i + left_in row) (j + right_in row) rows)
-
-pub shown_rows_are_those_of_hunks : ShownRowsAreThoseOfHunks
-shown_rows_are_those_of_hunks rows = sym (shown-kinds 0 0 0 rows) ∙ ap (map kind_of) (shown_rows_stand_in_hunks rows) ∙ hunk-kinds (hunks rows)

@@ -1,32 +1,24 @@
 -- What of the rows is folded: all but the changes, and the three rows before and behind each.
 use Prim.Native.Nat.{zero, suc}
-use Rattle.std.specs.Prelude.{ℕ, ◌+◌, Bool, true, List, [], ◌∷◌, if◌then◌else◌}
+use Rattle.std.specs.Prelude.{ℕ, Bool, true, List, [], ◌∷◌, if◌then◌else◌}
 use Rattle.uds_difference.specs.declared.row.Row.{Row}
-use Rattle.shown_rows.specs.Rows.{changes_within, context, is_change}
+use Rattle.shown_rows.specs.Hunks.{begins_hunk}
+use Rattle.shown_rows.specs.Rows.{context, is_change}
 
 abbrev pub one_less : ℕ → ℕ
 one_less zero = 0
-one_less (suc more) = more
+one_less (suc count) = count
 
--- how many rows behind a row are shown, since a change stands before them, by how many more were before this row
+-- How many of the next rows are shown for a change before them (`still_shown`), behind a row, by how many were in front of
+-- it: behind a change three, and else one less.
 abbrev pub context_behind : ℕ → Row → ℕ
-context_behind more row = if is_change row then context else one_less more
+context_behind still_shown row = if is_change row then context else one_less still_shown
 
--- The first of these rows is shown, where so many more are since a change stands before them: those, a change, and
+-- The first of these rows is shown, where so many of the next are shown for a change before them: one of those, a change, and
 -- each row with a change among the three behind it.
 abbrev pub is_shown : ℕ → List Row → Bool
-is_shown zero rows = changes_within (context + 1) rows
-is_shown (suc more) rows = true
-
--- the rows that are shown
-abbrev pub shown_from : ℕ → List Row → List Row
-shown_from more [] = []
-shown_from more (row ∷ rows) =
-    if is_shown more (row ∷ rows) then row ∷ shown_from (context_behind more row) rows else shown_from (context_behind more row) rows
-
--- the rows that are shown, of all
-abbrev pub shown : List Row → List Row
-shown rows = shown_from 0 rows
+is_shown zero rows = begins_hunk rows
+is_shown (suc still_shown) rows = true
 
 -- how many rows from the first of these on are folded together, behind one that is not shown or in front of all
 abbrev pub folded : List Row → ℕ

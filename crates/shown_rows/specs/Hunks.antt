@@ -1,8 +1,12 @@
 -- The hunks of rows: what of them is shown.
 use Prim.Native.Nat.{zero, suc}
-use Rattle.std.specs.Prelude.{ℕ, ◌+◌, ◌-◌, ◌*◌, min, List, [], ◌∷◌, length, take, if◌then◌else◌}
+use Rattle.std.specs.Prelude.{ℕ, ◌+◌, ◌-◌, ◌*◌, Bool, min, List, [], ◌∷◌, length, take, if◌then◌else◌}
 use Rattle.uds_difference.specs.declared.row.Row.{Row}
 use Rattle.shown_rows.specs.Rows.{changes_within, context, left_in, right_in}
+
+-- A hunk begins with the first of these rows, behind one that stands in none: a change is among it and the three behind it.
+abbrev pub begins_hunk : List Row → Bool
+begins_hunk rows = changes_within (context + 1) rows
 
 -- how many rows of a hunk, which begins with the first of these, stand up to its last change: there at most six rows
 -- between two changes are the same
@@ -21,12 +25,12 @@ pub record Hunk : Type 0 where
   pub rows : List Row
 
 -- The hunks of rows, of which the first so many belong to a hunk in front of them, by how many items of both sessions
--- stand before the first. A hunk begins with the first row that is a change or has one among the three behind it.
+-- stand before the first.
 abbrev pub hunks_behind : ℕ → ℕ → ℕ → List Row → List Hunk
 hunks_behind shown left right [] = []
 hunks_behind (suc shown) left right (row ∷ rows) = hunks_behind shown (left + left_in row) (right + right_in row) rows
 hunks_behind zero left right (row ∷ rows) =
-    if changes_within (context + 1) (row ∷ rows)
+    if begins_hunk (row ∷ rows)
     then record { left = left; right = right; rows = take (hunk_length (row ∷ rows)) (row ∷ rows) }
     ∷ hunks_behind (hunk_length (row ∷ rows) - 1) (left + left_in row) (right + right_in row) rows
     else hunks_behind 0 (left + left_in row) (right + right_in row) rows

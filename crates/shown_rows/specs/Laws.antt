@@ -7,17 +7,9 @@ use Rattle.uds_difference.specs.declared.row.Row.{Row}
 use Rattle.uds_difference.specs.declared.row.Row.TheVariants.{Same, Changed, OnlyLeft, OnlyRight}
 use Rattle.shown_rows.specs.declared.changes.Change.{Change}
 use Rattle.shown_rows.specs.Changes.{changes}
-use Rattle.shown_rows.specs.Folds.{context_behind, folded, is_shown, shown}
+use Rattle.shown_rows.specs.Folds.{context_behind, folded, is_shown}
 use Rattle.shown_rows.specs.Hunks.{Hunk, hunks}
 use Rattle.shown_rows.specs.Rows.{count_of, is_change, left_count, left_in, right_count, right_in, same_row}
-
--- the rows of a hunk
-abbrev pub rows_of_hunk : Hunk → List Row
-rows_of_hunk hunk = hunk.rows
-
--- what a page shows unfolded is what the hunks of a text have
-abbrev pub ShownRowsAreThoseOfHunks : Type 0
-ShownRowsAreThoseOfHunks = (rows : List Row) → shown rows ≡ flat_map rows_of_hunk (hunks rows)
 
 -- a row, and how many items of both sessions stand before it
 pub record RowAt : Type 0 where
@@ -38,15 +30,16 @@ rows_at left right (row ∷ rows) = row_at row left right ∷ rows_at (left + le
 abbrev pub places_of_hunk : Hunk → List RowAt
 places_of_hunk hunk = rows_at hunk.left hunk.right hunk.rows
 
--- the rows that are shown, each at its place, where so many more are shown for a change before them
+-- the rows that are shown, each at its place, where so many of the next are shown for a change before them
 abbrev pub shown_at : ℕ → ℕ → ℕ → List Row → List RowAt
-shown_at more left right [] = []
-shown_at more left right (row ∷ rows) =
-    if is_shown more (row ∷ rows)
-    then row_at row left right ∷ shown_at (context_behind more row) (left + left_in row) (right + right_in row) rows
-    else shown_at (context_behind more row) (left + left_in row) (right + right_in row) rows
+shown_at still_shown left right [] = []
+shown_at still_shown left right (row ∷ rows) =
+    if is_shown still_shown (row ∷ rows)
+    then row_at row left right ∷ shown_at (context_behind still_shown row) (left + left_in row) (right + right_in row) rows
+    else shown_at (context_behind still_shown row) (left + left_in row) (right + right_in row) rows
 
--- the rows that are shown stand where those of the hunks do
+-- What a page shows unfolded is what the hunks of a text have, each row where it stands there. So, by the kinds of both sides,
+-- the rows that are shown are those of the hunks, in order.
 abbrev pub ShownRowsStandInHunks : Type 0
 ShownRowsStandInHunks = (rows : List Row) → shown_at 0 0 0 rows ≡ flat_map places_of_hunk (hunks rows)
 
@@ -58,16 +51,16 @@ ChangesAt rows place = is_change (get_or rows place Same) ≡ true
 abbrev pub StandsNearChange : List Row → ℕ → Type 0
 StandsNearChange rows place = (other : ℕ) × ChangesAt rows other × (other ≤ place + 3) × (place ≤ other + 3)
 
--- how many rows behind these are still shown, for the changes among them
-abbrev pub more_behind : ℕ → List Row → ℕ
-more_behind more [] = more
-more_behind more (row ∷ rows) = more_behind (context_behind more row) rows
+-- how many of the next rows are shown for a change before them, behind these, by how many were in front of them
+abbrev pub still_shown_behind : ℕ → List Row → ℕ
+still_shown_behind still_shown [] = still_shown
+still_shown_behind still_shown (row ∷ rows) = still_shown_behind (context_behind still_shown row) rows
 
 -- a row is shown, behind those in front of it, exactly where it stands near a change
 abbrev pub ShownRowsStandNearChanges : Type 0
 ShownRowsStandNearChanges = (front : List Row) (row : Row) (later : List Row)
-    → (is_shown (more_behind 0 front) (row ∷ later) ≡ true → StandsNearChange (front ++ (row ∷ later)) (length front))
-    × (StandsNearChange (front ++ (row ∷ later)) (length front) → is_shown (more_behind 0 front) (row ∷ later) ≡ true)
+    → (is_shown (still_shown_behind 0 front) (row ∷ later) ≡ true → StandsNearChange (front ++ (row ∷ later)) (length front))
+    × (StandsNearChange (front ++ (row ∷ later)) (length front) → is_shown (still_shown_behind 0 front) (row ∷ later) ≡ true)
 
 -- each row from one place up to another stands near a change
 abbrev pub AllNear : List Row → ℕ → ℕ → Type 0
@@ -80,7 +73,7 @@ NoneNear rows from end = (place : ℕ) → from ≤ place → place < end → St
 -- Of rows of which none is still shown for a change in front of them, as many are folded together as there are up to the
 -- next that stands near a change.
 abbrev pub FoldedRowsStandFar : Type 0
-FoldedRowsStandFar = (front later : List Row) → more_behind 0 front ≡ 0
+FoldedRowsStandFar = (front later : List Row) → still_shown_behind 0 front ≡ 0
     → NoneNear (front ++ later) (length front) (length front + folded later)
     × (folded later < length later → StandsNearChange (front ++ later) (length front + folded later))
 

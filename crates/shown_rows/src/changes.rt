@@ -3,7 +3,8 @@ ghost use Rattle.std.specs.Prelude.{◌≡◌, ◌≤◌, ◌<◌, ◌^◌, List
 ghost use Rattle.uds_difference.specs.declared.row.Row.{Row};
 ghost use Rattle.shown_rows.specs.Changes.{begins_change, change, change_length, changes, run_length};
 
-use crate::rows::is_of;
+use crate::rows::{left_in, right_in};
+use std::marker::Model;
 use uds_difference::Row;
 
 /// A change: two items that changed, or a run of items that only one session has.
@@ -69,24 +70,79 @@ fn run_length(kind: Row, rows: &[Row]) -> usize
     ensures within { result ≤ length rows.now }
 {
     'rows: for k in 0..rows.len() {
-        if !is_of(kind, rows[k]) {
+        if kind != rows[k] {
             return k;
         }
     }
     rows.len()
 }
 
+/// The changes of rows, one after another, seen as those that it still gives.
+#[derive(Drop)]
+pub struct Changes<'a> {
+    /// The row in front of those that are left.
+    front: Row,
+    /// How many items of the left session stand before these.
+    left: usize,
+    /// How many of the right one.
+    right: usize,
+    /// The rows that are left.
+    rows: &'a [Row],
+}
+
+impl<'a> Model for Changes<'a> {
+    ghost use Rattle.std.specs.Prelude.{◌+◌, ◌<◌, ◌^◌, List, length};
+    ghost use Rattle.shown_rows.specs.declared.changes.Change.{Change};
+    ghost use Rattle.shown_rows.specs.Changes.{changes_from};
+
+    ghost Value = { List Change };
+
+    ghost view = { λ c. changes_from c.front c.left c.right c.rows.now };
+
+    ghost invariant = { λ c. (c.left + length c.rows.now < 2 ^ 63) × (c.right + length c.rows.now < 2 ^ 63) };
+}
+
+impl<'a> Changes<'a> {
+    /// The changes of all rows of two sessions.
+    pub fn of(rows: &'a [Row]) -> Changes<'a>
+        ensures { result ≡ changes rows.now }
+    {
+        Changes {
+            front: Row::Same,
+            left: 0,
+            right: 0,
+            rows,
+        }
+    }
+}
+
+impl<'a> Iterator for Changes<'a> {
+    type Item = Change;
+
+    ghost use Rattle.std.specs.Iterator.{YieldsFirst, item_count};
+
+    ghost next_gives = { YieldsFirst (λ changes. changes) };
+
+    ghost remaining = { item_count (λ changes. changes) };
+
+    fn next(&mut self) -> Option<Change> {
+        'rows: while let Some((row, later)) = self.rows.split_first() {
+            let change = change_at(self.front, self.left, self.right, self.rows);
+            self.front = *row;
+            self.left += left_in(*row);
+            self.right += right_in(*row);
+            self.rows = later;
+            if change.is_some() {
+                return change;
+            }
+        }
+        None
+    }
+}
+
 /// How many changes rows have.
 pub fn count_changes(rows: &[Row]) -> usize
     ensures { result ≡ length (changes rows.now) }
 {
-    let mut front = Row::Same;
-    let mut count: usize = 0;
-    'rows: for row in rows {
-        if begins_change(front, *row) {
-            count += 1;
-        }
-        front = *row;
-    }
-    count
+    Changes::of(rows).count()
 }

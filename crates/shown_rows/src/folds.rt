@@ -2,25 +2,26 @@
 ghost use Rattle.std.specs.Prelude.{◌≡◌, ◌≤◌, length};
 ghost use Rattle.shown_rows.specs.Folds as Spec;
 
-use crate::rows::{CONTEXT, changes_within, is_change};
+use crate::hunks::begins_hunk;
+use crate::rows::{CONTEXT, is_change};
 use uds_difference::Row;
 
-/// How many rows behind a row are shown, since a change stands before them, by how many more were before this row.
-pub fn context_behind(more: usize, row: Row) -> usize
-    ensures value { result ≡ Spec.context_behind more row }
+/// How many of the next rows are shown for a change before them, behind a row, by how many were in front of it.
+pub fn context_behind(still_shown: usize, row: Row) -> usize
+    ensures { result ≡ Spec.context_behind still_shown row }
 {
     if is_change(row) {
         CONTEXT
     } else {
-        more.saturating_sub(1)
+        still_shown.saturating_sub(1)
     }
 }
 
-/// Whether the first of these rows is shown, where so many more are since a change stands before them.
-pub fn is_shown(more: usize, rows: &[Row]) -> bool
-    ensures { result ≡ Spec.is_shown more rows.now }
+/// Whether the first of these rows is shown, where so many of the next are for a change before them.
+pub fn is_shown(still_shown: usize, rows: &[Row]) -> bool
+    ensures { result ≡ Spec.is_shown still_shown rows.now }
 {
-    more > 0 || changes_within(CONTEXT + 1, rows)
+    still_shown > 0 || begins_hunk(rows)
 }
 
 /// How many rows from the first of these on are folded together, behind one that is not shown or in front of all.

@@ -1,9 +1,16 @@
 //! The hunks of rows.
 ghost use Rattle.std.specs.Prelude.{◌≡◌, ◌≤◌, ◌<◌, length};
-ghost use Rattle.shown_rows.specs.Hunks.{hunk_length, rows_to_last_change};
+ghost use Rattle.shown_rows.specs.Hunks.{begins_hunk, hunk_length, rows_to_last_change};
 
 use crate::rows::{CONTEXT, changes_within};
 use uds_difference::Row;
+
+/// Whether a hunk begins with the first of these rows, behind one that stands in none.
+pub fn begins_hunk(rows: &[Row]) -> bool
+    ensures { result ≡ begins_hunk rows.now }
+{
+    changes_within(CONTEXT + 1, rows)
+}
 
 /// How many rows the hunk has that begins with the first of these.
 pub fn hunk_length(rows: &[Row]) -> usize

@@ -1,12 +1,7 @@
 //! What holds of any rows. Each law is its contract; a call does nothing.
-ghost use Rattle.shown_rows.specs.Laws.{ChangesHaveEachRow, ChangesStandAtTheirPlaces, CountsAddUp, FoldedRowsStandFar, HunksStandAtTheirPlaces, ShownRowsAreThoseOfHunks, ShownRowsStandInHunks, ShownRowsStandNearChanges};
+ghost use Rattle.shown_rows.specs.Laws.{ChangesHaveEachRow, ChangesStandAtTheirPlaces, CountsAddUp, FoldedRowsStandFar, HunksStandAtTheirPlaces, ShownRowsStandInHunks, ShownRowsStandNearChanges};
 
-/// What a page shows unfolded is what the hunks of a text have.
-pub fn shown_rows_are_those_of_hunks()
-    ensures { ShownRowsAreThoseOfHunks }
-{}
-
-/// The rows that are shown stand where those of the hunks do.
+/// What a page shows unfolded is what the hunks of a text have, each row where it stands there.
 pub fn shown_rows_stand_in_hunks()
     ensures { ShownRowsStandInHunks }
 {}

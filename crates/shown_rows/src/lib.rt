@@ -18,10 +18,7 @@ mod hunks;
 pub mod laws;
 mod rows;
 
-pub use changes::{Change, begins_change, change_at, count_changes};
+pub use changes::{Change, Changes, begins_change, change_at, count_changes};
 pub use folds::{context_behind, folded, is_shown};
-pub use hunks::hunk_length;
-pub use rows::{
-    CONTEXT, changes_within, count_of, differs, is_change, left_count, left_in, right_count,
-    right_in,
-};
+pub use hunks::{begins_hunk, hunk_length};
+pub use rows::{count_of, differs, is_change, left_count, left_in, right_count, right_in};

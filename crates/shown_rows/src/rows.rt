@@ -1,11 +1,11 @@
 //! The rows of two sessions: which are a change, and how many items they have of both.
 ghost use Rattle.std.specs.Prelude.{◌≡◌, ◌≤◌};
-ghost use Rattle.shown_rows.specs.Rows.{changes_within, count_of, differs, is_change, left_count, left_in, right_count, right_in, same_row};
+ghost use Rattle.shown_rows.specs.Rows.{changes_within, count_of, differs, is_change, left_count, left_in, right_count, right_in};
 
 use uds_difference::Row;
 
-/// How many rows that are the same are shown in front of a change, and behind one, as `diff -U3` has it.
-pub const CONTEXT: usize = 3;
+/// How many rows that are the same are shown in front of a change, and behind one, as `diff -u` has it.
+pub(crate) const CONTEXT: usize = 3;
 
 /// Whether what stands in a row is not the same in both sessions.
 pub fn is_change(row: Row) -> bool
@@ -62,7 +62,7 @@ pub fn right_count(rows: &[Row]) -> usize
 }
 
 /// Whether one of the first so many rows is a change.
-pub fn changes_within(count: usize, rows: &[Row]) -> bool
+pub(crate) fn changes_within(count: usize, rows: &[Row]) -> bool
     ensures { result ≡ changes_within count rows.now }
 {
     let seen = count.min(rows.len());
@@ -82,21 +82,14 @@ pub fn differs(rows: &[Row]) -> bool
 }
 
 /// How many rows are of this kind.
-pub fn count_of(kind: Row, rows: &[Row]) -> u64
+pub fn count_of(kind: Row, rows: &[Row]) -> usize
     ensures { result ≡ count_of kind rows.now }
 {
     let mut count = 0;
     'rows: for row in rows {
-        if is_of(kind, *row) {
+        if kind == *row {
             count += 1;
         }
     }
     count
-}
-
-/// Whether a row is of this kind.
-pub(crate) fn is_of(kind: Row, row: Row) -> bool
-    ensures { result ≡ same_row kind row }
-{
-    kind == row
 }

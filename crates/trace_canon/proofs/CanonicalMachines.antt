@@ -2,43 +2,23 @@
 use Rattle.std.proofs.Common.{◌≡◌, ℕ, List, [], ◌∷◌, ◌++◌, length, drop, ap, sym, subst, ◌∙◌, append-nil}
 use Rattle.std.proofs.Math.Seq.{drop-append_seam}
 use Rattle.direction.specs.Dir.{Message}
-use Rattle.direction.specs.declared.Dir.{Dir}
 use Rattle.isotp_receive.specs.declared.TheConstants.{MESSAGE_LIMIT}
 use Rattle.isotp_receive.specs.Trace.{Entry}
-use Rattle.isotp_receive.specs.Verdict.{EventValue, messages, told_message, verdict}
+use Rattle.isotp_receive.specs.Verdict.{messages}
 use Rattle.isotp_segment.specs.Timed.{all_frames}
 use Rattle.uds_exchange.specs.Order.{early}
-use Rattle.uds_exchange.specs.Judging.{sent}
-use Rattle.uds_exchange.specs.declared.judge.Judged.{Judged}
-use Rattle.trace_run.specs.proving.Completing.{CompletesJudged}
-use Rattle.uds_exchange.specs.Orderer.{IsHeld, JudgedOrdererValue, judged_orderer_after}
-use Rattle.trace_canon.specs.MemoryNeeded.{CompletesHeld}
-use Rattle.trace_canon.specs.FirstFrames.{CompletesMessage}
+use Rattle.uds_exchange.specs.Orderer.{JudgedOrdererValue, judged_orderer_after}
 use Rattle.trace_canon.specs.proving.CanonicalScript.{progress_behind, lines_due, StandsCanonical}
 use Rattle.trace_canon.specs.proving.Saying.{SaysDue}
 use Rattle.trace_log.specs.Settings.{Settings}
 use Rattle.trace_canon.specs.proving.Writing.{ProgressValue, start_of, text_from, progress_after}
 use Rattle.trace_canon.proofs.CanonicalWriting.{text_none, progress_append}
-use Rattle.trace_log.proofs.Promises.{messages_more, all_frames-append}
-
--- the messages of a trace with one more frame, by what it did
-pub messages_next : (T : List Entry) (e : Entry) (d : Dir) (event : EventValue) → e.dir ≡ d → event ≡ verdict MESSAGE_LIMIT T e
-    → messages MESSAGE_LIMIT (T ++ e ∷ []) ≡ messages MESSAGE_LIMIT T ++ told_message d event.verdict
-messages_next T e d event dir_is is =
-    sym (ap (λ v. messages MESSAGE_LIMIT T ++ told_message d v) (ap (λ (x : EventValue). x.verdict) is)
-    ∙ ap (λ x. messages MESSAGE_LIMIT T ++ told_message x (verdict MESSAGE_LIMIT T e).verdict) (sym dir_is) ∙ sym (messages_more MESSAGE_LIMIT T e))
-
--- a frame that completes a message, and one which is held
-pub completes_message : (T : List Entry) (e : Entry) (judged : Judged) → CompletesJudged T e judged → CompletesMessage MESSAGE_LIMIT T e
-completes_message T e judged completes = (judged.bytes.now, completes.did)
-
-pub completes_held : (T : List Entry) (e : Entry) (judged : Judged) → CompletesJudged T e judged → IsHeld (messages MESSAGE_LIMIT T) (sent judged) → CompletesHeld MESSAGE_LIMIT T e
-completes_held T e judged completes held =
-    (judged.bytes.now, completes.did, subst (λ d. IsHeld (messages MESSAGE_LIMIT T) (d, judged.bytes.now)) (sym completes.dir) held)
+use Rattle.trace_log.proofs.Promises.{all_frames-append}
 
 -- a message: what is due with it was said
 pub says_next : {S : Type 0} (says : S → List ℕ → S → Type 0) (settings config : Settings) (T : List Entry) (e : Entry) (message : Message)
-    (orderer orderer_now : JudgedOrdererValue) (progress progress_now : ProgressValue) (out out_now : S) → messages MESSAGE_LIMIT (T ++ e ∷ []) ≡ messages MESSAGE_LIMIT T ++ message ∷ []
+    (orderer orderer_now : JudgedOrdererValue) (progress progress_now : ProgressValue) (out out_now : S)
+    → messages MESSAGE_LIMIT (T ++ e ∷ []) ≡ messages MESSAGE_LIMIT T ++ message ∷ []
     → StandsCanonical settings T orderer config progress → orderer_now ≡ judged_orderer_after (messages MESSAGE_LIMIT T ++ message ∷ [])
     → SaysDue says config (messages MESSAGE_LIMIT T) message progress out progress_now out_now
     → StandsCanonical settings (T ++ e ∷ []) orderer_now config progress_now
@@ -46,15 +26,19 @@ pub says_next : {S : Type 0} (says : S → List ℕ → S → Type 0) (settings 
 says_next says settings config T e message orderer orderer_now progress progress_now out out_now next stood ordered (due, is_due, at, said) =
     let M = messages MESSAGE_LIMIT T in
     let longer : early (messages MESSAGE_LIMIT (T ++ e ∷ [])) ≡ early M ++ due = ap early next ∙ is_due in
-    let left : drop (length (early M)) (early (messages MESSAGE_LIMIT (T ++ e ∷ []))) ≡ due = ap (drop (length (early M))) longer ∙ drop-append_seam (early M) due in
+    let left : drop (length (early M)) (early (messages MESSAGE_LIMIT (T ++ e ∷ []))) ≡ due =
+    ap (drop (length (early M))) longer ∙ drop-append_seam (early M) due in
     let same = stood.same in
     let stood_at = stood.at in (
       record {
         ordered = ordered ∙ ap judged_orderer_after (sym next);
         same = same;
-        at = at ∙ ap (λ c. progress_after c progress (all_frames MESSAGE_LIMIT due)) same ∙ ap (λ p. progress_after settings p (all_frames MESSAGE_LIMIT due)) stood_at
+        at =
+            at ∙ ap (λ c. progress_after c progress (all_frames MESSAGE_LIMIT due)) same
+            ∙ ap (λ p. progress_after settings p (all_frames MESSAGE_LIMIT due)) stood_at
             ∙ sym (progress_append settings (start_of settings.max_bytes) (all_frames MESSAGE_LIMIT (early M)) (all_frames MESSAGE_LIMIT due))
-            ∙ ap (progress_after settings (start_of settings.max_bytes)) (sym (all_frames-append MESSAGE_LIMIT (early M) due)) ∙ ap (progress_behind settings) (sym longer);
+            ∙ ap (progress_after settings (start_of settings.max_bytes))
+            (sym (all_frames-append MESSAGE_LIMIT (early M) due)) ∙ ap (progress_behind settings) (sym longer);
       },
       subst (λ text. says out text out_now)
           (ap (λ c. text_from c progress (all_frames MESSAGE_LIMIT due)) same ∙ ap (λ p. text_from settings p (all_frames MESSAGE_LIMIT due)) stood_at
@@ -62,7 +46,8 @@ says_next says settings config T e message orderer orderer_now progress progress
     )
 
 -- no message: nothing is
-pub says_nothing_more : {S : Type 0} (says : S → List ℕ → S → Type 0) (nothing : (s : S) → says s [] s) (settings config : Settings) (T : List Entry) (e : Entry)
+pub says_nothing_more : {S : Type 0} (says : S → List ℕ → S → Type 0) (nothing : (s : S) → says s [] s)
+    (settings config : Settings) (T : List Entry) (e : Entry)
     (orderer : JudgedOrdererValue) (progress : ProgressValue) (out : S) → messages MESSAGE_LIMIT (T ++ e ∷ []) ≡ messages MESSAGE_LIMIT T
     → StandsCanonical settings T orderer config progress
     → StandsCanonical settings (T ++ e ∷ []) orderer config progress
@@ -72,7 +57,12 @@ says_nothing_more says nothing settings config T e orderer progress out next sto
     let same : messages MESSAGE_LIMIT (T ++ e ∷ []) ≡ M = next in
     let none : drop (length (early M)) (early (messages MESSAGE_LIMIT (T ++ e ∷ []))) ≡ [] =
     ap (λ x. drop (length (early M)) (early x)) same ∙ ap (drop (length (early M))) (sym (append-nil (early M))) ∙ drop-append_seam (early M) [] in (
-      record { ordered = stood.ordered ∙ ap judged_orderer_after (sym same); same = stood.same; at = stood.at ∙ ap (λ x. progress_behind settings (early x)) (sym same) },
+      record {
+        ordered = stood.ordered ∙ ap judged_orderer_after (sym same);
+        same = stood.same;
+        at = stood.at ∙ ap (λ x. progress_behind settings (early x)) (sym same);
+      },
       subst (λ text. says out text out)
-          (sym (ap (λ x. text_from settings (progress_behind settings (early M)) (all_frames MESSAGE_LIMIT x)) none ∙ text_none settings (progress_behind settings (early M)))) (nothing out),
+          (sym (ap (λ x. text_from settings (progress_behind settings (early M)) (all_frames MESSAGE_LIMIT x)) none
+          ∙ text_none settings (progress_behind settings (early M)))) (nothing out),
     )

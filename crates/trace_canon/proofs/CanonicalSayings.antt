@@ -48,12 +48,14 @@ module _ {S : Type 0} (says : S → List ℕ → S → Type 0) (nothing : (s : S
         progress = after.progress ∙ ap (λ c. progress_after c between.progress.now more) same ∙ ap (λ p. progress_after s.config p more) at
             ∙ sym (progress_append s.config s.progress.now first more);
         said = subst (λ x. says s.out.now x t.out.now) (sym (text_append s.config s.progress.now first more))
-            (onward s.out.now between.out.now t.out.now (text_from s.config s.progress.now first) (text_from s.config (progress_after s.config s.progress.now first) more) one.4
+            (onward s.out.now between.out.now t.out.now (text_from s.config s.progress.now first)
+            (text_from s.config (progress_after s.config s.progress.now first) more) one.4
             (subst (λ x. says between.out.now x t.out.now) here after.said));
       }
 
 -- a sink that never fails is no reason to stop
-pub never_stops : {K E Goal : Type 0} (after_ok : AfterOk K) (put : List Message) (s t : K) (why : OrderFault E) → StopsHeld after_ok (λ s d m e t. ⊥) put s t why → Goal
+never_stops : {K E Goal : Type 0} (after_ok : AfterOk K) (put : List Message) (s t : K) (why : OrderFault E)
+    → StopsHeld after_ok (λ s d m e t. ⊥) put s t why → Goal
 never_stops after_ok put s t order_fault.Memory stops = absurd stops
 never_stops after_ok put s t order_fault.Failed stops = absurd stops
 never_stops after_ok put s t (order_fault.Sink why) (front, next, rest, between, parts, puts, err) = absurd err
@@ -73,11 +75,13 @@ stops_for_memory after_ok M message s t order_fault.Memory stops by = by refl
 stops_for_memory after_ok M message s t order_fault.Failed stops by = absurd stops
 stops_for_memory after_ok M message s t (order_fault.Sink why) (due, is, (front, next, rest, between, parts, puts, err)) by = absurd err
 
-never_fails : {K E Goal : Type 0} (after_ok : AfterOk K) (s t : K) (why : E) → (due : List Message) × Fails after_ok (λ s d m e t. ⊥) s due why t → Goal
+never_fails : {K E Goal : Type 0} (after_ok : AfterOk K) (s t : K) (why : E) → (due : List Message)
+    × Fails after_ok (λ s d m e t. ⊥) s due why t → Goal
 never_fails after_ok s t why (due, (front, next, rest, between, parts, puts, err)) = absurd err
 
 -- and whatever was judged of the message, the sink is as before
-pub stays_where_it_stops : {K E : Type 0} (after_ok : AfterOk K) (s t : K) (why : OrderFault E) → (why ≡ order_fault.Memory → t ≡ s) → (why ≡ order_fault.Failed → t ≡ s)
+pub stays_where_it_stops : {K E : Type 0} (after_ok : AfterOk K) (s t : K) (why : OrderFault E)
+    → (why ≡ order_fault.Memory → t ≡ s) → (why ≡ order_fault.Failed → t ≡ s)
     → ((e : E) → why ≡ order_fault.Sink e → (due : List Message) × Fails after_ok (λ s d m e t. ⊥) s due e t) → t ≡ s
 stays_where_it_stops after_ok s t order_fault.Memory memory failed sink = memory refl
 stays_where_it_stops after_ok s t order_fault.Failed memory failed sink = failed refl

@@ -9,13 +9,15 @@ use Rattle.trace_canon.specs.proving.Measuring.{HaveLengths, fits_within}
 use Rattle.trace_canon.proofs.Lengths.{log_has_length}
 
 -- items of this size fit, where that is within the limit
-pub fits_so : (settings : Settings) (items : List ItemValue) (size : ℕ) → HaveLengths settings (flattened items) size → size ≤ settings.max_bytes → fits_within settings items ≡ true
+fits_so : (settings : Settings) (items : List ItemValue) (size : ℕ) → HaveLengths settings (flattened items) size
+    → size ≤ settings.max_bytes → fits_within settings items ≡ true
 fits_so settings items size have within =
     let long = log_has_length settings (flattened items) size have in
     le-leb _ settings.max_bytes (omega (arith, long))
 
 -- and else do not
-fits_not : (settings : Settings) (items : List ItemValue) (size : ℕ) → HaveLengths settings (flattened items) size → settings.max_bytes < size → fits_within settings items ≡ false
+fits_not : (settings : Settings) (items : List ItemValue) (size : ℕ) → HaveLengths settings (flattened items) size
+    → settings.max_bytes < size → fits_within settings items ≡ false
 fits_not settings items size have over =
     let long = log_has_length settings (flattened items) size have in
     lt-leb _ settings.max_bytes (omega (arith, long))
@@ -35,7 +37,8 @@ module _ (settings : Settings) where
   module _ (M : List Message) (message : Message) where
     -- with one more, where what is kept is within the limit
     pub collects_more : (items : List ItemValue) (known : ℕ) (size : ℕ) → HaveLengths settings (flattened (meaning (M ++ message ∷ []))) size
-        → items ≡ meaning (M ++ message ∷ []) → known ≡ size → size ≤ settings.max_bytes → (config : Settings) → config ≡ settings → Collects settings (M ++ message ∷ []) items known config
+        → items ≡ meaning (M ++ message ∷ []) → known ≡ size → size ≤ settings.max_bytes → (config : Settings)
+        → config ≡ settings → Collects settings (M ++ message ∷ []) items known config
     collects_more items known size have is known_is within config same = record {
       same = same;
       size = size;
@@ -47,7 +50,8 @@ module _ (settings : Settings) where
 
     -- or no longer is
     pub collects_no_more : (items : List ItemValue) (known : ℕ) (size : ℕ) → HaveLengths settings (flattened (meaning (M ++ message ∷ []))) size
-        → items ≡ [] → settings.max_bytes < known → settings.max_bytes < size → (config : Settings) → config ≡ settings → Collects settings (M ++ message ∷ []) items known config
+        → items ≡ [] → settings.max_bytes < known → settings.max_bytes < size → (config : Settings) → config ≡ settings
+        → Collects settings (M ++ message ∷ []) items known config
     collects_no_more items known size have is known_over over config same = record {
       same = same;
       size = size;
@@ -72,9 +76,6 @@ module _ (settings : Settings) where
       | inr fits ↦ absurd (omega (arith, (kept.all fits).1, fits, over))
     ]
 
-    -- what is answered of it
-    pub fits_then : known ≤ settings.max_bytes → fits_within settings (meaning M) ≡ true
-    fits_then within = let all = keeps_all within in fits_so settings (meaning M) kept.size kept.measured all.2
-
-    pub fits_not_then : settings.max_bytes < known → fits_within settings (meaning M) ≡ false
-    fits_not_then over = fits_not settings (meaning M) kept.size kept.measured (keeps_none over).1
+    -- so it does not fit
+    pub no_longer_fits : settings.max_bytes < known → fits_within settings (meaning M) ≡ false
+    no_longer_fits over = fits_not settings (meaning M) kept.size kept.measured (keeps_none over).1

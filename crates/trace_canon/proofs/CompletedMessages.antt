@@ -1,19 +1,39 @@
--- A log that means something has a frame that completes a message.
+-- A frame that completes a message: one of which a machine is told, and that a log which means something has one.
 use Rattle.std.proofs.Common.{◌≡◌, ◌≢◌, ℕ, List, [], ◌∷◌, ◌++◌, Option, Some, None, inr, refl, ap, sym, subst, ◌∙◌, append-nil, append_assoc}
 use Rattle.direction.specs.Dir.{Message}
 use Rattle.direction.specs.declared.Dir.{Dir}
 use Rattle.can_log.proofs.Promises.{lines_mean_one_more}
 use Rattle.can_log.specs.Log.{log_lines, LinesMean}
 use Rattle.can_log.specs.declared.frame.Stamped.{Stamped}
+use Rattle.isotp_receive.specs.declared.TheConstants.{MESSAGE_LIMIT}
 use Rattle.isotp_receive.specs.Trace.{Entry}
 use Rattle.isotp_receive.specs.Verdict.{VerdictValue, message, began, stored, flowed, dropped, messages, told_message, verdict}
+use Rattle.uds_exchange.specs.Judging.{sent}
 use Rattle.uds_exchange.specs.Meaning.{ItemValue, meaning}
+use Rattle.uds_exchange.specs.declared.judge.Judged.{Judged}
 use Rattle.trace_log.proofs.Promises.{messages_more, trace_next, trace_same_blank, trace_same_foreign}
 use Rattle.trace_log.specs.Messages.{HasMeaning}
 use Rattle.trace_log.specs.Settings.{Settings, direction_of}
 use Rattle.trace_log.specs.Trace.{trace, trace_from}
 use Rattle.trace_log.specs.proving.Receiving.{entry_in}
-use Rattle.trace_canon.specs.MemoryNeeded.{NeedsMemoryToCollect}
+use Rattle.trace_run.proofs.Promises.{CompletesJudged}
+use Rattle.trace_canon.specs.FirstFrames.{CompletesMessage}
+use Rattle.trace_canon.specs.MemoryNeeded.{CompletesSuch, NeedsMemoryToCollect}
+
+-- a frame that completes a message
+pub completes_message : (T : List Entry) (e : Entry) (judged : Judged) → CompletesJudged T e judged
+    → CompletesMessage MESSAGE_LIMIT T e
+completes_message T e judged completes = (judged.bytes.now, completes.did)
+
+-- one that completes a message which is such behind those before, as one that is held, or kept
+pub completes_such : (IsSuch : List Message → Message → Type 0) (T : List Entry) (e : Entry) (judged : Judged)
+    → CompletesJudged T e judged → IsSuch (messages MESSAGE_LIMIT T) (sent judged)
+    → CompletesSuch IsSuch MESSAGE_LIMIT T e
+completes_such IsSuch T e judged completes such = (
+  judged.bytes.now,
+  completes.did,
+  subst (λ d. IsSuch (messages MESSAGE_LIMIT T) (d, judged.bytes.now)) (sym completes.dir) such,
+)
 
 module _ (limit : ℕ) (settings : Settings) where
   -- the messages are the same behind a frame that tells none
@@ -30,10 +50,12 @@ module _ (limit : ℕ) (settings : Settings) where
     Needs = NeedsMemoryToCollect limit settings log
 
     -- the next frame completes a message, or the messages are the same behind it
-    completed_or_on : (before later : List (List ℕ)) (line : List ℕ) (past : List (Option Stamped)) (stamped : Stamped) (d : Dir) → log_lines log ≡ (before ++ line ∷ []) ++ later
+    completed_or_on : (before later : List (List ℕ)) (line : List ℕ) (past : List (Option Stamped)) (stamped : Stamped)
+        (d : Dir) → log_lines log ≡ (before ++ line ∷ []) ++ later
         → LinesMean (before ++ line ∷ []) (past ++ Some stamped ∷ []) → Some d ≡ direction_of settings stamped.frame.id
         → (messages limit (trace settings (past ++ Some stamped ∷ [])) ≡ messages limit (trace settings past) → Needs) → Needs
-    completed_or_on before later line past stamped d parts means is on = by (verdict limit (trace settings past) (entry_in past stamped d)).verdict refl
+    completed_or_on before later line past stamped d parts means is on =
+        by (verdict limit (trace settings past) (entry_in past stamped d)).verdict refl
       where
         by : (told : VerdictValue) → told ≡ (verdict limit (trace settings past) (entry_in past stamped d)).verdict → Needs
         by (message bytes) told = record {
@@ -50,7 +72,8 @@ module _ (limit : ℕ) (settings : Settings) where
         by (dropped reason) told = on (no_message_more past stamped d is (ap (told_message d) (sym told)))
 
     -- the next line has such a frame, or the messages are the same behind it
-    line_or_on : (before later : List (List ℕ)) (line : List ℕ) (past : List (Option Stamped)) (what : Option Stamped) → log_lines log ≡ (before ++ line ∷ []) ++ later
+    line_or_on : (before later : List (List ℕ)) (line : List ℕ) (past : List (Option Stamped)) (what : Option Stamped)
+        → log_lines log ≡ (before ++ line ∷ []) ++ later
         → LinesMean (before ++ line ∷ []) (past ++ what ∷ [])
         → (messages limit (trace settings (past ++ what ∷ [])) ≡ messages limit (trace settings past) → Needs) → Needs
     line_or_on before later line past None parts means on = on (ap (messages limit) (trace_same_blank settings past None refl))
@@ -60,9 +83,12 @@ module _ (limit : ℕ) (settings : Settings) where
         by None is = on (ap (messages limit) (trace_same_foreign settings past (Some stamped) stamped refl is))
         by (Some d) is = completed_or_on before later line past stamped d parts means is on
 
-    completed_behind : (before later : List (List ℕ)) (past meanings : List (Option Stamped)) → log_lines log ≡ before ++ later → LinesMean before past → LinesMean later meanings
+    -- so it is of all lines behind those without messages
+    completed_behind : (before later : List (List ℕ)) (past meanings : List (Option Stamped))
+        → log_lines log ≡ before ++ later → LinesMean before past → LinesMean later meanings
         → messages limit (trace settings past) ≡ [] → messages limit (trace settings (past ++ meanings)) ≢ [] → Needs
-    completed_behind before [] past [] parts means rest none some = absurd (some (ap (λ (l : List (Option Stamped)). messages limit (trace settings l)) (append-nil past) ∙ none))
+    completed_behind before [] past [] parts means rest none some =
+        absurd (some (ap (λ (l : List (Option Stamped)). messages limit (trace settings l)) (append-nil past) ∙ none))
     completed_behind before [] past (what ∷ meanings) parts means rest none some = absurd rest
     completed_behind before (line ∷ later) past [] parts means rest none some = absurd rest
     completed_behind before (line ∷ later) past (what ∷ meanings) parts means rest none some =
@@ -75,4 +101,6 @@ module _ (limit : ℕ) (settings : Settings) where
     -- memory is needed to collect the items of a log that has one
     pub collects_where_items : (items : List ItemValue) → HasMeaning limit settings log items → items ≢ [] → Needs
     unfolding trace_from
-    collects_where_items items has some = completed_behind [] (log_lines log) [] has.meanings refl tt has.means refl (λ none. some (has.found ∙ ap meaning none))
+    collects_where_items items has some =
+        completed_behind [] (log_lines log) [] has.meanings refl tt has.means refl
+        (λ none. some (has.found ∙ ap meaning none))

@@ -11,7 +11,8 @@ in_order : (a b c d e f g : List ℕ) → a ++ b ++ c ++ d ++ e ++ f ++ g ≡ a 
 in_order a b c d e f g = simp append_assoc
 
 -- as an object
-pub object_is : (line : CreditLine) (notation : Notation) (tester unit : List ℕ) → notation ≡ Json → tester ≡ line.tester.items → unit ≡ line.unit.items
+pub object_is : (line : CreditLine) (notation : Notation) (tester unit : List ℕ) → notation ≡ Json
+    → tester ≡ line.tester.items → unit ≡ line.unit.items
     → codes "{\"credits\":" ++ decimal line.credits ++ codes ",\"tester\":\"" ++ tester ++ codes "\",\"unit\":\"" ++ unit ++ codes "\"}\n"
     ≡ credit_line_text notation line
 object_is line notation tester unit is tester_is unit_is =

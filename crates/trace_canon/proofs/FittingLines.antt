@@ -14,7 +14,8 @@ module _ (settings : Settings) where
   lines_of progress frames = ended_lines (canonical_lines settings progress.lines frames)
 
   lines_step : (progress : ProgressValue) (frame : Dir × List ℕ) (later : List (Dir × List ℕ))
-      → lines_of progress (frame ∷ later) ≡ line_at settings progress.lines frame ++ lines_of (after_line progress (line_at settings progress.lines frame)) later
+      → lines_of progress (frame ∷ later)
+      ≡ line_at settings progress.lines frame ++ lines_of (after_line progress (line_at settings progress.lines frame)) later
   unfolding canonical_lines
   lines_step progress frame later = refl
 
@@ -23,7 +24,8 @@ module _ (settings : Settings) where
   lines_none progress = refl
 
   -- a line did not fit
-  pub over_when : (progress : ProgressValue) (frames : List (Dir × List ℕ)) → progress.is_full ≡ false → (progress_after settings progress frames).is_full ≡ true
+  pub over_when : (progress : ProgressValue) (frames : List (Dir × List ℕ)) → progress.is_full ≡ false
+      → (progress_after settings progress frames).is_full ≡ true
       → progress.room < length (lines_of progress frames)
   over_when progress [] before over = absurd (cc (progress_none settings progress))
   over_when progress (frame ∷ later) before over =
@@ -38,7 +40,8 @@ module _ (settings : Settings) where
       ]
 
   -- all fit
-  pub within_when : (progress : ProgressValue) (frames : List (Dir × List ℕ)) → progress.is_full ≡ false → (progress_after settings progress frames).is_full ≡ false
+  pub within_when : (progress : ProgressValue) (frames : List (Dir × List ℕ)) → progress.is_full ≡ false
+      → (progress_after settings progress frames).is_full ≡ false
       → (length (lines_of progress frames) ≤ progress.room) × (text_from settings progress frames ≡ lines_of progress frames)
   within_when progress [] before within =
       let len = ap length (lines_none progress) in

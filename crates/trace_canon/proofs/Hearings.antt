@@ -1,11 +1,12 @@
 -- What was heard of the lines of a log, and what is answered of it.
-use Rattle.std.proofs.Common.{◌≡◌, ◌≢◌, ℕ, ◌+◌, ◌^◌, ◌<◌, ◌≤◌, Bool, false, List, [], ◌∷◌, ◌++◌, length, take, drop, arith, refl, ap, sym, subst, ◌∙◌, Option, Some, None, Result, Ok, Err, inl, inr, append-nil, length-append, length-take}
+use Rattle.std.proofs.Common.{◌≡◌, ◌≢◌, ℕ, ◌+◌, ◌^◌, ◌<◌, ◌≤◌, Bool, List, [], ◌∷◌, ◌++◌, length, take, drop, arith}
+use Rattle.std.proofs.Common.{refl, ap, sym, subst, ◌∙◌, Option, Some, None, Result, Ok, Err, inl, inr, append-nil}
+use Rattle.std.proofs.Common.{length-append, length-take}
 use Rattle.std.proofs.lemmas.List.{take-append-drop}
 use Rattle.std.specs.Prelude.{IfOk, IfErr}
 use Rattle.can_log.specs.Frame.{FrameValue}
 use Rattle.can_log.specs.Log.{LogMeans}
 use Rattle.can_log.specs.declared.frame.Stamped.{Stamped}
-use Rattle.isotp_receive.specs.declared.TheConstants.{MESSAGE_LIMIT}
 use Rattle.trace_log.specs.declared.fault.Fault.{Fault}
 use Rattle.trace_log.specs.declared.fault.Fault.TheVariants as fault
 use Rattle.trace_canon.specs.declared.hearer.FoundCreditLines.{FoundCreditLines}
@@ -16,7 +17,7 @@ use Rattle.trace_canon.specs.CreditLines.{frames_in}
 use Rattle.trace_log.specs.Settings.{Settings}
 use Rattle.trace_log.specs.Feeding.{FeedsLog, FeedsSome, Took, Stopped, StopsWithin}
 use Rattle.trace_canon.specs.proving.Hearing.{HasHeard}
-use Rattle.trace_run.specs.Ran.{IsUnreadFor}
+use Rattle.trace_run.specs.Ran.{CantBeRead}
 use Rattle.uds_find.specs.Credit.{HasCredit, IsFirstCredit}
 use Rattle.uds_find.specs.Finding.{FinderValue, StandsAfter}
 use Rattle.uds_find.proofs.Promises.{first_credit_is_credit}
@@ -55,19 +56,24 @@ module _ (meanings : List (Option Stamped)) (what : Option Stamped) where
       record { stands = subst (λ frames. StandsAfter frames finder) (sym (frames_blank is)) heard.stands; counted = counted_more line number }
 
   -- one with a frame
-  pub heard_frame : (stamped : Stamped) (old new : FinderValue) (lines line : ℕ) → what ≡ Some stamped → line ≡ length meanings + 1 → length meanings < 2 ^ 62
+  pub heard_frame : (stamped : Stamped) (old new : FinderValue) (lines line : ℕ) → what ≡ Some stamped
+      → line ≡ length meanings + 1 → length meanings < 2 ^ 62
       → ((frames : List FrameValue) → length frames < 2 ^ 62 → StandsAfter frames old → StandsAfter (frames ++ stamped.frame ∷ []) new)
       → HasHeard meanings old lines → HasHeard (meanings ++ what ∷ []) new line
   heard_frame stamped old new lines line is number few takes heard = record {
-    stands = subst (λ frames. StandsAfter frames new) (sym (frames_more stamped is)) (takes (frames_in meanings) (omega (arith, few, few_frames meanings)) heard.stands);
+    stands =
+        subst (λ frames. StandsAfter frames new) (sym (frames_more stamped is))
+        (takes (frames_in meanings) (omega (arith, few, few_frames meanings)) heard.stands);
     counted = counted_more line number;
   }
 
   -- one that needs memory
   pub heard_first : (stamped : Stamped) (old : FinderValue) (lines : ℕ) → what ≡ Some stamped
-      → ((frames : List FrameValue) → StandsAfter frames old → IsFirstCredit frames stamped.frame) → HasHeard meanings old lines → HasCredit (frames_in (meanings ++ what ∷ []))
+      → ((frames : List FrameValue) → StandsAfter frames old → IsFirstCredit frames stamped.frame)
+      → HasHeard meanings old lines → HasCredit (frames_in (meanings ++ what ∷ []))
   heard_first stamped old lines is needs heard =
-      subst HasCredit (sym (frames_more stamped is)) (first_credit_is_credit (frames_in meanings) stamped.frame (needs (frames_in meanings) heard.stands))
+      subst HasCredit (sym (frames_more stamped is))
+      (first_credit_is_credit (frames_in meanings) stamped.frame (needs (frames_in meanings) heard.stands))
 
 -- ---- a whole log
 
@@ -86,33 +92,38 @@ StoppedHeard s meanings what why t = HasHeard [] s.0.finder s.0.lines → (why �
 
 module _ (settings : Settings) (log : List ℕ) (given : ℕ) (start now : Heard) (begun : HasHeard [] start.0.finder start.0.lines) where
   -- why it was not read to its end
-  pub heard_fault : (m : ℕ) (why : Fault) → m ≡ settings.max_bytes → FeedsLog TookHeard TookHeard BrokeHeard StoppedHeard start m log given (Err why) now → IsUnreadFor false MESSAGE_LIMIT settings log why
-  heard_fault m (fault.BadLine line column) is (meanings, taken, inl (few, refuses)) =
+  pub heard_fault : (most : ℕ) (why : Fault) → most ≡ settings.max_bytes
+      → FeedsLog TookHeard TookHeard BrokeHeard StoppedHeard start most log given (Err why) now → CantBeRead settings log why
+  heard_fault most (fault.BadLine line column) is (meanings, taken, inl (few, refuses)) =
       bad_counts settings log line column meanings given (bad_in_front log given line column meanings refuses) (omega (arith, is, few))
-  heard_fault m (fault.BadLine line column) is (meanings, taken, inr (short, all, behind)) =
+  heard_fault most (fault.BadLine line column) is (meanings, taken, inr (short, all, behind)) =
       bad_counts settings log line column meanings (length log) (bad_at_end log line column meanings behind) (omega (arith, is, short))
-  heard_fault m fault.LogLimit is (meanings, taken, long, come, (standing, stands)) = (
-    no_place_counts settings log (take m log) (drop m log) meanings standing stands (sym (take-append-drop m log)) (omega (arith, is, long, length-take m log)) (omega (arith, is, long)),
+  heard_fault most fault.LogLimit is (meanings, taken, long, come, (standing, stands)) = (
+    no_place_counts settings log (take most log) (drop most log) meanings standing stands (sym (take-append-drop most log))
+        (omega (arith, is, long, length-take most log)) (omega (arith, is, long)),
     omega (arith, is, long),
   )
-  heard_fault m (fault.Oversize line announced) is (meanings, what, halted, place) = absurd (cc ((halted begun).0))
-  heard_fault m fault.OutputLimit is never = absurd never
-  heard_fault m fault.Memory is halted = tt
-  heard_fault m fault.Read is taken = tt
-  heard_fault m fault.Write is taken = tt
+  heard_fault most (fault.Oversize line announced) is (meanings, what, stops, place) = absurd (cc ((stops begun).0))
+  heard_fault most fault.OutputLimit is never = absurd never
+  heard_fault most fault.Memory is stops = tt
+  heard_fault most fault.Read is taken = tt
+  heard_fault most fault.Write is taken = tt
 
   -- where memory was refused
-  pub heard_need : (m : ℕ) (why : Fault) → m ≡ settings.max_bytes → FeedsLog TookHeard TookHeard BrokeHeard StoppedHeard start m log given (Err why) now → why ≡ fault.Memory
+  pub heard_need : (most : ℕ) (why : Fault) → most ≡ settings.max_bytes
+      → FeedsLog TookHeard TookHeard BrokeHeard StoppedHeard start most log given (Err why) now → why ≡ fault.Memory
       → NeedsMemoryToFind log
-  heard_need m why is feeds refused = by (subst (λ f. FeedsLog TookHeard TookHeard BrokeHeard StoppedHeard start m log given (Err f) now) refused feeds)
+  heard_need most why is feeds refused =
+      by (subst (λ f. FeedsLog TookHeard TookHeard BrokeHeard StoppedHeard start most log given (Err f) now) refused feeds)
     where
-      by : FeedsLog TookHeard TookHeard BrokeHeard StoppedHeard start m log given (Err fault.Memory) now → NeedsMemoryToFind log
-      by (meanings, what, halted, place) =
+      by : FeedsLog TookHeard TookHeard BrokeHeard StoppedHeard start most log given (Err fault.Memory) now → NeedsMemoryToFind log
+      by (meanings, what, stops, place) =
           let within = subst (λ k. StopsWithin k log given meanings what) is place in
-          (meanings ++ what ∷ [], begins_with_lines settings log given meanings what within, (halted begun).1)
+          (meanings ++ what ∷ [], begins_with_lines settings log given meanings what within, (stops begun).1)
 
 -- nothing is written, so writing does not fail
-pub heard_unwritten : (why : Fault) (start now : Heard) → FeedsSome TookHeard TookHeard BrokeHeard StoppedHeard start {A = Bool} (Err why) now → why ≢ fault.Write
+pub heard_unwritten : (why : Fault) (start now : Heard)
+    → FeedsSome TookHeard TookHeard BrokeHeard StoppedHeard start {A = Bool} (Err why) now → why ≢ fault.Write
 heard_unwritten why start now feeds is = by (subst (λ f. FeedsSome TookHeard TookHeard BrokeHeard StoppedHeard start {A = Bool} (Err f) now) is feeds)
   where
     by : FeedsSome TookHeard TookHeard BrokeHeard StoppedHeard start {A = Bool} (Err fault.Write) now → ⊥
@@ -120,13 +131,17 @@ heard_unwritten why start now feeds is = by (subst (λ f. FeedsSome TookHeard To
 
 -- ---- the end
 
-module _ (settings : Settings) (log : List ℕ) (meanings : List (Option Stamped)) (short : length log ≤ settings.max_bytes) (means : LogMeans log meanings) where
-  pub heard_end : (result : Result FoundCreditLines Fault) → IfOk result (λ found. IsFoundOf log meanings found.credit_lines.items found.summary) → IfErr result (λ why. why ≡ fault.Memory)
+module _ (settings : Settings) (log : List ℕ) (meanings : List (Option Stamped)) (short : length log ≤ settings.max_bytes)
+    (means : LogMeans log meanings) where
+  pub heard_end : (result : Result FoundCreditLines Fault)
+      → IfOk result (λ found. IsFoundOf log meanings found.credit_lines.items found.summary)
+      → IfErr result (λ why. why ≡ fault.Memory)
       → GivesFound settings log result
   heard_end (Ok found) is none = (meanings, (short, means), is)
-  heard_end (Err why) none is = subst (IsUnreadFor false MESSAGE_LIMIT settings log) (sym is) tt
+  heard_end (Err why) none is = subst (CantBeRead settings log) (sym is) tt
 
-  pub heard_end_need : (result : Result FoundCreditLines Fault) → IfErr result (λ why. HasCredit (frames_in meanings)) → result ≡ Err fault.Memory → NeedsMemoryToFind log
+  pub heard_end_need : (result : Result FoundCreditLines Fault) → IfErr result (λ why. HasCredit (frames_in meanings))
+      → result ≡ Err fault.Memory → NeedsMemoryToFind log
   heard_end_need (Ok found) needs is = absurd (cc is)
   heard_end_need (Err why) needs is = (meanings, all_begin log meanings means, needs)
 

@@ -1,5 +1,6 @@
 -- What calls over devices answer, where the log lies in memory and the text is gathered there.
-use Rattle.std.proofs.Common.{◌≡◌, ◌≢◌, ◌⊎◌, inl, inr, ℕ, ◌+◌, ◌<◌, true, false, List, [], ◌++◌, length, append-nil, Some, Result, Ok, Err, arith, refl, ap, sym, subst, ◌∙◌}
+use Rattle.std.proofs.Common.{◌≡◌, ◌≢◌, ◌⊎◌, inl, inr, ℕ, ◌+◌, ◌<◌, true, false, List, [], ◌++◌, length, append-nil}
+use Rattle.std.proofs.Common.{Some, Result, Ok, Err, arith, refl, ap, sym, subst, ◌∙◌}
 use Rattle.std.specs.Io.KnownBytes.{IsAtEnd}
 use Rattle.std.specs.Prelude.{MatchResult, IfErr}
 use Rattle.isotp_receive.specs.Trace.{Entry}
@@ -18,7 +19,9 @@ use Rattle.trace_log.specs.declared.summary.Summary.{Summary}
 use Rattle.trace_log.specs.Answers.{Answers, TellsOutcome}
 use Rattle.trace_canon.specs.Sessions.{GivesMeaning}
 use Rattle.trace_log.specs.Failing.{FailedIf}
-use Rattle.trace_canon.specs.InMemory.{IsOfMemory, HasBytes, IsRefused, IsUnread, IsCanonicalLogWith, IsSaidWith, NeedsMemoryForCanonicalLog, NeedsMemoryForMessageLines, MeansInMemory, ComparesWithCounts, counted_comparison, fault_in_memory}
+use Rattle.trace_canon.specs.InMemory.{IsOfMemory, HasBytes, IsRefused, IsUnread, IsCanonicalLogWith, IsSaidWith}
+use Rattle.trace_canon.specs.InMemory.{NeedsMemoryForCanonicalLog, NeedsMemoryForMessageLines, MeansInMemory}
+use Rattle.trace_canon.specs.InMemory.{ComparesWithCounts, counted_comparison, fault_in_memory}
 use Rattle.trace_log.specs.CanonicalLog.{canonical_log_of_lines}
 use Rattle.trace_log.specs.Needing.{HasTextOf}
 use Rattle.trace_log.specs.Outcome.{Accepted, IsOutcome}
@@ -26,52 +29,124 @@ use Rattle.trace_canon.specs.MemoryNeeded.{NeedsMemoryToCollect, NeedsMemoryToOr
 use Rattle.trace_canon.specs.MessagesScript.{messages_script}
 use Rattle.trace_canon.specs.WrittenAtEnd.{LeavesAtEnd, TextOfLog, WritesAtEnd}
 use Rattle.trace_log.specs.Settings.{Settings}
-use Rattle.trace_run.specs.Script.{Needing, RefusalText, answers_counts, command, needs_none, says_no_refusal, said_of_lines, whole_of_lines}
-use Rattle.trace_run.specs.proving.Scripts.{lenient}
-use Rattle.trace_run.specs.Ran.{IsUnreadFor, AnswersAndWrites, FailsToWrite}
+use Rattle.trace_run.specs.Script.{Command, Needing, RefusalText, answers_counts, command, needs_none, says_no_refusal}
+use Rattle.trace_run.specs.Script.{Script, said_of_lines, whole_of_lines}
+use Rattle.trace_run.specs.Ran.{AnswersAndWrites, CantBeRead, FailsToWrite}
 use Rattle.trace_run.proofs.Promises.{unread_for}
 use Rattle.trace_text.specs.declared.notation.Notation.{Notation}
 use Rattle.trace_log.proofs.Promises.{all_begin}
+
+-- ---- what the devices did
 
 -- bytes of which none was read
 abbrev pub unread : List ℕ → BytesInMemory
 unread log = record { rest = log; reads = 0; is_over = false; given = [] }
 
 -- what was read of them agrees with them
-pub agrees_in_memory : (log : List ℕ) (before after : BytesInMemory) → before ≡ unread log → Gave before.given after.given (Some before.rest) (Some after.rest)
+pub agrees_in_memory : (log : List ℕ) (before after : BytesInMemory) → before ≡ unread log
+    → Gave before.given after.given (Some before.rest) (Some after.rest)
     → ((before.is_over ≡ true → IsAtEnd (Some before.rest)) → after.is_over ≡ true → IsAtEnd (Some after.rest))
     → Agrees before.given after.given after.is_over log
 agrees_in_memory log before after is =
     subst (λ (b : BytesInMemory). Gave b.given after.given (Some b.rest) (Some after.rest)
-    → ((b.is_over ≡ true → IsAtEnd (Some b.rest)) → after.is_over ≡ true → IsAtEnd (Some after.rest)) → Agrees b.given after.given after.is_over log) (sym is)
-    (λ gave ended. agrees_with_told [] after.given log after.is_over (Some after.rest) gave (ended (λ wrong. absurd (cc wrong))))
+    → ((b.is_over ≡ true → IsAtEnd (Some b.rest)) → after.is_over ≡ true → IsAtEnd (Some after.rest))
+    → Agrees b.given after.given after.is_over log) (sym is)
+    (λ gave ended.
+    agrees_with_told [] after.given log after.is_over (Some after.rest) gave (ended (λ wrong. absurd (cc wrong))))
 
--- where nothing was gathered before, what is held is what was taken
-pub taken_is_held : {taken held old before : List ℕ} → old ≡ [] → before ≡ [] → Took old taken (Some before) (Some held) → taken ≡ held
-taken_is_held {held = held} {old = old} {before = before} old_is before_is took =
+-- where nothing was gathered before, what is gathered is what was taken
+pub taken_is_gathered : {taken gathered old before : List ℕ} → old ≡ [] → before ≡ []
+    → Took old taken (Some before) (Some gathered) → taken ≡ gathered
+taken_is_gathered {gathered = gathered} {old = old} {before = before} old_is before_is took =
     took.grown ∙ ap (λ xs. xs ++ took.bytes) (old_is ∙ sym before_is) ∙ sym took.held
+
+-- A call that answers so read this log, which lies in memory, and what it wrote was gathered there as this text.
+pub record RanInMemory {A : Type 0} (log text : List ℕ) (before after : BytesInMemory) (old taken : List ℕ)
+    (answer : Result A Fault) : Type 0 where
+  pub agrees : Agrees before.given after.given after.is_over log
+  pub blank : old ≡ []
+  pub gathered : taken ≡ text
+  pub read : FailedIf Read answer 0 0
+
+-- so it is, by what is known of its devices
+pub ran_in_memory : {A : Type 0} (answer : Result A Fault) (log text : List ℕ) (before after : BytesInMemory)
+    {old taken held held_now : List ℕ} → before ≡ unread log
+    → Gave before.given after.given (Some before.rest) (Some after.rest)
+    → ((before.is_over ≡ true → IsAtEnd (Some before.rest)) → after.is_over ≡ true → IsAtEnd (Some after.rest))
+    → FailedIf Read answer 0 0 → old ≡ [] → held ≡ [] → Took old taken (Some held) (Some held_now) → held_now ≡ text
+    → RanInMemory log text before after old taken answer
+ran_in_memory answer log text before after is gave ended failed old_is held_is took text_is = record {
+  agrees = agrees_in_memory log before after is gave ended;
+  blank = old_is;
+  gathered = taken_is_gathered old_is held_is took ∙ text_is;
+  read = failed;
+}
 
 -- no read of memory fails
 pub reads_well : {A E : Type 0} {read : E} {answer : Result A E} → FailedIf read answer 0 0 → answer ≢ Err read
 reads_well failed is = let rose : 0 ≡ 0 + 1 = failed.risen is in absurd (omega (arith, rose))
 
+-- ---- what is answered
+
 -- What is known of a fault, and of refused memory, is known of the fault in memory: where memory was refused or a write
 -- failed, some is needed.
-known : (IsFault : Fault → Type 0) (NeedsMemory : Type 0) (fault : Fault) → IsFault Memory → IsFault fault → fault ≢ Read → (fault ≡ Memory → NeedsMemory) → (fault ≡ Write → NeedsMemory)
+known : (IsFault : Fault → Type 0) (NeedsMemory : Type 0) (fault : Fault) → IsFault Memory → IsFault fault
+    → fault ≢ Read → (fault ≡ Memory → NeedsMemory) → (fault ≡ Write → NeedsMemory)
     → IsFault (fault_in_memory fault) × IsOfMemory NeedsMemory (fault_in_memory fault)
-known IsFault NeedsMemory (BadLine line column) memory is not refused unwritten = (is, record { no_read = λ wrong. absurd (cc wrong); no_write = λ wrong. absurd (cc wrong); memory = λ wrong. absurd (cc wrong) })
-known IsFault NeedsMemory (Oversize line announced) memory is not refused unwritten = (is, record { no_read = λ wrong. absurd (cc wrong); no_write = λ wrong. absurd (cc wrong); memory = λ wrong. absurd (cc wrong) })
-known IsFault NeedsMemory LogLimit memory is not refused unwritten = (is, record { no_read = λ wrong. absurd (cc wrong); no_write = λ wrong. absurd (cc wrong); memory = λ wrong. absurd (cc wrong) })
-known IsFault NeedsMemory OutputLimit memory is not refused unwritten = (is, record { no_read = λ wrong. absurd (cc wrong); no_write = λ wrong. absurd (cc wrong); memory = λ wrong. absurd (cc wrong) })
+known IsFault NeedsMemory (BadLine line column) memory is not refused unwritten = (
+  is,
+  record {
+    no_read = λ wrong. absurd (cc wrong);
+    no_write = λ wrong. absurd (cc wrong);
+    memory = λ wrong. absurd (cc wrong);
+  },
+)
+known IsFault NeedsMemory (Oversize line announced) memory is not refused unwritten = (
+  is,
+  record {
+    no_read = λ wrong. absurd (cc wrong);
+    no_write = λ wrong. absurd (cc wrong);
+    memory = λ wrong. absurd (cc wrong);
+  },
+)
+known IsFault NeedsMemory LogLimit memory is not refused unwritten = (
+  is,
+  record {
+    no_read = λ wrong. absurd (cc wrong);
+    no_write = λ wrong. absurd (cc wrong);
+    memory = λ wrong. absurd (cc wrong);
+  },
+)
+known IsFault NeedsMemory OutputLimit memory is not refused unwritten = (
+  is,
+  record {
+    no_read = λ wrong. absurd (cc wrong);
+    no_write = λ wrong. absurd (cc wrong);
+    memory = λ wrong. absurd (cc wrong);
+  },
+)
 known IsFault NeedsMemory Read memory is not refused unwritten = absurd (not refl)
-known IsFault NeedsMemory Write memory is not refused unwritten =
-    (memory, record { no_read = λ wrong. absurd (cc wrong); no_write = λ wrong. absurd (cc wrong); memory = λ _. unwritten refl })
-known IsFault NeedsMemory Memory memory is not refused unwritten =
-    (memory, record { no_read = λ wrong. absurd (cc wrong); no_write = λ wrong. absurd (cc wrong); memory = λ _. refused refl })
+known IsFault NeedsMemory Write memory is not refused unwritten = (
+  memory,
+  record {
+    no_read = λ wrong. absurd (cc wrong);
+    no_write = λ wrong. absurd (cc wrong);
+    memory = λ _. unwritten refl;
+  },
+)
+known IsFault NeedsMemory Memory memory is not refused unwritten = (
+  memory,
+  record {
+    no_read = λ wrong. absurd (cc wrong);
+    no_write = λ wrong. absurd (cc wrong);
+    memory = λ _. refused refl;
+  },
+)
 
 -- So an answer over devices is one over memory: what it says of the text and the counts, and of a fault, is said of
 -- what was gathered.
-pub gathered : {C : Type 0} (IsCounted : C → Type 0) (IsFault : Fault → Type 0) (counted_with : Summary → C) (answer : Result Summary Fault) (result : Result C Fault)
+pub gathered : {C : Type 0} (IsCounted : C → Type 0) (IsFault : Fault → Type 0) (counted_with : Summary → C)
+    (answer : Result Summary Fault) (result : Result C Fault)
     → MatchResult answer (λ summary. IsCounted (counted_with summary)) (λ fault. IsFault (fault_in_memory fault))
     → MatchResult answer (λ summary. result ≡ Ok (counted_with summary)) (λ fault. result ≡ Err (fault_in_memory fault))
     → MatchResult result IsCounted IsFault
@@ -80,50 +155,72 @@ gathered {C = C} IsCounted IsFault counted_with (Ok summary) result is gives =
 gathered {C = C} IsCounted IsFault counted_with (Err fault) result is gives =
     subst (λ (r : Result C Fault). MatchResult r IsCounted IsFault) (sym gives) is
 
+-- ---- a canonical log
+
 accepted_is : (limit : ℕ) (settings : Settings) (log : List ℕ) (accepted : Accepted) (text : List ℕ) (summary : Summary)
-    → IsOutcome limit settings log (Ok accepted) → text ≡ accepted.text → accepted.summary ≡ summary → IsCanonicalLogWith limit settings log text summary
+    → IsOutcome limit settings log (Ok accepted) → text ≡ accepted.text → accepted.summary ≡ summary
+    → IsCanonicalLogWith limit settings log text summary
 accepted_is limit settings log accepted text summary outcome text_is counted =
     subst (λ (s : Summary). IsCanonicalLogWith limit settings log text s) counted
     (subst (λ (t : List ℕ). IsCanonicalLogWith limit settings log t accepted.summary) (sym text_is) outcome)
 
-pub canonical_in_memory : (limit : ℕ) (settings : Settings) (log : List ℕ) (given : ℕ) (answer : Result Summary Fault) (old taken held : List ℕ)
-    → old ≡ [] → taken ≡ held → FailedIf Read answer 0 0 → (answer ≡ Err Memory → NeedsMemoryToOrder limit settings log)
-    → (answer ≡ Err Write → HasTextOf (canonical_log_of_lines limit settings) log) → Answers limit settings log given answer old taken
-    → MatchResult answer (λ summary. IsCanonicalLogWith limit settings log held summary) (λ fault. IsRefused NeedsMemoryForCanonicalLog limit settings log (fault_in_memory fault))
-canonical_in_memory limit settings log given (Ok summary) old taken held old_is held_is failed refused unwritten (accepted, outcome, counted, wrote) =
-    accepted_is limit settings log accepted held summary outcome (sym held_is ∙ wrote ∙ ap (λ xs. xs ++ accepted.text) old_is) counted
-canonical_in_memory limit settings log given (Err fault) old taken held old_is held_is failed refused unwritten (is, left) =
-    known (TellsOutcome limit settings log) (NeedsMemoryForCanonicalLog limit settings log) fault tt is (λ read. reads_well failed (ap Err read))
-    (λ why. inl (refused (ap Err why))) (λ why. inr (unwritten (ap Err why)))
+pub canonical_in_memory : (limit : ℕ) (settings : Settings) (log text : List ℕ) (before after : BytesInMemory)
+    (old taken : List ℕ) (given : ℕ) (answer : Result Summary Fault) → RanInMemory log text before after old taken answer
+    → (answer ≡ Err Memory → NeedsMemoryToOrder limit settings log)
+    → (answer ≡ Err Write → HasTextOf (canonical_log_of_lines limit settings) log)
+    → Answers limit settings log given answer old taken
+    → MatchResult answer (λ summary. IsCanonicalLogWith limit settings log text summary)
+    (λ fault. IsRefused NeedsMemoryForCanonicalLog limit settings log (fault_in_memory fault))
+canonical_in_memory limit settings log text before after old taken given (Ok summary) ran refused unwritten
+    (accepted, outcome, counted, wrote) =
+    accepted_is limit settings log accepted text summary outcome
+    (sym ran.gathered ∙ wrote ∙ ap (λ xs. xs ++ accepted.text) ran.blank) counted
+canonical_in_memory limit settings log text before after old taken given (Err fault) ran refused unwritten (is, left) =
+    known (TellsOutcome limit settings log) (NeedsMemoryForCanonicalLog limit settings log) fault tt is
+    (λ read. reads_well ran.read (ap Err read)) (λ why. inl (refused (ap Err why))) (λ why. inr (unwritten (ap Err why)))
+
+-- ---- a text that is written at the end
 
 -- the text of a log with these counts
 abbrev IsTextWith : {V : Type 0} → TextOfLog V → List ℕ → List ℕ → Summary → Type 0
 IsTextWith {V = V} of log text summary = (value : V) × of.gives log value summary × (text ≡ of.text value)
 
 -- where a text is written at the end alone, a failed write leaves one that has bytes
-left_some : {V : Type 0} (of : TextOfLog V) (log old new : List ℕ) (fault : Fault) → fault ≡ Write → LeavesAtEnd of log fault old new → HasBytes (IsTextWith of log)
+left_some : {V : Type 0} (of : TextOfLog V) (log old new : List ℕ) (fault : Fault) → fault ≡ Write
+    → LeavesAtEnd of log fault old new → HasBytes (IsTextWith of log)
 left_some of log old new fault is left = by (subst (λ (f : Fault). LeavesAtEnd of log f old new) is left)
   where
     by : LeavesAtEnd of log Write old new → HasBytes (IsTextWith of log)
     by (value, summary, known_is, some, front) = (of.text value, summary, (value, known_is, refl), some)
 
-pub written_in_memory : {V : Type 0} (of : TextOfLog V) (log : List ℕ) (answer : Result Summary Fault) (old taken held : List ℕ)
-    → of.lacks log Memory → old ≡ [] → taken ≡ held → FailedIf Read answer 0 0 → (answer ≡ Err Memory → of.reading.needs log) → WritesAtEnd of log answer old taken
-    → MatchResult answer (λ summary. IsTextWith of log held summary)
-    (λ fault. of.lacks log (fault_in_memory fault) × IsOfMemory (of.reading.needs log ⊎ HasBytes (IsTextWith of log)) (fault_in_memory fault))
-written_in_memory of log (Ok summary) old taken held memory old_is held_is failed refused (value, is, wrote) =
-    (value, is, sym held_is ∙ wrote ∙ ap (λ xs. xs ++ of.text value) old_is)
-written_in_memory of log (Err fault) old taken held memory old_is held_is failed refused (is, left) =
-    known (of.lacks log) (of.reading.needs log ⊎ HasBytes (IsTextWith of log)) fault memory is (λ read. reads_well failed (ap Err read))
-    (λ why. inl (refused (ap Err why))) (λ why. inr (left_some of log old taken fault why left))
+pub written_in_memory : {V : Type 0} (of : TextOfLog V) (log text : List ℕ) (before after : BytesInMemory)
+    (old taken : List ℕ) (answer : Result Summary Fault) → RanInMemory log text before after old taken answer
+    → of.lacks log Memory → (answer ≡ Err Memory → of.reading.needs log) → WritesAtEnd of log answer old taken
+    → MatchResult answer (λ summary. IsTextWith of log text summary) (λ fault. of.lacks log (fault_in_memory fault)
+    × IsOfMemory (of.reading.needs log ⊎ HasBytes (IsTextWith of log)) (fault_in_memory fault))
+written_in_memory of log text before after old taken (Ok summary) ran memory refused (value, is, wrote) =
+    (value, is, sym ran.gathered ∙ wrote ∙ ap (λ xs. xs ++ of.text value) ran.blank)
+written_in_memory of log text before after old taken (Err fault) ran memory refused (is, left) =
+    known (of.lacks log) (of.reading.needs log ⊎ HasBytes (IsTextWith of log)) fault memory is
+    (λ read. reads_well ran.read (ap Err read)) (λ why. inl (refused (ap Err why)))
+    (λ why. inr (left_some of log old taken fault why left))
+
+-- ---- a text that is said as the log comes
+
+-- the script that says this of each frame and this at the end, and is not strict
+abbrev lenient : (List Entry → Entry → List ℕ) → (List Entry → Summary → List ℕ) → Script
+lenient of_frame at_the_end = record { strict = false; of_frame = of_frame; at_the_end = at_the_end }
 
 -- nothing is said at the end of a log
 abbrev says_no_end : List Entry → Summary → List ℕ
 says_no_end T summary = []
 
 -- a write failed only where something is said of the first lines, if nothing is said at the end
-said_some : (of_frame : List Entry → Entry → List ℕ) (limit : ℕ) (settings : Settings) (log : List ℕ) (given : ℕ) (old new : List ℕ)
-    → FailsToWrite (command (lenient of_frame says_no_end) says_no_refusal answers_counts needs_none) limit settings log given old new → HasTextOf (said_of_lines (lenient of_frame says_no_end) settings) log
+said_some : (of_frame : List Entry → Entry → List ℕ) (limit : ℕ) (settings : Settings) (log : List ℕ) (given : ℕ)
+    (old new : List ℕ)
+    → FailsToWrite (command (lenient of_frame says_no_end) says_no_refusal answers_counts needs_none)
+    limit settings log given old new
+    → HasTextOf (said_of_lines (lenient of_frame says_no_end) settings) log
 said_some of_frame limit settings log given old new (inl (wrote, inl said)) = record {
   meanings = said.meanings;
   begins = record { lines = said.read.lines; later = said.read.later; parts = said.read.parts; means = said.read.means };
@@ -132,33 +229,63 @@ said_some of_frame limit settings log given old new (inl (wrote, inl said)) = re
 said_some of_frame limit settings log given old new (inl (wrote, inr ends)) = record {
   meanings = ends.meanings;
   begins = all_begin log ends.meanings ends.read.1;
-  some = subst (λ (text : List ℕ). 0 < length text) (append-nil (said_of_lines (lenient of_frame says_no_end) settings ends.meanings)) ends.some;
+  some =
+      subst (λ (text : List ℕ). 0 < length text)
+      (append-nil (said_of_lines (lenient of_frame says_no_end) settings ends.meanings)) ends.some;
 }
 said_some of_frame limit settings log given old new (inr refuses) = absurd (omega (arith, refuses.some))
 
--- a text that is said as the log comes, by a script that is not strict
-pub said_in_memory : (of_frame : List Entry → Entry → List ℕ) (at_the_end : List Entry → Summary → List ℕ) (refusal : RefusalText) (needs : Needing) (NeedsMemory : ℕ → Settings → List ℕ → Type 0) (limit : ℕ) (settings : Settings) (log : List ℕ) (given : ℕ)
-    (answer : Result Summary Fault) (old taken held : List ℕ) → old ≡ [] → taken ≡ held → FailedIf Read answer 0 0 → (answer ≡ Err Memory → NeedsMemory limit settings log)
-    → (FailsToWrite (command (lenient of_frame at_the_end) refusal answers_counts needs) limit settings log given old taken → NeedsMemory limit settings log)
-    → AnswersAndWrites (command (lenient of_frame at_the_end) refusal answers_counts needs) limit settings log given answer old taken
-    → MatchResult answer (λ summary. IsSaidWith (lenient of_frame at_the_end) limit settings log held summary) (λ fault. IsUnread NeedsMemory limit settings log (fault_in_memory fault))
-said_in_memory of_frame at_the_end refusal needs NeedsMemory limit settings log given (Ok summary) old taken held old_is held_is failed refused unwritten (whole, meanings, read, counted, wrote) =
-    (meanings, read, cc counted, sym held_is ∙ wrote ∙ ap (λ xs. xs ++ whole_of_lines (lenient of_frame at_the_end) limit settings log meanings) old_is)
-said_in_memory of_frame at_the_end refusal needs NeedsMemory limit settings log given (Err fault) old taken held old_is held_is failed refused unwritten is =
-    known (IsUnreadFor false limit settings log) (NeedsMemory limit settings log) fault tt (unread_for (command (lenient of_frame at_the_end) refusal answers_counts needs) refl (λ T summary none. absurd (cc none)) limit settings log given fault old taken is)
-    (λ read. reads_well failed (ap Err read)) (λ why. refused (ap Err why))
-    (λ why. unwritten (subst (λ (f : Fault). AnswersAndWrites (command (lenient of_frame at_the_end) refusal answers_counts needs) limit settings log given (Err f) old taken) why is))
+module _ (of_frame : List Entry → Entry → List ℕ) (at_the_end : List Entry → Summary → List ℕ) (refusal : RefusalText)
+    (needs : Needing) (NeedsMemory : ℕ → Settings → List ℕ → Type 0) (limit : ℕ) (settings : Settings) where
+  -- the command of these texts, which is not strict
+  abbrev of_texts : Command Summary
+  of_texts = command (lenient of_frame at_the_end) refusal answers_counts needs
+
+  pub said_in_memory : (log text : List ℕ) (before after : BytesInMemory) (old taken : List ℕ) (given : ℕ)
+      (answer : Result Summary Fault) → RanInMemory log text before after old taken answer
+      → (answer ≡ Err Memory → NeedsMemory limit settings log)
+      → (FailsToWrite of_texts limit settings log given old taken → NeedsMemory limit settings log)
+      → AnswersAndWrites of_texts limit settings log given answer old taken
+      → MatchResult answer (λ summary. IsSaidWith (lenient of_frame at_the_end) limit settings log text summary)
+      (λ fault. IsUnread NeedsMemory limit settings log (fault_in_memory fault))
+  said_in_memory log text before after old taken given (Ok summary) ran refused unwritten
+      (whole, meanings, read, counted, wrote) = (
+        meanings,
+        read,
+        cc counted,
+        sym ran.gathered ∙ wrote
+            ∙ ap (λ xs. xs ++ whole_of_lines (lenient of_frame at_the_end) limit settings log meanings) ran.blank,
+      )
+  said_in_memory log text before after old taken given (Err fault) ran refused unwritten is =
+      known (CantBeRead settings log) (NeedsMemory limit settings log) fault tt
+      (unread_for of_texts refl (λ T summary none. absurd (cc none)) limit settings log given fault old taken is)
+      (λ read. reads_well ran.read (ap Err read)) (λ why. refused (ap Err why))
+      (λ why. unwritten
+      (subst (λ (f : Fault). AnswersAndWrites of_texts limit settings log given (Err f) old taken) why is))
 
 -- the lines of messages
-pub message_lines_in_memory : (notation : Notation) (limit : ℕ) (settings : Settings) (log : List ℕ) (given : ℕ) (old new : List ℕ)
-    → FailsToWrite (command (messages_script notation limit) says_no_refusal answers_counts needs_none) limit settings log given old new → NeedsMemoryForMessageLines notation limit settings log
-message_lines_in_memory notation limit settings log given old new fails = inr (said_some ((messages_script notation limit).of_frame) limit settings log given old new fails)
+pub message_lines_in_memory : (notation : Notation) (limit : ℕ) (settings : Settings) (log : List ℕ) (given : ℕ)
+    (old new : List ℕ)
+    → FailsToWrite (command (messages_script notation limit) says_no_refusal answers_counts needs_none)
+    limit settings log given old new → NeedsMemoryForMessageLines notation limit settings log
+message_lines_in_memory notation limit settings log given old new fails =
+    inr (said_some ((messages_script notation limit).of_frame) limit settings log given old new fails)
 
-pub meaning_in_memory : (limit : ℕ) (settings : Settings) (log : List ℕ) (answer : Result (List ItemValue) Fault) → FailedIf Read answer 0 0
-    → IfErr answer (λ fault. fault ≢ Write) → (answer ≡ Err Memory → NeedsMemoryToCollect limit settings log) → GivesMeaning limit settings log answer → MeansInMemory limit settings log answer
+-- ---- a meaning, and two of them
+
+pub meaning_in_memory : (limit : ℕ) (settings : Settings) (log : List ℕ) (answer : Result (List ItemValue) Fault)
+    → FailedIf Read answer 0 0 → IfErr answer (λ fault. fault ≢ Write)
+    → (answer ≡ Err Memory → NeedsMemoryToCollect limit settings log) → GivesMeaning limit settings log answer
+    → MeansInMemory limit settings log answer
 meaning_in_memory limit settings log (Ok items) failed written refused is = is
-meaning_in_memory limit settings log (Err fault) failed written refused is =
-    (is, record { no_read = λ read. reads_well failed (ap Err read); no_write = written; memory = λ why. refused (ap Err why) })
+meaning_in_memory limit settings log (Err fault) failed written refused is = (
+  is,
+  record {
+    no_read = λ read. reads_well failed (ap Err read);
+    no_write = written;
+    memory = λ why. refused (ap Err why);
+  },
+)
 
 -- what is answered of two logs in memory: how they compare, and their counts, or the fault
 abbrev pub counted_in : Result Compared CompareFault → Result CountedComparison CompareFault
@@ -167,10 +294,26 @@ counted_in (Err fault) = Err fault
 
 pub comparison_in_memory : (limit : ℕ) (settings : Settings) (left right : List ℕ) (answer : Result Compared CompareFault)
     → FailedIf (Left Read) answer 0 0 → FailedIf (Right Read) answer 0 0 → IfErr answer (λ fault. fault_in fault ≢ Write)
-    → (answer ≡ Err (Left Memory) → NeedsMemoryToCollect limit settings left) → (answer ≡ Err (Right Memory) → NeedsMemoryToCollect limit settings right)
+    → (answer ≡ Err (Left Memory) → NeedsMemoryToCollect limit settings left)
+    → (answer ≡ Err (Right Memory) → NeedsMemoryToCollect limit settings right)
     → Compares limit settings left right answer → ComparesWithCounts limit settings left right (counted_in answer)
-comparison_in_memory limit settings left right (Ok compared) left_failed right_failed written left_refused right_refused is = (compared, is, refl)
-comparison_in_memory limit settings left right (Err (Left fault)) left_failed right_failed written left_refused right_refused is =
-    (is, record { no_read = λ read. reads_well left_failed (ap (λ f. Err (Left f)) read); no_write = written; memory = λ why. left_refused (ap (λ f. Err (Left f)) why) })
-comparison_in_memory limit settings left right (Err (Right fault)) left_failed right_failed written left_refused right_refused is =
-    (is, record { no_read = λ read. reads_well right_failed (ap (λ f. Err (Right f)) read); no_write = written; memory = λ why. right_refused (ap (λ f. Err (Right f)) why) })
+comparison_in_memory limit settings left right (Ok compared) left_failed right_failed written left_refused right_refused is =
+    (compared, is, refl)
+comparison_in_memory limit settings left right (Err (Left fault)) left_failed right_failed written left_refused
+    right_refused is = (
+      is,
+      record {
+        no_read = λ read. reads_well left_failed (ap (λ f. Err (Left f)) read);
+        no_write = written;
+        memory = λ why. left_refused (ap (λ f. Err (Left f)) why);
+      },
+    )
+comparison_in_memory limit settings left right (Err (Right fault)) left_failed right_failed written left_refused
+    right_refused is = (
+      is,
+      record {
+        no_read = λ read. reads_well right_failed (ap (λ f. Err (Right f)) read);
+        no_write = written;
+        memory = λ why. right_refused (ap (λ f. Err (Right f)) why);
+      },
+    )

@@ -1,5 +1,6 @@
 pub mod Results
-pub mod LeftAlone
+pub mod ReadWays
+pub mod TextsAtEnd
 pub mod Comparisons
 pub mod Lengths
 pub mod CanonicalWriting

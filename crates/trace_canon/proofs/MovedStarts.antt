@@ -17,11 +17,15 @@ none_begun Tester earlier = refl
 none_begun Unit earlier = refl
 
 -- that of one direction is another now
-pub of_tester : (begun : Option FramePlace) (old : ReceptionStarts) (d : Dir) → reception_start (record { tester = begun; unit = old.unit }) d ≡ (if same_direction d Tester then begun else reception_start old d)
+pub of_tester : (begun : Option FramePlace) (old : ReceptionStarts) (d : Dir)
+    → reception_start (record { tester = begun; unit = old.unit }) d
+    ≡ (if same_direction d Tester then begun else reception_start old d)
 of_tester begun old Tester = refl
 of_tester begun old Unit = refl
 
-pub of_unit : (begun : Option FramePlace) (old : ReceptionStarts) (d : Dir) → reception_start (record { tester = old.tester; unit = begun }) d ≡ (if same_direction d Unit then begun else reception_start old d)
+pub of_unit : (begun : Option FramePlace) (old : ReceptionStarts) (d : Dir)
+    → reception_start (record { tester = old.tester; unit = begun }) d
+    ≡ (if same_direction d Unit then begun else reception_start old d)
 of_unit begun old Tester = refl
 of_unit begun old Unit = refl
 

@@ -1,5 +1,6 @@
 -- Where the receptions that stand began, after one more frame, and where a message began.
-use Rattle.std.proofs.Common.{◌≡◌, ℕ, ◌==◌, Bool, true, false, List, [], ◌∷◌, ◌++◌, Option, Some, None, Result, Ok, Err, refl, sym, subst, ◌∙◌, nat_le, inl, inr, option_map}
+use Rattle.std.proofs.Common.{◌≡◌, ℕ, ◌==◌, Bool, true, false, List, [], ◌∷◌, ◌++◌, Option, Some, None, Result, Ok, Err}
+use Rattle.std.proofs.Common.{refl, sym, subst, ◌∙◌, nat_le, inl, inr, option_map}
 use Rattle.std.specs.Prelude.{if◌then◌else◌}
 use Rattle.std.proofs.lemmas.Bool.{cases_Bool}
 use Rattle.can_log.specs.Frame.{FrameValue}
@@ -99,12 +100,16 @@ module _ (line micros : ℕ) (here : FramePlace) where
   other_next d own (Some standing) place (Ok (layout.flow_control Wait)) = rw (other-apart d) refl
   other_next d own None place (Ok (layout.flow_control Overflow)) = rw (other-apart d) refl
   other_next d own (Some standing) place (Ok (layout.flow_control Overflow)) =
-      elim (cases_Bool (standing.taken == 0)) [ inl e ↦ rw (e, other-apart d, same-self (other_direction d)) refl | inr e ↦ rw (e, other-apart d) refl ]
+      elim (cases_Bool (standing.taken == 0)) [
+        | inl e ↦ rw (e, other-apart d, same-self (other_direction d)) refl
+        | inr e ↦ rw (e, other-apart d) refl
+      ]
 
   -- where the message began that a frame completes: here, or where the reception did that stood
   first_found : (d : Dir) (own others : Option StandingReception) (place : FramePlace) (read : Result Layout PduFault) (whole : List ℕ)
       → (on_layout MESSAGE_LIMIT d own others micros read).verdict ≡ message whole
-      → message_start d (on_layout MESSAGE_LIMIT d own others micros read) here (at place own) ≡ (if starts (own_role line micros read) then here else place)
+      → message_start d (on_layout MESSAGE_LIMIT d own others micros read) here (at place own)
+      ≡ (if starts (own_role line micros read) then here else place)
   first_found d own others place (Err fault) whole is = absurd (cc is)
   first_found d None others place (Ok (layout.single bytes)) whole is = refl
   first_found d (Some standing) others place (Ok (layout.single bytes)) whole is = rw (same-self d) refl
@@ -114,7 +119,8 @@ module _ (line micros : ℕ) (here : FramePlace) where
   first_found d (Some standing) others place (Ok (layout.consecutive sequence_number can_dl bytes)) whole is =
       by (fit_of standing micros sequence_number can_dl) is
     where
-      by : (fit : Fit) → (on_fit d standing fit sequence_number bytes).verdict ≡ message whole → message_start d (on_fit d standing fit sequence_number bytes) here (Some place) ≡ place
+      by : (fit : Fit) → (on_fit d standing fit sequence_number bytes).verdict ≡ message whole
+          → message_start d (on_fit d standing fit sequence_number bytes) here (Some place) ≡ place
       by late it = absurd (cc it)
       by wrong_number it = absurd (cc it)
       by wrong_length it = absurd (cc it)
@@ -132,14 +138,6 @@ place_if : (b : Bool) (e x : Entry) → place_of (if b then e else x) ≡ (if b 
 place_if true e x = refl
 place_if false e x = refl
 
-pub role_own : (d : Dir) (line micros : ℕ) (frame : FrameValue) → role d (record { line = line; micros = micros; dir = d; frame = frame }) ≡ own_role line micros (layout_of frame)
-unfolding role
-role_own d line micros frame = rw (same-self d) refl
-
-pub role_other : (d : Dir) (line micros : ℕ) (frame : FrameValue) → role (other_direction d) (record { line = line; micros = micros; dir = d; frame = frame }) ≡ other_role (layout_of frame)
-unfolding role
-role_other d line micros frame = rw (other-apart d) refl
-
 -- a frame of this line, time, direction and content, and where it stands
 abbrev entry_at : ℕ → ℕ → Dir → FrameValue → Entry
 entry_at line micros d frame = record { line = line; micros = micros; dir = d; frame = frame }
@@ -147,25 +145,51 @@ entry_at line micros d frame = record { line = line; micros = micros; dir = d; f
 abbrev pub here_at : ℕ → ℕ → FramePlace
 here_at line micros = record { line = line; micros = micros }
 
+-- what it is to its own direction, and to the other one
+pub role_own : (d : Dir) (line micros : ℕ) (frame : FrameValue) → role d (entry_at line micros d frame) ≡ own_role line micros (layout_of frame)
+unfolding role
+role_own d line micros frame = rw (same-self d) refl
+
+pub role_other : (d : Dir) (line micros : ℕ) (frame : FrameValue)
+    → role (other_direction d) (entry_at line micros d frame) ≡ other_role (layout_of frame)
+unfolding role
+role_other d line micros frame = rw (other-apart d) refl
+
 -- where the sender's reception began, after its frame
 own_begun : (d : Dir) (T : List Entry) (line micros : ℕ) (frame : FrameValue) (begun : Option FramePlace) → IsBegunAt MESSAGE_LIMIT d T begun
-    → IsBegunAt MESSAGE_LIMIT d (T ++ entry_at line micros d frame ∷ []) (start_after_event d d (verdict MESSAGE_LIMIT T (entry_at line micros d frame)) (here_at line micros) begun)
+    → IsBegunAt MESSAGE_LIMIT d (T ++ entry_at line micros d frame ∷ []) (start_after_event d d
+    (verdict MESSAGE_LIMIT T (entry_at line micros d frame)) (here_at line micros) begun)
 unfolding verdict
 own_begun d T line micros frame begun is earlier =
     let e : Entry = entry_at line micros d frame in
-    rw (is earlier, one_more MESSAGE_LIMIT d T e, last_start_more d earlier T e, place_if (starts (role d e)) e (last_start d earlier T), role_own d line micros frame)
-    (own_next line micros (here_at line micros) d (stands MESSAGE_LIMIT d T) (stands MESSAGE_LIMIT (other_direction d) T) (place_of (last_start d earlier T)) (layout_of frame))
+    rw (
+      is earlier,
+      one_more MESSAGE_LIMIT d T e,
+      last_start_more d earlier T e,
+      place_if (starts (role d e)) e (last_start d earlier T),
+      role_own d line micros frame,
+    )
+    (own_next line micros (here_at line micros) d (stands MESSAGE_LIMIT d T) (stands MESSAGE_LIMIT (other_direction d) T)
+    (place_of (last_start d earlier T)) (layout_of frame))
 
 -- and that of the other direction
-other_begun : (d : Dir) (T : List Entry) (line micros : ℕ) (frame : FrameValue) (begun : Option FramePlace) → IsBegunAt MESSAGE_LIMIT (other_direction d) T begun
+other_begun : (d : Dir) (T : List Entry) (line micros : ℕ) (frame : FrameValue) (begun : Option FramePlace)
+    → IsBegunAt MESSAGE_LIMIT (other_direction d) T begun
     → IsBegunAt MESSAGE_LIMIT (other_direction d) (T ++ entry_at line micros d frame ∷ [])
     (start_after_event (other_direction d) d (verdict MESSAGE_LIMIT T (entry_at line micros d frame)) (here_at line micros) begun)
 unfolding verdict
 other_begun d T line micros frame begun is earlier =
     let o : Dir = other_direction d in
     let e : Entry = entry_at line micros d frame in
-    rw (is earlier, one_more MESSAGE_LIMIT o T e, last_start_more o earlier T e, place_if (starts (role o e)) e (last_start o earlier T), role_other d line micros frame)
-    (other_next line micros (here_at line micros) d (stands MESSAGE_LIMIT d T) (stands MESSAGE_LIMIT o T) (place_of (last_start o earlier T)) (layout_of frame))
+    rw (
+      is earlier,
+      one_more MESSAGE_LIMIT o T e,
+      last_start_more o earlier T e,
+      place_if (starts (role o e)) e (last_start o earlier T),
+      role_other d line micros frame,
+    )
+    (other_next line micros (here_at line micros) d (stands MESSAGE_LIMIT d T) (stands MESSAGE_LIMIT o T)
+    (place_of (last_start o earlier T)) (layout_of frame))
 
 -- so that of either
 begun_by : (d x : Dir) (T : List Entry) (line micros : ℕ) (frame : FrameValue) (before : ReceptionStarts) → AreStartsAfter MESSAGE_LIMIT T before
@@ -177,19 +201,23 @@ begun_by Unit Tester T line micros frame before are = other_begun Unit T line mi
 begun_by Unit Unit T line micros frame before are = own_begun Unit T line micros frame before.unit (are Unit)
 
 -- where the message began that a frame completed is the place of its first frame
-first_of : (d : Dir) (T : List Entry) (line micros : ℕ) (frame : FrameValue) (begun : Option FramePlace) (whole : List ℕ) → IsBegunAt MESSAGE_LIMIT d T begun
+first_of : (d : Dir) (T : List Entry) (line micros : ℕ) (frame : FrameValue) (begun : Option FramePlace) (whole : List ℕ)
+    → IsBegunAt MESSAGE_LIMIT d T begun
     → (verdict MESSAGE_LIMIT T (entry_at line micros d frame)).verdict ≡ message whole
-    → message_start d (verdict MESSAGE_LIMIT T (entry_at line micros d frame)) (here_at line micros) begun ≡ place_of (first_frame T (entry_at line micros d frame))
+    → message_start d (verdict MESSAGE_LIMIT T (entry_at line micros d frame)) (here_at line micros) begun
+    ≡ place_of (first_frame T (entry_at line micros d frame))
 unfolding verdict
 first_of d T line micros frame begun whole is completes =
     let e : Entry = entry_at line micros d frame in
     rw (is e, last_start_more d e T e, place_if (starts (role d e)) e (last_start d e T), role_own d line micros frame)
-    (first_found line micros (here_at line micros) d (stands MESSAGE_LIMIT d T) (stands MESSAGE_LIMIT (other_direction d) T) (place_of (last_start d e T)) (layout_of frame) whole completes)
+    (first_found line micros (here_at line micros) d (stands MESSAGE_LIMIT d T) (stands MESSAGE_LIMIT (other_direction d) T)
+    (place_of (last_start d e T)) (layout_of frame) whole completes)
 
 module _ (T : List Entry) (e : Entry) (here : FramePlace) (d : Dir) (event : Event) (is : IsEventOf T e here.line here.micros d event)
     (before : ReceptionStarts) (are : AreStartsAfter MESSAGE_LIMIT T before) where
   -- what one more frame moves them to are the starts after it
-  pub starts_next : (moved : ReceptionStarts) → ((x : Dir) → reception_start moved x ≡ start_after_event x d (seen_event event) here (reception_start before x))
+  pub starts_next : (moved : ReceptionStarts)
+      → ((x : Dir) → reception_start moved x ≡ start_after_event x d (seen_event event) here (reception_start before x))
       → AreStartsAfter MESSAGE_LIMIT (T ++ e ∷ []) moved
   starts_next moved by x =
       subst (λ b. IsBegunAt MESSAGE_LIMIT x (T ++ e ∷ []) b)
@@ -197,7 +225,8 @@ module _ (T : List Entry) (e : Entry) (here : FramePlace) (d : Dir) (event : Eve
       (begun_by e.dir x T e.line e.micros e.frame before are)
 
   -- and a message that it completes begins where its first frame stands
-  pub begins_at : CompletesMessage MESSAGE_LIMIT T e → (first : FramePlace) → first ≡ message_start d (seen_event event) here (reception_start before d)
+  pub begins_at : CompletesMessage MESSAGE_LIMIT T e → (first : FramePlace)
+      → first ≡ message_start d (seen_event event) here (reception_start before d)
       → first ≡ place_of (first_frame T e)
   begins_at (whole, completes) first first_is =
       first_is ∙ (λ i. message_start (sym is.dir i) (is.did i) (here_at (sym is.line i) (sym is.micros i)) (reception_start before (sym is.dir i)))

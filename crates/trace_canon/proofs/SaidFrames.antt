@@ -9,11 +9,13 @@ use Rattle.trace_canon.proofs.CanonicalWriting.{text_step, progress_step, text_s
 module _ {S : Type 0} (says : S → List ℕ → S → Type 0) (nothing : (s : S) → says s [] s)
     (onward : (s m t : S) (a b : List ℕ) → says s a m → says m b t → says s (a ++ b) t) (settings : Settings) where
   -- none yet
-  pub none_said : (progress : ProgressValue) (out : S) (frames : List (Dir × List ℕ)) → SaysFront says settings progress out frames progress out frames
+  pub none_said : (progress : ProgressValue) (out : S) (frames : List (Dir × List ℕ))
+      → SaysFront says settings progress out frames progress out frames
   none_said progress out frames = record { said = ([], refl, nothing out); stands = refl }
 
   -- some, and then more
-  pub more_said : (p q now r : ProgressValue) (s t u : S) (xs ys left zs : List (Dir × List ℕ)) → SaysFront says settings p s xs q t ys → ys ≡ left → now ≡ q
+  pub more_said : (p q now r : ProgressValue) (s t u : S) (xs ys left zs : List (Dir × List ℕ))
+      → SaysFront says settings p s xs q t ys → ys ≡ left → now ≡ q
       → SaysFront says settings now t left r u zs → SaysFront says settings p s xs r u zs
   more_said p q now r s t u xs ys left zs one same here more =
       let two = subst (λ fs. SaysFront says settings q t fs r u zs) (sym same) (subst (λ k. SaysFront says settings k t left r u zs) here more) in
@@ -40,11 +42,14 @@ module _ {S : Type 0} (says : S → List ℕ → S → Type 0) (nothing : (s : S
           text_step settings progress frame later room ∙ ap (λ (l : List ℕ). l ++ text_from settings (after_line progress l) later) (sym is),
           said,
         );
-        stands = progress_step settings progress frame later room ∙ ap (λ (l : List ℕ). progress_after settings (after_line progress l) later) (sym is);
+        stands =
+            progress_step settings progress frame later room
+            ∙ ap (λ (l : List ℕ). progress_after settings (after_line progress l) later) (sym is);
       }
 
   -- a frame whose line does not
-  pub line_stops : (progress : ProgressValue) (out : S) (frame : Dir × List ℕ) (later : List (Dir × List ℕ)) → progress.room < length (line_at settings progress.lines frame)
+  pub line_stops : (progress : ProgressValue) (out : S) (frame : Dir × List ℕ) (later : List (Dir × List ℕ))
+      → progress.room < length (line_at settings progress.lines frame)
       → SaysFront says settings progress out (frame ∷ later) (filled_up progress) out later
   line_stops progress out frame later over = record {
     said = ([], text_stop settings progress frame later over ∙ sym (text_full settings (filled_up progress) later refl), nothing out);
@@ -52,7 +57,8 @@ module _ {S : Type 0} (says : S → List ℕ → S → Type 0) (nothing : (s : S
   }
 
   -- all of them, where nothing of what is left is said
-  pub all_lines_said : (p q : ProgressValue) (s t : S) (frames left : List (Dir × List ℕ)) → text_from settings q left ≡ [] → SaysFront says settings p s frames q t left
+  pub all_lines_said : (p q : ProgressValue) (s t : S) (frames left : List (Dir × List ℕ)) → text_from settings q left ≡ []
+      → SaysFront says settings p s frames q t left
       → says s (text_from settings p frames) t
   all_lines_said p q s t frames left none front =
       let said = front.said in

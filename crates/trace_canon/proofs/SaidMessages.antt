@@ -10,9 +10,8 @@ use Rattle.uds_exchange.specs.Judging.{sent}
 use Rattle.uds_exchange.specs.declared.judge.Judged.{Judged}
 use Rattle.uds_exchange.specs.declared.step.Step.{Step}
 use Rattle.trace_run.specs.Seen.{IsSeen}
-use Rattle.trace_run.specs.proving.Completing.{CompletesJudged}
 use Rattle.trace_run.specs.declared.machine.Seen.{Seen}
-use Rattle.trace_run.proofs.Promises.{tells_no_message}
+use Rattle.trace_run.proofs.Promises.{CompletesJudged, tells_no_message}
 use Rattle.trace_text.specs.Json.{object_line}
 use Rattle.trace_text.specs.Words.{bytes_text, direction_text, role_text, stamp_text}
 use Rattle.trace_text.specs.declared.notation.Notation.{Notation}
@@ -29,17 +28,21 @@ placed_at number step sent first last = record { number = number; step = step; s
 -- what is said of a message that a frame completed, from the place of its first frame to this one, is its line
 pub judged_said : (T : List Entry) (e : Entry) (seen : Seen) (judged : Judged) → IsSeen T e seen → CompletesJudged T e judged
     → (notation own_notation : Notation) (first : FramePlace) → own_notation ≡ notation → first ≡ place_of (first_frame T e)
-    → placed_text own_notation (judged_at judged first (here_at seen.line seen.micros)) ≡ delivered_line notation MESSAGE_LIMIT T e (verdict MESSAGE_LIMIT T e).verdict
+    → placed_text own_notation (judged_at judged first (here_at seen.line seen.micros))
+    ≡ delivered_line notation MESSAGE_LIMIT T e (verdict MESSAGE_LIMIT T e).verdict
 judged_said T e seen judged is completes notation own_notation first same first_is =
     let at = is.event in
     let M = messages MESSAGE_LIMIT T in
-    let words : placed_text own_notation (judged_at judged first (here_at seen.line seen.micros)) ≡ placed_text notation (placed_behind M (sent judged) (first_frame T e) e) =
-    (λ i. placed_text (same i) (placed_at (completes.item i) (completes.step i) (sent judged) (first_is i) (here_at (sym at.line i) (sym at.micros i)))) in
+    let words : placed_text own_notation (judged_at judged first (here_at seen.line seen.micros))
+    ≡ placed_text notation (placed_behind M (sent judged) (first_frame T e) e) =
+    (λ i. placed_text (same i) (placed_at (completes.item i) (completes.step i) (sent judged) (first_is i)
+    (here_at (sym at.line i) (sym at.micros i)))) in
     words ∙ ap (λ d. placed_text notation (placed_behind M (d, judged.bytes.now) (first_frame T e) e)) (sym completes.dir)
     ∙ ap (delivered_line notation MESSAGE_LIMIT T e) (sym completes.did)
 
 -- of a frame that completed no message nothing is said
-silent_line : (notation : Notation) (T : List Entry) (e : Entry) (d : Dir) (did : VerdictValue) → told_message d did ≡ [] → delivered_line notation MESSAGE_LIMIT T e did ≡ []
+silent_line : (notation : Notation) (T : List Entry) (e : Entry) (d : Dir) (did : VerdictValue) → told_message d did ≡ []
+    → delivered_line notation MESSAGE_LIMIT T e did ≡ []
 silent_line notation T e d (message bytes) none = cc none
 silent_line notation T e d began none = refl
 silent_line notation T e d stored none = refl
@@ -65,7 +68,8 @@ in_order : (a b c d e f g h i j k l m n o p q : List ℕ)
 in_order a b c d e f g h i j k l m n o p q = simp (append_assoc, append-nil)
 
 pub object_parts : (number : ℕ) (step : Step) (sent : Message) (first last : FramePlace)
-    → object_parts_of number (role_text step) (direction_text sent.0) (bytes_text sent.1) first last ≡ object_line (placed_members (placed_at number step sent first last))
+    → object_parts_of number (role_text step) (direction_text sent.0) (bytes_text sent.1) first last
+    ≡ object_line (placed_members (placed_at number step sent first last))
 object_parts number step sent first last =
     in_order (codes "{\"item\":") (decimal number) (codes ",\"role\":\"") (role_text step) (codes "\",\"direction\":\"") (direction_text sent.0)
     (codes "\",\"first_line\":") (decimal first.line) (codes ",\"last_line\":") (decimal last.line)

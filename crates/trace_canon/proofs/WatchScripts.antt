@@ -1,5 +1,6 @@
 -- The lines of items said as soon as these are decided: what is kept and said of one more frame, and that all is the list.
-use Rattle.std.proofs.Common.{◌≡◌, ℕ, ◌+◌, ◌^◌, ◌<◌, ◌≤◌, List, [], ◌∷◌, ◌++◌, length, drop, Result, Ok, Err, arith, refl, ap, sym, subst, ◌∙◌, append-nil, append_assoc, length-append}
+use Rattle.std.proofs.Common.{◌≡◌, ℕ, ◌+◌, ◌^◌, ◌<◌, ◌≤◌, List, [], ◌∷◌, ◌++◌, length, drop, Result, Ok, Err, arith, refl}
+use Rattle.std.proofs.Common.{ap, sym, subst, ◌∙◌, append-nil, append_assoc, length-append}
 use Rattle.std.proofs.Math.Seq.{drop-append_seam}
 use Rattle.std.specs.Prelude.{OnOk}
 use Rattle.direction.specs.Dir.{Message}
@@ -8,12 +9,10 @@ use Rattle.isotp_receive.specs.Trace.{Entry}
 use Rattle.isotp_receive.specs.Verdict.{messages, told_message, verdict}
 use Rattle.isotp_receive.proofs.Promises.{messages_are_few}
 use Rattle.uds_exchange.specs.Decided.{decided, undecided}
-use Rattle.uds_exchange.specs.Decider.{DeciderValue, decider_after, IsKept}
+use Rattle.uds_exchange.specs.Decider.{DeciderValue, decider_after}
 use Rattle.uds_exchange.specs.ItemSink.{PutsItems}
 use Rattle.uds_exchange.specs.Meaning.{ItemValue, meaning}
-use Rattle.uds_exchange.specs.Judging.{one_more, sent}
-use Rattle.uds_exchange.specs.declared.judge.Judged.{Judged}
-use Rattle.trace_run.specs.proving.Completing.{CompletesJudged}
+use Rattle.uds_exchange.specs.Judging.{one_more}
 use Rattle.uds_exchange.proofs.Promises.{decided_grows, decided_then_undecided, items_are_few, none_is_lost}
 use Rattle.trace_text.specs.ItemLines.{item_line, list_text, list_text_from}
 use Rattle.trace_log.specs.Messages.{meaning_of_lines}
@@ -48,7 +47,11 @@ module _ {S : Type 0} (says : S → List ℕ → S → Type 0) (nothing : (s : S
     pub lines : SaysLines says s.style items s.number.now s.out.now t.number.now t.out.now
 
   pub said_items : (items : List ItemValue) (s t : LineSink S) → PutsItems (SaysPutItem says) s items t → SaidItems s items t
-  said_items [] s t is = subst (SaidItems s []) (sym is) (record { same_out = refl; same_number = refl; lines = λ few. (omega arith, nothing s.out.now) })
+  said_items [] s t is = subst (SaidItems s []) (sym is) (record {
+    same_out = refl;
+    same_number = refl;
+    lines = λ few. (omega arith, nothing s.out.now);
+  })
   said_items (item ∷ later) s t (between, one, rest) =
       let after = said_items later between t rest in
       record {
@@ -78,17 +81,15 @@ few_items T =
     let frames = messages_are_few MESSAGE_LIMIT T in
     omega arith
 
--- a frame that completes a message which is kept
-pub completes_kept : (T : List Entry) (e : Entry) (judged : Judged) → CompletesJudged T e judged → IsKept (messages MESSAGE_LIMIT T) (sent judged) → CompletesKept MESSAGE_LIMIT T e
-completes_kept T e judged completes kept =
-    (judged.bytes.now, completes.did, subst (λ d. IsKept (messages MESSAGE_LIMIT T) (d, judged.bytes.now)) (sym completes.dir) kept)
-
 module _ {S : Type 0} (says : S → List ℕ → S → Type 0) (style own_style : ItemStyle) (T : List Entry) where
   -- a message: the lines of what it decides were said
-  pub watches_next : (e : Entry) (message : Message) (decider decider_now : DeciderValue) (number number_now : ℕ) (out out_now : S) → length T < 2 ^ 62
+  pub watches_next : (e : Entry) (message : Message) (decider decider_now : DeciderValue) (number number_now : ℕ)
+      (out out_now : S) → length T < 2 ^ 62
       → messages MESSAGE_LIMIT (T ++ e ∷ []) ≡ messages MESSAGE_LIMIT T ++ message ∷ [] → WatchesItems style T decider own_style number
-      → decider_now ≡ decider_after (messages MESSAGE_LIMIT T ++ message ∷ []) → SaysDecided says own_style (messages MESSAGE_LIMIT T) message number out number_now out_now
-      → WatchesItems style (T ++ e ∷ []) decider_now own_style number_now × says out (text_behind style MESSAGE_LIMIT T (newly_decided MESSAGE_LIMIT T e)) out_now
+      → decider_now ≡ decider_after (messages MESSAGE_LIMIT T ++ message ∷ [])
+      → SaysDecided says own_style (messages MESSAGE_LIMIT T) message number out number_now out_now
+      → WatchesItems style (T ++ e ∷ []) decider_now own_style number_now
+      × says out (text_behind style MESSAGE_LIMIT T (newly_decided MESSAGE_LIMIT T e)) out_now
   watches_next e message decider decider_now number number_now out out_now few next stood decides (items, are, lines) =
       let before = decided_of MESSAGE_LIMIT T in
       let longer : decided_of MESSAGE_LIMIT (T ++ e ∷ []) ≡ before ++ items = ap decided next ∙ are in
@@ -110,7 +111,9 @@ module _ {S : Type 0} (says : S → List ℕ → S → Type 0) (style own_style 
   watches_on nothing e decider number out few next stood =
       let before = decided_of MESSAGE_LIMIT T in
       let same : messages MESSAGE_LIMIT (T ++ e ∷ []) ≡ messages MESSAGE_LIMIT T = next in
-      let none : newly_decided MESSAGE_LIMIT T e ≡ [] = ap (λ M. drop (length before) (decided M)) same ∙ ap (drop (length before)) (sym (append-nil before)) ∙ drop-append_seam before [] in
+      let none : newly_decided MESSAGE_LIMIT T e ≡ [] =
+      ap (λ M. drop (length before) (decided M)) same ∙ ap (drop (length before)) (sym (append-nil before))
+      ∙ drop-append_seam before [] in
       let frames = length-append T (e ∷ []) in (
         record {
           decides = stood.decides ∙ ap decider_after (sym same);
@@ -148,16 +151,19 @@ module _ (style : ItemStyle) (limit : ℕ) where
       let grows = decided_grows M (told_message e.dir (verdict limit T e).verdict) in
       let longer : decided_of limit (T ++ e ∷ []) ≡ decided M ++ grows.0 = ap decided (messages_more limit T e) ∙ grows.1 in
       let left : newly_decided limit T e ≡ grows.0 = ap (drop (length (decided M))) longer ∙ drop-append_seam (decided M) grows.0 in
-      ap (λ items. list_text style (decided_of limit T) ++ text_behind style limit T items) left ∙ joined T grows.0 ∙ ap (list_text style) (sym longer)
+      ap (λ items. list_text style (decided_of limit T) ++ text_behind style limit T items) left ∙ joined T grows.0
+      ∙ ap (list_text style) (sym longer)
 
   -- and of all that follow
   from_there : (past rest : List Entry)
-      → list_text style (decided_of limit past) ++ said_after ((watch_script style limit).of_frame) past rest ≡ list_text style (decided_of limit (past ++ rest))
+      → list_text style (decided_of limit past) ++ said_after ((watch_script style limit).of_frame) past rest
+      ≡ list_text style (decided_of limit (past ++ rest))
   from_there past [] = append-nil (list_text style (decided_of limit past)) ∙ ap (λ T. list_text style (decided_of limit T)) (sym (append-nil past))
   from_there past (e ∷ rest) =
       let word = text_behind style limit past (newly_decided limit past e) in
       let later = said_after ((watch_script style limit).of_frame) (past ++ e ∷ []) rest in
-      sym (append_assoc (list_text style (decided_of limit past)) word later) ∙ ap (λ x. x ++ later) (next_said past e) ∙ from_there (past ++ e ∷ []) rest
+      sym (append_assoc (list_text style (decided_of limit past)) word later) ∙ ap (λ x. x ++ later) (next_said past e)
+      ∙ from_there (past ++ e ∷ []) rest
       ∙ ap (λ T. list_text style (decided_of limit T)) (append_assoc past (e ∷ []) rest)
 
 pub watch_says_decided : WatchSaysDecided
@@ -171,7 +177,8 @@ watch_says_the_list style limit T summary =
 
 -- so where a run comes to the end of the log, that was written
 pub writes_the_list : (style : ItemStyle) (settings : Settings) (log : List ℕ) (given : ℕ) (result : Result Summary Fault) (old new : List ℕ)
-    → AnswersAndWrites (command (watch_script style MESSAGE_LIMIT) says_no_refusal answers_counts (CompletesKept MESSAGE_LIMIT)) MESSAGE_LIMIT settings log given result old new
+    → AnswersAndWrites (command (watch_script style MESSAGE_LIMIT) says_no_refusal answers_counts
+    (CompletesKept MESSAGE_LIMIT)) MESSAGE_LIMIT settings log given result old new
     → OnOk result (WritesTheList style MESSAGE_LIMIT settings log old new)
 writes_the_list style settings log given (Ok summary) old new (all, meanings, is, counted, wrote) = (
   meaning_of_lines MESSAGE_LIMIT settings meanings,

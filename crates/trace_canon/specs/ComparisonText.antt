@@ -29,34 +29,34 @@ abbrev pub shown_text : Notation → ℕ → Option ItemValue → List ℕ
 shown_text Text number item = shown_line number item
 shown_text Json number item = value_text (shown_value number item)
 
--- the lines of the items of both logs at this index, which is counted from 0, and so one less than their number
+-- the lines of the items of both logs in this place, which is counted from 0, and so one less than their number
 abbrev pub shown_lines : ℕ → List ItemValue → List ItemValue → List ℕ
-shown_lines index left right =
-    codes "left: " ++ shown_line (index + 1) (slice_get left index)
-    ++ codes "right: " ++ shown_line (index + 1) (slice_get right index)
+shown_lines place left right =
+    codes "left: " ++ shown_line (place + 1) (slice_get left place)
+    ++ codes "right: " ++ shown_line (place + 1) (slice_get right place)
 
--- the items of both logs at this index, as members of an object
+-- the items of both logs in this place, as members of an object
 abbrev pub shown_members : ℕ → List ItemValue → List ItemValue → Members
-shown_members index left right =
-    member (codes "left") (shown_value (index + 1) (slice_get left index))
-    (member (codes "right") (shown_value (index + 1) (slice_get right index)) nothing)
+shown_members place left right =
+    member (codes "left") (shown_value (place + 1) (slice_get left place))
+    (member (codes "right") (shown_value (place + 1) (slice_get right place)) nothing)
 
 -- the answer of a comparison in words, in which items are counted from 1, and the items that are shown
 abbrev pub comparison_lines : Bool → Comparison → List ItemValue → List ItemValue → List ℕ
 comparison_lines shows Same left right = codes "same\n"
-comparison_lines shows (Different index) left right =
-    codes "different at item " ++ decimal (index + 1) ++ codes "\n" ++ (if shows then shown_lines index left right else [])
+comparison_lines shows (Different place) left right =
+    codes "different at item " ++ decimal (place + 1) ++ codes "\n" ++ (if shows then shown_lines place left right else [])
 
--- the members of two logs that differ at this index, and what else is said of them
+-- the members of two logs that differ first in this place, and what else is said of them
 abbrev pub different_members : ℕ → Members → Members
-different_members index later =
-    member (codes "same") (json.truth false) (member (codes "item") (json.number (index + 1)) later)
+different_members place later =
+    member (codes "same") (json.truth false) (member (codes "item") (json.number (place + 1)) later)
 
 -- the answer of a comparison as members of an object, and the items that are shown
 abbrev pub comparison_members : Bool → Comparison → List ItemValue → List ItemValue → Members
 comparison_members shows Same left right = member (codes "same") (json.truth true) nothing
-comparison_members shows (Different index) left right =
-    different_members index (if shows then shown_members index left right else nothing)
+comparison_members shows (Different place) left right =
+    different_members place (if shows then shown_members place left right else nothing)
 
 -- the answer of a comparison as it is written in a notation
 abbrev pub written_comparison : Notation → Bool → Comparison → List ItemValue → List ItemValue → List ℕ

@@ -1,5 +1,5 @@
 -- What is answered of the credit lines of a log, and what `find` writes of them. No length that is announced refuses a
--- log, and of the settings the limit alone counts.
+-- log, and of the settings `max_bytes` alone counts.
 use Rattle.std.specs.Prelude.{◌≡◌, ℕ, List, [], length, Option, Result, Ok, Err}
 use Rattle.can_log.specs.declared.frame.Stamped.{Stamped}
 use Rattle.isotp_receive.specs.declared.TheConstants.{MESSAGE_LIMIT}
@@ -15,7 +15,7 @@ use Rattle.trace_io.specs.declared.device.Source.{Ghosts as SourceGhosts}
 use Rattle.trace_io.specs.declared.device.Target.{Ghosts as TargetGhosts}
 use Rattle.trace_log.specs.Settings.{Settings}
 use Rattle.trace_log.specs.Summing.{counted_in, ends_in_line_feed}
-use Rattle.trace_run.specs.Ran.{IsUnreadFor, when_lenient}
+use Rattle.trace_run.specs.Ran.{CantBeRead}
 use Rattle.uds_find.specs.Finding.{AreCreditLines}
 use Rattle.uds_find.specs.declared.pair.CreditLine.{CreditLine}
 
@@ -38,14 +38,14 @@ IsFoundIn settings log lines summary =
 -- the credit lines of a log and its counts, or why it can't be read
 abbrev pub GivesFound : Settings → List ℕ → Result FoundCreditLines Fault → Type 0
 GivesFound settings log (Ok found) = IsFoundIn settings log found.credit_lines.items found.summary
-GivesFound settings log (Err fault) = IsUnreadFor when_lenient MESSAGE_LIMIT settings log fault
+GivesFound settings log (Err fault) = CantBeRead settings log fault
 
 -- the text of a log's credit lines, as a call writes it at the end
 abbrev pub text_of_credit_lines : Notation → Settings → TextOfLog (List CreditLine)
 text_of_credit_lines notation settings = record {
   text = credit_lines_text notation;
   gives = IsFoundIn settings;
-  lacks = IsUnreadFor when_lenient MESSAGE_LIMIT settings;
+  lacks = CantBeRead settings;
   reading = reading_to_find settings;
 }
 

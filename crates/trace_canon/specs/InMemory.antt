@@ -27,7 +27,7 @@ use Rattle.trace_canon.specs.MessagesScript.{messages_script}
 use Rattle.trace_log.specs.Settings.{Settings}
 use Rattle.trace_log.specs.Summing.{summary_of}
 use Rattle.trace_run.specs.Script.{Script, said_of_lines, whole_of_lines}
-use Rattle.trace_run.specs.Ran.{IsUnreadFor, when_lenient}
+use Rattle.trace_run.specs.Ran.{CantBeRead}
 use Rattle.uds_find.specs.declared.pair.CreditLine.{CreditLine}
 
 -- The fault is not that of a device, and refused memory only where some is needed.
@@ -46,7 +46,7 @@ IsRefused NeedsMemory limit settings log fault =
 -- refuses it
 abbrev pub IsUnread : (ℕ → Settings → List ℕ → Type 0) → ℕ → Settings → List ℕ → Fault → Type 0
 IsUnread NeedsMemory limit settings log fault =
-    IsUnreadFor when_lenient limit settings log fault × IsOfMemory (NeedsMemory limit settings log) fault
+    CantBeRead settings log fault × IsOfMemory (NeedsMemory limit settings log) fault
 
 -- the log is accepted, and these are its canonical log and its counts
 abbrev pub IsCanonicalLogWith : ℕ → Settings → List ℕ → List ℕ → Summary → Type 0
@@ -73,8 +73,8 @@ abbrev pub IsExplanationWith : Notation → ℕ → Settings → List ℕ → Li
 IsExplanationWith notation limit = IsSaidWith (explain_script notation limit) limit
 
 -- the log can be read and has these counts, and this is the text of its credit lines in this notation
-abbrev pub IsFindingWith : Notation → Settings → List ℕ → List ℕ → Summary → Type 0
-IsFindingWith notation settings log text summary =
+abbrev pub AreCreditLinesWith : Notation → Settings → List ℕ → List ℕ → Summary → Type 0
+AreCreditLinesWith notation settings log text summary =
     (lines : List CreditLine) × IsFoundIn settings log lines summary × (text ≡ credit_lines_text notation lines)
 
 -- there is a text of this kind, of one byte at least
@@ -102,7 +102,7 @@ NeedsMemoryForExplanation limit settings log = ⊤
 
 -- Memory is needed to gather the credit lines: to read the log, or since it has one, whatever the limit of a message.
 abbrev pub NeedsMemoryForCreditLines : Notation → ℕ → Settings → List ℕ → Type 0
-NeedsMemoryForCreditLines notation limit settings log = NeedsMemoryToFind log ⊎ HasBytes (IsFindingWith notation settings log)
+NeedsMemoryForCreditLines notation limit settings log = NeedsMemoryToFind log ⊎ HasBytes (AreCreditLinesWith notation settings log)
 
 -- the meaning of the log, or why it has none
 abbrev pub MeansInMemory : ℕ → Settings → List ℕ → Result (List ItemValue) Fault → Type 0

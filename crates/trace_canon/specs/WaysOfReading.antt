@@ -1,11 +1,13 @@
 -- How a run reads a log: what refuses the log, for which logs it needs memory, and how many bytes count; and what holds
 -- of every run that reads so.
-use Rattle.std.specs.Prelude.{ℕ, List}
+use Rattle.std.specs.Prelude.{◌≡◌, ℕ, List, Result, Err}
 use Rattle.trace_io.specs.declared.device.Source.{Ghosts as SourceGhosts}
 use Rattle.trace_log.specs.Answers.{ReadsWhile}
-use Rattle.trace_log.specs.Devices.{AgreesWith, bytes_given}
+use Rattle.trace_log.specs.Devices.{AgreesWith, ReadFrom, bytes_given}
 use Rattle.trace_log.specs.Refusal.{HasNoBadPlaceWithin, IsNotRefusedWithin}
 use Rattle.trace_log.specs.Settings.{Settings}
+use Rattle.trace_log.specs.declared.fault.Fault.{Fault}
+use Rattle.trace_log.specs.declared.fault.Fault.TheVariants.{Read, Memory}
 use Rattle.trace_canon.specs.MemoryNeeded.{NeedsMemoryToCollect, NeedsMemoryToFind, NeedsMemoryToOrder}
 
 -- A way to read a log.
@@ -50,3 +52,11 @@ module _ {R : Type 0} (source : SourceGhosts R) (reading : WayOfReading) (before
   -- where memory is refused, which `IsMemoryRefused` says, the log needs some
   abbrev pub NeedsMemoryWhere : Type 0 → Type 0
   NeedsMemoryWhere IsMemoryRefused = (log : List ℕ) → AgreesWith source before after log → IsMemoryRefused → reading.needs log
+
+-- A run read a source in such a way, up to this answer: how near to what refuses the log it stopped, that memory is
+-- refused only for a log that needs some, and what it did with the source.
+pub record ReadInThisWay {R A : Type 0} (source : SourceGhosts R) (reading : WayOfReading)
+    (before : R) (result : Result A Fault) (after : R) : Type 0 where
+  pub near : StopsNear source reading before after
+  pub memory : NeedsMemoryWhere source reading before after (result ≡ Err Memory)
+  pub read : ReadFrom source Read reading.max_bytes result before after

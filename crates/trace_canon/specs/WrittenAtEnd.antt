@@ -3,11 +3,11 @@ use Rattle.std.specs.Prelude.{◌≡◌, ◌≢◌, ◌<◌, List, ℕ, ◌++◌
 use Rattle.trace_io.specs.Written.{HasFront}
 use Rattle.trace_io.specs.declared.device.Source.{Ghosts as SourceGhosts}
 use Rattle.trace_io.specs.declared.device.Target.{Ghosts as TargetGhosts}
-use Rattle.trace_canon.specs.WaysOfReading.{NeedsMemoryWhere, StopsNear, WayOfReading}
+use Rattle.trace_canon.specs.WaysOfReading.{ReadInThisWay, WayOfReading}
 use Rattle.trace_log.specs.declared.fault.Fault.{Fault}
 use Rattle.trace_log.specs.declared.fault.Fault.TheVariants.{BadLine, Oversize, LogLimit, OutputLimit, Read, Write, Memory}
 use Rattle.trace_log.specs.declared.summary.Summary.{Summary}
-use Rattle.trace_log.specs.Devices.{AgreesWith, ReadFrom, WroteTo}
+use Rattle.trace_log.specs.Devices.{AgreesWith, WroteTo}
 
 -- A text that a call writes of a log.
 pub record TextOfLog (V : Type 0) : Type 1 where
@@ -48,8 +48,6 @@ pub record RanAtEnd {V R W : Type 0} (source : SourceGhosts R) (target : TargetG
   -- where there is no such text, the target is left alone
   pub unwritten : IfErr result (λ fault. fault ≢ Write → new ≡ old)
   -- how the log was read
-  pub near : StopsNear source of.reading before after
-  pub memory : NeedsMemoryWhere source of.reading before after (result ≡ Err Memory)
-  pub read : ReadFrom source Read of.reading.max_bytes result before after
+  pub way : ReadInThisWay source of.reading before result after
   -- what was done with the target
   pub wrote : WroteTo target Write result old new

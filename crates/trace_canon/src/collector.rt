@@ -30,12 +30,12 @@ pub struct Session {
 pub fn meaning_of<R: Source>(
     alloc: Global,
     config: &Config,
-    reader: &mut R,
+    source: &mut R,
 ) -> Result<Meaning, Fault>
-    requires reader { HasLowCounts R.Source reader.old }
-    ensures ran { RanToCollect R.Source GivesMeaning MESSAGE_LIMIT config.now reader.old result reader.new }
+    requires source { HasLowCounts R.Source source.old }
+    ensures ran { RanToCollect R.Source GivesMeaning MESSAGE_LIMIT config.now source.old result source.new }
 {
-    let session = session_of(alloc, config, reader)?;
+    let session = session_of(alloc, config, source)?;
     Ok(session.meaning)
 }
 
@@ -43,10 +43,10 @@ pub fn meaning_of<R: Source>(
 pub(crate) fn session_of<R: Source>(
     alloc: Global,
     config: &Config,
-    reader: &mut R,
+    source: &mut R,
 ) -> Result<Session, Fault>
-    requires reader { HasLowCounts R.Source reader.old }
-    ensures ran { RanToCollect R.Source GivesSession MESSAGE_LIMIT config.now reader.old result reader.new }
+    requires source { HasLowCounts R.Source source.old }
+    ensures ran { RanToCollect R.Source GivesSession MESSAGE_LIMIT config.now source.old result source.new }
     ensures configured { AreSettings config.now }
 {
     let machine = Collector {
@@ -55,7 +55,7 @@ pub(crate) fn session_of<R: Source>(
         length: 0,
         config: *config,
     };
-    run(alloc, config, machine, reader, &mut Nowhere::new())
+    run(alloc, config, machine, source, &mut Nowhere::new())
 }
 
 /// Pairs the messages, and answers with all items at the end.

@@ -1,4 +1,4 @@
-//! The item of a log at the index where two differ, in words and in JSON.
+//! The item of a log in the place where two differ, in words and in JSON.
 ghost use Rattle.std.specs.Prelude.{ℕ, ◌+◌, Some, None, slice_get};
 ghost use Rattle.uds_exchange.specs.ItemSeen.{item_value};
 ghost use Rattle.trace_canon.specs.ComparisonText.{shown_text};
@@ -8,23 +8,23 @@ use trace_text::values::say_text;
 use trace_text::{Notation, Numbering, say_item_object, say_worded_line};
 use uds_exchange::{Item, Meaning};
 
-/// Says the item of a meaning at an index, which is counted from 0, by its number, which is counted from 1; or that
+/// Says the item of a meaning in a place, which is counted from 0, by its number, which is counted from 1; or that
 /// there is none.
 pub(crate) fn say_item_at<S: TextSink>(
     meaning: &Meaning,
-    index: usize,
+    place: usize,
     notation: Notation,
     out: &mut S,
 )
-    ensures { S.says out.old (shown_text notation (index + 1) (slice_get meaning.now index)) out.new }
+    ensures { S.says out.old (shown_text notation (place + 1) (slice_get meaning.now place)) out.new }
 {
-    // `item` asks this, too. Asked here first, it bounds the index, so that the number, one more, can't overflow.
-    if index >= meaning.len() {
+    // `item` asks this, too. Asked here first, it bounds the place, so that the number, one more, can't overflow.
+    if place >= meaning.len() {
         say_nothing(notation, out);
         return;
     }
-    if let Some(item) = meaning.item(index) {
-        say_shown(index as u64 + 1, item, notation, out);
+    if let Some(item) = meaning.item(place) {
+        say_shown(place as u64 + 1, item, notation, out);
     }
 }
 

@@ -22,26 +22,28 @@ pub(crate) fn say_comparison_object<S: TextSink>(
 {
     match compared.comparison {
         Comparison::Same => say_text(out, "{\"same\":true}\n"),
-        Comparison::Different { item } if shows_items => say_shown_object(compared, item, out),
-        Comparison::Different { item } => {
-            say(out, ("{\"same\":false,\"item\":", Ordinal(item), "}\n"));
+        Comparison::Different { item: place } if shows_items => {
+            say_shown_object(compared, place, out)
+        },
+        Comparison::Different { item: place } => {
+            say(out, ("{\"same\":false,\"item\":", Ordinal(place), "}\n"));
         }
     }
 }
 
-/// Says the object of two logs that differ at this index of their items, with the items of both there.
-fn say_shown_object<S: TextSink>(compared: &Compared, index: usize, out: &mut S)
+/// Says the object of two logs that differ first in this place, with the items of both there.
+fn say_shown_object<S: TextSink>(compared: &Compared, place: usize, out: &mut S)
     ensures { S.says out.old
         (object_line
-        (different_members index (shown_members index compared.now.left.meaning compared.now.right.meaning)))
+        (different_members place (shown_members place compared.now.left.meaning compared.now.right.meaning)))
         out.new }
 {
     say(
         out,
-        ("{\"same\":false,\"item\":", Ordinal(index), ",\"left\":"),
+        ("{\"same\":false,\"item\":", Ordinal(place), ",\"left\":"),
     );
-    say_item_at(&compared.left.meaning, index, Notation::Json, out);
+    say_item_at(&compared.left.meaning, place, Notation::Json, out);
     say_text(out, ",\"right\":");
-    say_item_at(&compared.right.meaning, index, Notation::Json, out);
+    say_item_at(&compared.right.meaning, place, Notation::Json, out);
     say_text(out, "}\n");
 }

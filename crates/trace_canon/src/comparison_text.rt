@@ -23,18 +23,18 @@ pub struct ComparisonStyle {
 
 /// Writes how two logs compare, in this style.
 ///
-/// The writer is not flushed.
+/// The target is not flushed.
 pub fn write_comparison<W: Target>(
     compared: &Compared,
     style: ComparisonStyle,
-    writer: &mut W,
+    target: &mut W,
 ) -> Result<(), Fault>
-    requires { IsLowCount (W.failures writer.old) }
+    requires { IsLowCount (W.failures target.old) }
 
-    // Its text was written, or a front of it where writing failed; and what that did with the writer.
-    ensures printed { Prints W.Target (comparison_text style compared.now) writer.old result writer.new }
+    // Its text was written, or a front of it where writing failed; and what that did with the target.
+    ensures printed { Prints W.Target (comparison_text style compared.now) target.old result target.new }
 {
-    print(InStyle { compared, style }, writer)
+    print(InStyle { compared, style }, target)
 }
 
 /// A comparison in a style.
@@ -65,21 +65,21 @@ fn say_lines<S: TextSink>(compared: &Compared, shows_items: bool, out: &mut S)
 {
     match compared.comparison {
         Comparison::Same => say_text(out, "same\n"),
-        Comparison::Different { item } => {
-            say(out, ("different at item ", Ordinal(item), "\n"));
+        Comparison::Different { item: place } => {
+            say(out, ("different at item ", Ordinal(place), "\n"));
             if shows_items {
-                say_items_at(compared, item, out);
+                say_items_at(compared, place, out);
             }
         }
     }
 }
 
-/// Says the items of both logs at an index.
-fn say_items_at<S: TextSink>(compared: &Compared, index: usize, out: &mut S)
-    ensures { S.says out.old (shown_lines index compared.now.left.meaning compared.now.right.meaning) out.new }
+/// Says the items of both logs in a place.
+fn say_items_at<S: TextSink>(compared: &Compared, place: usize, out: &mut S)
+    ensures { S.says out.old (shown_lines place compared.now.left.meaning compared.now.right.meaning) out.new }
 {
     say_text(out, "left: ");
-    say_item_at(&compared.left.meaning, index, Notation::Text, out);
+    say_item_at(&compared.left.meaning, place, Notation::Text, out);
     say_text(out, "right: ");
-    say_item_at(&compared.right.meaning, index, Notation::Text, out);
+    say_item_at(&compared.right.meaning, place, Notation::Text, out);
 }

@@ -21,27 +21,27 @@ use trace_text::{Notation, Remark, say_remark};
 /// Reads a log and writes a line for each reception that ended without its message and for each frame that was dropped,
 /// as they come; then the receptions that stand at the end, and the counts. In words or as objects of JSON.
 ///
-/// The writer is not flushed.
+/// The target is not flushed.
 pub fn explain<R: Source, W: Target>(
     alloc: Global,
     config: &Config,
     notation: Notation,
-    reader: &mut R,
-    writer: &mut W,
+    source: &mut R,
+    target: &mut W,
 ) -> Result<Summary, Fault>
-    requires reader { HasLowCounts R.Source reader.old }
-    requires writer { IsLowCount (W.failures writer.old) }
+    requires source { HasLowCounts R.Source source.old }
+    requires target { IsLowCount (W.failures target.old) }
 
     // What is answered and written; that it is written before more is read; and what was done with the devices.
     ensures ran { RanLenient R.Source W.Target
         (command (explain_script notation MESSAGE_LIMIT) says_no_refusal answers_counts needs_none)
-        config.now reader.old writer.old result reader.new writer.new }
+        config.now source.old target.old result source.new target.new }
 
     // Where nothing was dropped, ended or left unfinished, the log is a recording.
-    ensures certificate { (log : List ℕ) → AgreesWith R.Source reader.old reader.new log
+    ensures certificate { (log : List ℕ) → AgreesWith R.Source source.old source.new log
         → IfOk result (Certifies MESSAGE_LIMIT config.now log) }
 {
-    run_lenient(alloc, config, Explainer { notation }, reader, writer)
+    run_lenient(alloc, config, Explainer { notation }, source, target)
 }
 
 /// Says the lines of each frame.

@@ -14,27 +14,27 @@ use trace_run::print;
 use trace_text::Notation;
 use uds_find::CreditLine;
 
-/// Reads a log, and then writes its credit lines in this notation. Of the configuration the limit alone counts.
+/// Reads a log, and then writes its credit lines in this notation. Of the configuration `max_bytes` alone counts.
 ///
-/// The writer is not flushed.
+/// The target is not flushed.
 pub fn find<R: Source, W: Target>(
     alloc: Global,
     config: &Config,
     notation: Notation,
-    reader: &mut R,
-    writer: &mut W,
+    source: &mut R,
+    target: &mut W,
 ) -> Result<Summary, Fault>
-    requires reader { HasLowCounts R.Source reader.old }
-    requires writer { IsLowCount (W.failures writer.old) }
+    requires source { HasLowCounts R.Source source.old }
+    requires target { IsLowCount (W.failures target.old) }
 
-    ensures ran { RanToFind R.Source W.Target notation config.now reader.old writer.old result reader.new writer.new }
+    ensures ran { RanToFind R.Source W.Target notation config.now source.old target.old result source.new target.new }
 {
-    let found = found_in(alloc, config, reader)?;
+    let found = found_in(alloc, config, source)?;
     let lines = CreditLines {
         lines: &found.credit_lines,
         notation,
     };
-    print(lines, writer)?;
+    print(lines, target)?;
     Ok(found.summary)
 }
 

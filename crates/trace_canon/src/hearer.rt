@@ -29,13 +29,13 @@ pub(crate) struct FoundCreditLines {
 pub(crate) fn found_in<R: Source>(
     alloc: Global,
     config: &Config,
-    reader: &mut R,
+    source: &mut R,
 ) -> Result<FoundCreditLines, Fault>
-    requires reader { HasLowCounts R.Source reader.old }
-    ensures ran { RanToRead R.Source (GivesFound config.now) (reading_to_find config.now) reader.old result reader.new }
+    requires source { HasLowCounts R.Source source.old }
+    ensures ran { RanToRead R.Source (GivesFound config.now) (reading_to_find config.now) source.old result source.new }
 {
     let mut hearer = Hearer::start(alloc);
-    let ends_in_line_feed = feed_lines(config.max_bytes(), reader, &mut hearer, &mut ())?;
+    let ends_in_line_feed = feed_lines(config.max_bytes(), source, &mut hearer, &mut ())?;
     hearer.finish(alloc, ends_in_line_feed)
 }
 

@@ -3,7 +3,7 @@
 ghost use Rattle.std.specs.Prelude.{◌≡◌, Ok, Err, MatchResult};
 ghost use Rattle.isotp_receive.specs.declared.TheConstants.{MESSAGE_LIMIT};
 ghost use Rattle.trace_canon.specs.InMemory.{IsCanonicalLogWith, IsListWith, AreMessageLinesWith, IsExplanationWith};
-ghost use Rattle.trace_canon.specs.InMemory.{IsFindingWith, MeansInMemory, ComparesWithCounts, fault_in_memory};
+ghost use Rattle.trace_canon.specs.InMemory.{AreCreditLinesWith, MeansInMemory, ComparesWithCounts, fault_in_memory};
 ghost use Rattle.trace_canon.specs.InMemory.{NeedsMemoryForCanonicalLog, NeedsMemoryForList, NeedsMemoryForMessageLines};
 ghost use Rattle.trace_canon.specs.InMemory.{NeedsMemoryForExplanation, NeedsMemoryForCreditLines, IsRefused, IsUnread};
 ghost use Rattle.trace_canon.specs.InMemory as Spec;
@@ -49,9 +49,9 @@ pub fn canonical_log(alloc: Global, config: &Config, log: &[u8]) -> Result<Count
         (λ counted. IsCanonicalLogWith MESSAGE_LIMIT config.now log.now counted.text.items counted.summary)
         (IsRefused NeedsMemoryForCanonicalLog MESSAGE_LIMIT config.now log.now) }
 {
-    let mut writer = Writing::new(Vec::new(alloc));
-    let answer = normalise(alloc, config, &mut Bytes::new(log), &mut writer);
-    counted_text(answer, writer.into_inner())
+    let mut target = Writing::new(Vec::new(alloc));
+    let answer = normalise(alloc, config, &mut Bytes::new(log), &mut target);
+    counted_text(answer, target.into_inner())
 }
 
 /// The list of a log's items, as [`list`](crate::list) writes it.
@@ -65,9 +65,9 @@ pub fn item_list(
         (λ counted. IsListWith style MESSAGE_LIMIT config.now log.now counted.text.items counted.summary)
         (IsRefused (NeedsMemoryForList style) MESSAGE_LIMIT config.now log.now) }
 {
-    let mut writer = Writing::new(Vec::new(alloc));
-    let answer = list(alloc, config, style, &mut Bytes::new(log), &mut writer);
-    counted_text(answer, writer.into_inner())
+    let mut target = Writing::new(Vec::new(alloc));
+    let answer = list(alloc, config, style, &mut Bytes::new(log), &mut target);
+    counted_text(answer, target.into_inner())
 }
 
 /// The lines of the messages of a log, as [`messages`](crate::messages) writes them.
@@ -81,9 +81,9 @@ pub fn message_lines(
         (λ counted. AreMessageLinesWith notation MESSAGE_LIMIT config.now log.now counted.text.items counted.summary)
         (IsUnread (NeedsMemoryForMessageLines notation) MESSAGE_LIMIT config.now log.now) }
 {
-    let mut writer = Writing::new(Vec::new(alloc));
-    let answer = messages(alloc, config, notation, &mut Bytes::new(log), &mut writer);
-    counted_text(answer, writer.into_inner())
+    let mut target = Writing::new(Vec::new(alloc));
+    let answer = messages(alloc, config, notation, &mut Bytes::new(log), &mut target);
+    counted_text(answer, target.into_inner())
 }
 
 /// What each frame of a log did, as [`explain`](crate::explain) writes it.
@@ -97,9 +97,9 @@ pub fn explanation(
         (λ counted. IsExplanationWith notation MESSAGE_LIMIT config.now log.now counted.text.items counted.summary)
         (IsUnread NeedsMemoryForExplanation MESSAGE_LIMIT config.now log.now) }
 {
-    let mut writer = Writing::new(Vec::new(alloc));
-    let answer = explain(alloc, config, notation, &mut Bytes::new(log), &mut writer);
-    counted_text(answer, writer.into_inner())
+    let mut target = Writing::new(Vec::new(alloc));
+    let answer = explain(alloc, config, notation, &mut Bytes::new(log), &mut target);
+    counted_text(answer, target.into_inner())
 }
 
 /// The credit lines of a log, as [`find`](crate::find) writes them.
@@ -110,12 +110,12 @@ pub fn credit_lines(
     log: &[u8],
 ) -> Result<CountedText, Fault>
     ensures answer { MatchResult result
-        (λ counted. IsFindingWith notation config.now log.now counted.text.items counted.summary)
+        (λ counted. AreCreditLinesWith notation config.now log.now counted.text.items counted.summary)
         (IsUnread (NeedsMemoryForCreditLines notation) MESSAGE_LIMIT config.now log.now) }
 {
-    let mut writer = Writing::new(Vec::new(alloc));
-    let answer = find(alloc, config, notation, &mut Bytes::new(log), &mut writer);
-    counted_text(answer, writer.into_inner())
+    let mut target = Writing::new(Vec::new(alloc));
+    let answer = find(alloc, config, notation, &mut Bytes::new(log), &mut target);
+    counted_text(answer, target.into_inner())
 }
 
 /// How two logs compare, as [`compare`](crate::compare) answers it.

@@ -30,22 +30,22 @@ pub trait ItemText: Copy {
 
 /// Reads a log, and then writes this text of the items of its meaning. Where the log is refused nothing is written.
 ///
-/// The writer is not flushed.
+/// The target is not flushed.
 pub fn write_items<T: ItemText, R: Source, W: Target>(
     alloc: Global,
     config: &Config,
     text: &T,
-    reader: &mut R,
-    writer: &mut W,
+    source: &mut R,
+    target: &mut W,
 ) -> Result<Summary, Fault>
-    requires reader { HasLowCounts R.Source reader.old }
-    requires writer { IsLowCount (W.failures writer.old) }
+    requires source { HasLowCounts R.Source source.old }
+    requires target { IsLowCount (W.failures target.old) }
     ensures ran { RanOverItems R.Source W.Target (T.text text.now) MESSAGE_LIMIT
-        config.now reader.old writer.old result reader.new writer.new }
+        config.now source.old target.old result source.new target.new }
 {
-    let session = session_of(alloc, config, reader)?;
+    let session = session_of(alloc, config, source)?;
     let items = &session.meaning;
-    print(OfItems { text, items }, writer)?;
+    print(OfItems { text, items }, target)?;
     Ok(session.summary)
 }
 

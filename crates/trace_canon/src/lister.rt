@@ -14,20 +14,20 @@ use uds_exchange::Meaning;
 
 /// Reads a log, and then writes a line for each item of its meaning, in this style.
 ///
-/// The writer is not flushed.
+/// The target is not flushed.
 pub fn list<R: Source, W: Target>(
     alloc: Global,
     config: &Config,
     style: ItemStyle,
-    reader: &mut R,
-    writer: &mut W,
+    source: &mut R,
+    target: &mut W,
 ) -> Result<Summary, Fault>
-    requires reader { HasLowCounts R.Source reader.old }
-    requires writer { IsLowCount (W.failures writer.old) }
+    requires source { HasLowCounts R.Source source.old }
+    requires target { IsLowCount (W.failures target.old) }
     ensures ran { RanOverItems R.Source W.Target (list_text style) MESSAGE_LIMIT
-        config.now reader.old writer.old result reader.new writer.new }
+        config.now source.old target.old result source.new target.new }
 {
-    write_items(alloc, config, &style, reader, writer)
+    write_items(alloc, config, &style, source, target)
 }
 
 impl ItemText for ItemStyle {

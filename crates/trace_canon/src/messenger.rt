@@ -23,27 +23,27 @@ use uds_exchange::Judged;
 /// number that [`list`](crate::list) gives its item, its role in that item, its direction, the lines and the time
 /// stamps of its first frame and its last one, and its bytes.
 ///
-/// The writer is not flushed.
+/// The target is not flushed.
 pub fn messages<R: Source, W: Target>(
     alloc: Global,
     config: &Config,
     notation: Notation,
-    reader: &mut R,
-    writer: &mut W,
+    source: &mut R,
+    target: &mut W,
 ) -> Result<Summary, Fault>
-    requires reader { HasLowCounts R.Source reader.old }
-    requires writer { IsLowCount (W.failures writer.old) }
+    requires source { HasLowCounts R.Source source.old }
+    requires target { IsLowCount (W.failures target.old) }
 
     // What is answered and written; that it is written before more is read; and what was done with the devices.
     ensures ran { RanLenient R.Source W.Target
         (command (messages_script notation MESSAGE_LIMIT) says_no_refusal answers_counts needs_none)
-        config.now reader.old writer.old result reader.new writer.new }
+        config.now source.old target.old result source.new target.new }
 {
     let machine = Messenger {
         notation,
         starts: ReceptionStarts::start(),
     };
-    run_lenient(alloc, config, machine, reader, writer)
+    run_lenient(alloc, config, machine, source, target)
 }
 
 /// Says the line of each message. It keeps no message.

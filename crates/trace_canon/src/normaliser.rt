@@ -24,60 +24,60 @@ use uds_exchange::JudgedOrderer;
 
 /// Reads a log and writes the canonical lines of its messages, each as soon as all that come before it are known.
 ///
-/// The writer is not flushed.
+/// The target is not flushed.
 pub fn normalise<R: Source, W: Target>(
     alloc: Global,
     config: &Config,
-    reader: &mut R,
-    writer: &mut W,
+    source: &mut R,
+    target: &mut W,
 ) -> Result<Summary, Fault>
-    requires reader { HasLowCounts R.Source reader.old }
-    requires writer { IsLowCount (W.failures writer.old) }
+    requires source { HasLowCounts R.Source source.old }
+    requires target { IsLowCount (W.failures target.old) }
 
     // What is answered and written, for each log with which the bytes that were read agree.
-    ensures answer { (log : List ℕ) → AgreesWith R.Source reader.old reader.new log
-        → Answers MESSAGE_LIMIT config.now log (bytes_given R.Source reader.old reader.new)
-        result (W.taken writer.old) (W.taken writer.new) }
+    ensures answer { (log : List ℕ) → AgreesWith R.Source source.old source.new log
+        → Answers MESSAGE_LIMIT config.now log (bytes_given R.Source source.old source.new)
+        result (W.taken target.old) (W.taken target.new) }
 
     // For who follows a log that is still being recorded: before each read all is written that the lines so far decide.
-    ensures eager { (log : List ℕ) → AgreesWith R.Source reader.old reader.new log
-        → WritesEagerly MESSAGE_LIMIT config.now log (bytes_given R.Source reader.old reader.new)
-        (W.taken writer.old) (W.taken writer.new) }
+    ensures eager { (log : List ℕ) → AgreesWith R.Source source.old source.new log
+        → WritesEagerly MESSAGE_LIMIT config.now log (bytes_given R.Source source.old source.new)
+        (W.taken target.old) (W.taken target.new) }
 
     // For who reads what is written instead of the log: it is accepted, is its own canonical log, and has the meaning
     // of the log.
-    ensures again { (log : List ℕ) → AgreesWith R.Source reader.old reader.new log
-        → OnOk result ((text : List ℕ) → W.taken writer.new ≡ W.taken writer.old ++ text
+    ensures again { (log : List ℕ) → AgreesWith R.Source source.old source.new log
+        → OnOk result ((text : List ℕ) → W.taken target.new ≡ W.taken target.old ++ text
         → IsCanonicalFor MESSAGE_LIMIT config.now log text) }
 
     // For a recording of messages their meaning's canonical log is written; and a summary that counts nothing dropped,
     // ended or unfinished certifies that the log is one.
-    ensures recording { (log : List ℕ) → AgreesWith R.Source reader.old reader.new log
+    ensures recording { (log : List ℕ) → AgreesWith R.Source source.old source.new log
         → OnOk result ((M : List Message) → Records MESSAGE_LIMIT config.now log M
-        → W.taken writer.new ≡ W.taken writer.old ++ canonical_log MESSAGE_LIMIT config.now (flattened (meaning M))) }
-    ensures certificate { (log : List ℕ) → AgreesWith R.Source reader.old reader.new log
+        → W.taken target.new ≡ W.taken target.old ++ canonical_log MESSAGE_LIMIT config.now (flattened (meaning M))) }
+    ensures certificate { (log : List ℕ) → AgreesWith R.Source source.old source.new log
         → IfOk result (λ summary. Certifies MESSAGE_LIMIT config.now log summary) }
 
     // How the log was read: reading stops within one piece of what refuses it, and memory is refused only for a log
     // that needs some, for a message of several frames or for one that is held.
-    ensures near { StopsNear R.Source (reading_to_order MESSAGE_LIMIT config.now) reader.old reader.new }
-    ensures memory { NeedsMemoryWhere R.Source (reading_to_order MESSAGE_LIMIT config.now) reader.old reader.new
+    ensures near { StopsNear R.Source (reading_to_order MESSAGE_LIMIT config.now) source.old source.new }
+    ensures memory { NeedsMemoryWhere R.Source (reading_to_order MESSAGE_LIMIT config.now) source.old source.new
         (result ≡ Err Memory) }
 
     // Writing fails only where the lines read have a canonical line.
-    ensures some { (log : List ℕ) → AgreesWith R.Source reader.old reader.new log
+    ensures some { (log : List ℕ) → AgreesWith R.Source source.old source.new log
         → result ≡ Err Write → HasTextOf (canonical_log_of_lines MESSAGE_LIMIT config.now) log }
 
     // What it did with the devices.
-    ensures read { ReadFrom R.Source Fault.Read config.now.max_bytes result reader.old reader.new }
-    ensures wrote { WroteTo W.Target Fault.Write result writer.old writer.new }
+    ensures read { ReadFrom R.Source Fault.Read config.now.max_bytes result source.old source.new }
+    ensures wrote { WroteTo W.Target Fault.Write result target.old target.new }
 {
     let machine = Normaliser {
         orderer: JudgedOrderer::new(alloc),
         progress: Progress::start(config),
         config: *config,
     };
-    run(alloc, config, machine, reader, writer)
+    run(alloc, config, machine, source, target)
 }
 
 /// Says the canonical lines of the messages, each as soon as all that come before it are known.

@@ -24,32 +24,32 @@ use uds_exchange::{Decider, Item, ItemSink, Judged};
 /// Reads a log and writes the lines of [`list`](crate::list), each as soon as its item is decided: an exchange when its
 /// answer comes or the next request does, and the strays after it then too. What is not decided is written at the end.
 ///
-/// The writer is not flushed.
+/// The target is not flushed.
 pub fn watch<R: Source, W: Target>(
     alloc: Global,
     config: &Config,
     style: ItemStyle,
-    reader: &mut R,
-    writer: &mut W,
+    source: &mut R,
+    target: &mut W,
 ) -> Result<Summary, Fault>
-    requires reader { HasLowCounts R.Source reader.old }
-    requires writer { IsLowCount (W.failures writer.old) }
+    requires source { HasLowCounts R.Source source.old }
+    requires target { IsLowCount (W.failures target.old) }
 
     // What is answered and written; that it is written before more is read; and what was done with the devices.
     ensures ran { RanLenient R.Source W.Target
         (command (watch_script style MESSAGE_LIMIT) says_no_refusal answers_counts (CompletesKept MESSAGE_LIMIT))
-        config.now reader.old writer.old result reader.new writer.new }
+        config.now source.old target.old result source.new target.new }
 
     // At the end of the log that is the list of its meaning.
-    ensures whole { (log : List ℕ) → AgreesWith R.Source reader.old reader.new log
-        → OnOk result (WritesTheList style MESSAGE_LIMIT config.now log (W.taken writer.old) (W.taken writer.new)) }
+    ensures whole { (log : List ℕ) → AgreesWith R.Source source.old source.new log
+        → OnOk result (WritesTheList style MESSAGE_LIMIT config.now log (W.taken target.old) (W.taken target.new)) }
 {
     let machine = Watcher {
         decider: Decider::new(alloc),
         style,
         number: 1,
     };
-    run_lenient(alloc, config, machine, reader, writer)
+    run_lenient(alloc, config, machine, source, target)
 }
 
 /// Says the line of each item as soon as it is decided.

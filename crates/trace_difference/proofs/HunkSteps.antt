@@ -2,8 +2,8 @@
 use Rattle.std.proofs.Common.{◌≡◌, ℕ, zero, suc, ◌+◌, ◌-◌, ◌<◌, true, false, List, ◌∷◌, ◌++◌, take, arith, refl}
 use Rattle.std.specs.List.{flat_map}
 use Rattle.uds_difference.specs.declared.row.Row.{Row}
-use Rattle.shown_rows.specs.Hunks.{Hunk, hunk_length, hunks_behind}
-use Rattle.shown_rows.specs.Rows.{changes_within, context, left_in, right_in}
+use Rattle.shown_rows.specs.Hunks.{Hunk, begins_hunk, hunk_length, hunks_behind}
+use Rattle.shown_rows.specs.Rows.{left_in, right_in}
 use Rattle.trace_difference.specs.proving.HunkOf.{hunk_of}
 
 module _ (text : Hunk → List ℕ) where
@@ -16,12 +16,12 @@ module _ (text : Hunk → List ℕ) where
   in-hunk zero i j row later more = absurd (omega arith)
   in-hunk (suc shown) i j row later more = let next : suc shown - 1 ≡ shown = omega arith in rw next refl
 
-  pub at-hunk : (i j : ℕ) (row : Row) (later : List Row) → changes_within (context + 1) (row ∷ later) ≡ true
+  pub at-hunk : (i j : ℕ) (row : Row) (later : List Row) → begins_hunk (row ∷ later) ≡ true
       → hunks_left 0 i j (row ∷ later)
       ≡ text (hunk_of i j (take (hunk_length (row ∷ later)) (row ∷ later)))
       ++ hunks_left (hunk_length (row ∷ later) - 1) (i + left_in row) (j + right_in row) later
   at-hunk i j row later near = rw near refl
 
-  pub before-hunk : (i j : ℕ) (row : Row) (later : List Row) → changes_within (context + 1) (row ∷ later) ≡ false
+  pub before-hunk : (i j : ℕ) (row : Row) (later : List Row) → begins_hunk (row ∷ later) ≡ false
       → hunks_left 0 i j (row ∷ later) ≡ hunks_left 0 (i + left_in row) (j + right_in row) later
   before-hunk i j row later far = rw far refl

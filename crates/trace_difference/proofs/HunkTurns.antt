@@ -3,8 +3,8 @@ use Rattle.std.proofs.Common.{◌≡◌, ℕ, ◌+◌, ◌-◌, ◌<◌, Bool, t
 use Rattle.std.specs.List.{flat_map}
 use Rattle.uds_exchange.specs.Meaning.{ItemValue}
 use Rattle.uds_difference.specs.declared.row.Row.{Row}
-use Rattle.shown_rows.specs.Hunks.{Hunk, hunk_length}
-use Rattle.shown_rows.specs.Rows.{changes_within, context, left_count, left_in, right_count, right_in}
+use Rattle.shown_rows.specs.Hunks.{Hunk, begins_hunk, hunk_length}
+use Rattle.shown_rows.specs.Rows.{left_count, left_in, right_count, right_in}
 use Rattle.trace_difference.specs.Lines.{line_text, lines_of}
 use Rattle.trace_difference.specs.Unified.{hunk_text, span_text}
 use Rattle.trace_difference.specs.proving.HunkOf.{hunk_of}
@@ -19,12 +19,12 @@ module _ {S : Type 0} (says : S → List ℕ → S → Type 0) (onward : (s m t 
   pub turn-in : rows ≡ row ∷ later → 0 < shown → At rows shown i j now → At later (shown - 1) (i + left_in row) (j + right_in row) now
   turn-in is more left = same-rest says old now _ _ whole (ap (hunks_left text shown i j) is ∙ in-hunk text shown i j row later more) left
 
-  pub turn-at : rows ≡ row ∷ later → shown ≡ 0 → (rest : List Row) (near : Bool) (count : ℕ) (new : S) → rest ≡ rows → near ≡ changes_within (context + 1) rest → near ≡ true
+  pub turn-at : rows ≡ row ∷ later → shown ≡ 0 → (rest : List Row) (near : Bool) (count : ℕ) (new : S) → rest ≡ rows → near ≡ begins_hunk rest → near ≡ true
       → count ≡ hunk_length rest → At rows shown i j now → says now (text (hunk_of i j (take count rest))) new
       → At later (count - 1) (i + left_in row) (j + right_in row) new
   turn-at is none rest near count new whole-rest found true-found many left said =
       let all : rest ≡ row ∷ later = whole-rest ∙ is in
-      let here : changes_within (context + 1) (row ∷ later) ≡ true = sym (ap (changes_within (context + 1)) all) ∙ sym found ∙ true-found in
+      let here : begins_hunk (row ∷ later) ≡ true = sym (ap begins_hunk all) ∙ sym found ∙ true-found in
       let length-is : count ≡ hunk_length (row ∷ later) = many ∙ ap hunk_length all in
       let said-is = subst (λ (n : ℕ). says now (text (hunk_of i j (take n (row ∷ later)))) new) length-is
       (subst (λ (l : List Row). says now (text (hunk_of i j (take count l))) new) all said) in
@@ -33,10 +33,10 @@ module _ {S : Type 0} (says : S → List ℕ → S → Type 0) (onward : (s m t 
       same-rest says old new _ _ whole (ap (λ (n : ℕ). hunks_left text (n - 1) (i + left_in row) (j + right_in row) later) (sym length-is))
       (say-more says onward old now new (text (hunk_of i j (take (hunk_length (row ∷ later)) (row ∷ later)))) _ whole now-left said-is)
 
-  pub turn-before : rows ≡ row ∷ later → shown ≡ 0 → (rest : List Row) (near : Bool) → rest ≡ rows → near ≡ changes_within (context + 1) rest → near ≡ false
+  pub turn-before : rows ≡ row ∷ later → shown ≡ 0 → (rest : List Row) (near : Bool) → rest ≡ rows → near ≡ begins_hunk rest → near ≡ false
       → At rows shown i j now → At later shown (i + left_in row) (j + right_in row) now
   turn-before is none rest near whole-rest found false-found left =
-      let here : changes_within (context + 1) (row ∷ later) ≡ false = sym (ap (changes_within (context + 1)) (whole-rest ∙ is)) ∙ sym found ∙ false-found in
+      let here : begins_hunk (row ∷ later) ≡ false = sym (ap begins_hunk (whole-rest ∙ is)) ∙ sym found ∙ false-found in
       same-rest says old now _ _ whole
       (ap (λ (n : ℕ). hunks_left text n i j rows) none ∙ ap (hunks_left text 0 i j) is ∙ before-hunk text i j row later here
       ∙ ap (λ (n : ℕ). hunks_left text n (i + left_in row) (j + right_in row) later) (sym none))

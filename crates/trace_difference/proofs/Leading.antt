@@ -10,7 +10,7 @@ use Rattle.uds_difference.specs.Rows.{AreBeside, rows_of}
 use Rattle.uds_difference.specs.declared.row.Row.{Row}
 use Rattle.uds_difference.specs.declared.row.Row.TheVariants.{Same, Changed, OnlyLeft, OnlyRight}
 use Rattle.uds_difference.proofs.Promises.{rows_are_beside}
-use Rattle.shown_rows.specs.Hunks.{Hunk, hunk_length, hunks_behind, rows_to_last_change}
+use Rattle.shown_rows.specs.Hunks.{Hunk, begins_hunk, hunk_length, hunks_behind, rows_to_last_change}
 use Rattle.shown_rows.specs.Rows.{changes_within, context, is_change, left_count, left_in, right_count, right_in}
 use Rattle.trace_difference.specs.Laws.{HunksLeadToTheRight, Leads, new_lines, old_lines}
 use Rattle.trace_difference.specs.Lines.{Line, added, behind_removed, kept, line_at, lines_of, listed, removed}
@@ -215,7 +215,7 @@ module _ (xs ys : List ItemValue) where
   lead most [] i j [] (y ∷ vs) short h left right = absurd h
   lead zero (row ∷ rows) i j us vs short h left right = absurd (omega arith)
   lead (suc most) (row ∷ rows) i j us vs short h left right =
-      elim (cases_Bool (changes_within (context + 1) (row ∷ rows))) [
+      elim (cases_Bool (begins_hunk (row ∷ rows))) [
         | inl near ↦ rw near (near-row most (lead most) row rows i j us vs (omega arith) h left right)
         | inr far ↦ rw far (far-row most (lead most) row rows i j us vs (omega arith) (unchanged row (changes_within context rows) far) h left right)
       ]

@@ -1,4 +1,4 @@
--- The unified text of a difference, as `diff -U3` writes it of the lists of both sessions without numbers.
+-- The unified text of a difference, as `diff -u` writes it of the lists of both sessions without numbers.
 use Prim.Native.Nat.{zero, suc}
 use Rattle.std.specs.Prelude.{ℕ, ◌+◌, Bool, true, false, List, [], ◌++◌, codes, if◌then◌else◌}
 use Rattle.std.specs.Fmt.{decimal}

@@ -1,7 +1,7 @@
 //! The text of a difference: where two sessions differ, in the form that `diff -u` has, or as objects of JSON.
 //!
 //! [`uds_difference`] says what stands beside what in two sessions. Here is what is written of that. In words it is what
-//! `diff -U3` writes of both lists without numbers: hunks of lines, with three lines of what is the same before and behind
+//! `diff -u` writes of both lists without numbers: hunks of lines, with three lines of what is the same before and behind
 //! each place, so that `patch` makes the right list of the left one. As JSON it is an object for each row that is not the same
 //! in both, and one with the counts. [`in_memory`] answers of two logs in memory with this text.
 //!

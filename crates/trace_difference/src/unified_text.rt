@@ -9,9 +9,7 @@ ghost use Rattle.trace_difference.specs.proving.HunkOf.{hunk_of};
 use crate::hunk_lines::say_lines;
 use crate::labels::Label;
 use crate::written::NamedSession;
-use shown_rows::{
-    CONTEXT, changes_within, differs, hunk_length, left_count, left_in, right_count, right_in,
-};
+use shown_rows::{begins_hunk, differs, hunk_length, left_count, left_in, right_count, right_in};
 use text_parts::{Part, say};
 use trace_io::TextSink;
 use trace_text::{Number, Ordinal};
@@ -96,7 +94,7 @@ fn say_hunks<S: TextSink>(
         let rest = &rows[k..];
         if shown > 0 {
             shown -= 1;
-        } else if changes_within(CONTEXT + 1, rest) {
+        } else if begins_hunk(rest) {
             let length = hunk_length(rest);
             say_hunk(left, right, left_before, right_before, &rest[..length], out);
             shown = length - 1;

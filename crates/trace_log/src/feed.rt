@@ -19,37 +19,37 @@ use trace_io::Source;
 /// that can't be read does so first, [`Fault::BadLine`].
 pub fn feed_lines<R: Source, T: LineTaker>(
     max_bytes: u64,
-    reader: &mut R,
+    source: &mut R,
     taker: &mut T,
     device: &mut T::Device,
 ) -> Result<bool, Fault>
     requires limit { max_bytes ≤ 2 ^ 40 }
-    requires reader { HasLowCounts R.Source reader.old }
+    requires source { HasLowCounts R.Source source.old }
 
-    ensures lines { (log : List ℕ) → AgreesWith R.Source reader.old reader.new log
+    ensures lines { (log : List ℕ) → AgreesWith R.Source source.old source.new log
         → (start : T × T.Device) → T.took start [] (taker.old, device.old)
-        → FeedsLog T.took T.rested T.broke T.stopped start max_bytes log (bytes_given R.Source reader.old reader.new) result (taker.new, device.new) }
+        → FeedsLog T.took T.rested T.broke T.stopped start max_bytes log (bytes_given R.Source source.old source.new) result (taker.new, device.new) }
 
-    ensures near { (log : List ℕ) → AgreesWith R.Source reader.old reader.new log
+    ensures near { (log : List ℕ) → AgreesWith R.Source source.old source.new log
         → (start : T × T.Device) → T.took start [] (taker.old, device.old)
-        → ReadsWhile (TakesFront T.took start log) (bytes_given R.Source reader.old reader.new) (R.failures reader.old) (R.failures reader.new) }
+        → ReadsWhile (TakesFront T.took start log) (bytes_given R.Source source.old source.new) (R.failures source.old) (R.failures source.new) }
 
     // Before each read what was due was written: so the text of the lines that had ended before the last piece was.
-    ensures eager { (log : List ℕ) → AgreesWith R.Source reader.old reader.new log
+    ensures eager { (log : List ℕ) → AgreesWith R.Source source.old source.new log
         → (start : T × T.Device) → T.took start [] (taker.old, device.old) → T.sure start [] (taker.old, device.old)
-        → WroteBefore T.sure start log (bytes_given R.Source reader.old reader.new) (taker.new, device.new) }
+        → WroteBefore T.sure start log (bytes_given R.Source source.old source.new) (taker.new, device.new) }
 
     ensures takes { (start : T × T.Device) → T.took start [] (taker.old, device.old)
         → FeedsSome T.took T.rested T.broke T.stopped start result (taker.new, device.new) }
 
-    ensures over { OnOk result (R.is_over reader.new ≡ true) }
-    ensures ended { (R.is_over reader.old ≡ true → IsAtEnd (R.remaining reader.old)) → R.is_over reader.new ≡ true → IsAtEnd (R.remaining reader.new) }
-    ensures gave { Gave (R.given reader.old) (R.given reader.new) (R.remaining reader.old) (R.remaining reader.new) }
-    ensures given { length (R.given reader.new) ≤ length (R.given reader.old) + max_bytes + 1 }
-    ensures reads { R.reads reader.new ≤ R.reads reader.old + max_bytes + 1 }
-    ensures progress { R.reads reader.new ≤ R.reads reader.old + (bytes_given R.Source reader.old reader.new) + 1 }
-    ensures failures { MatchResult result (λ _. R.failures reader.new ≡ R.failures reader.old)
-        (λ fault. CountsRead fault (R.failures reader.old) (R.failures reader.new)) }
+    ensures over { OnOk result (R.is_over source.new ≡ true) }
+    ensures ended { (R.is_over source.old ≡ true → IsAtEnd (R.remaining source.old)) → R.is_over source.new ≡ true → IsAtEnd (R.remaining source.new) }
+    ensures gave { Gave (R.given source.old) (R.given source.new) (R.remaining source.old) (R.remaining source.new) }
+    ensures given { length (R.given source.new) ≤ length (R.given source.old) + max_bytes + 1 }
+    ensures reads { R.reads source.new ≤ R.reads source.old + max_bytes + 1 }
+    ensures progress { R.reads source.new ≤ R.reads source.old + (bytes_given R.Source source.old source.new) + 1 }
+    ensures failures { MatchResult result (λ _. R.failures source.new ≡ R.failures source.old)
+        (λ fault. CountsRead fault (R.failures source.old) (R.failures source.new)) }
 {
     let mut piece = [0; PIECE];
     let mut scanner = Scanner::new();
@@ -60,7 +60,7 @@ pub fn feed_lines<R: Source, T: LineTaker>(
         }
         let most = left.min(PIECE as u64);
         let room = most.max(1) as usize;
-        let Ok(n) = reader.read(&mut piece[..room]) else {
+        let Ok(n) = source.read(&mut piece[..room]) else {
             return Err(Fault::Read);
         };
         if n == 0 {

@@ -52,9 +52,9 @@ one-difference xs ys (Some i) (Some j) one other = elim (cases_lt i j) [
 
 same-comparison : (one other : Comparison) → difference one ≡ difference other → one ≡ other
 same-comparison Same Same is = refl
-same-comparison Same (Different item) is = absurd (none-some item is)
-same-comparison (Different item) Same is = absurd (none-some item (sym is))
-same-comparison (Different item) (Different place) is = ap (λ (p : Option ℕ). of p) is
+same-comparison Same (Different place) is = absurd (none-some place is)
+same-comparison (Different place) Same is = absurd (none-some place (sym is))
+same-comparison (Different place) (Different other) is = ap (λ (p : Option ℕ). of p) is
   where
     of : Option ℕ → Comparison
     of None = Same

@@ -1,11 +1,10 @@
 -- The columns of a line, one after another.
-use Rattle.std.proofs.Common.{◌≡◌, ℕ, ◌+◌, ◌-◌, ◌≤◌, ◌<◌, Bool, false, List, [], ◌∷◌, ◌++◌, codes, length, take, drop, Option, Some, None, arith, ap, subst, sym, ◌∙◌, refl}
+use Rattle.std.proofs.Common.{◌≡◌, ℕ, ◌+◌, ◌-◌, ◌≤◌, ◌<◌, Bool, false, List, [], ◌∷◌, ◌++◌, codes, length, take, drop, Option, Some, None, option_to_list, arith, ap, subst, sym, ◌∙◌, refl}
 use Rattle.std.specs.Prelude.{slice_get}
 use Rattle.std.proofs.lemmas.List.{length-append}
 use Rattle.text_parts.proofs.Promises.{IsLeft, said-whole, same-rest, say-last, say-more}
 use Rattle.byte_columns.specs.declared.column.Column.{Column}
 use Rattle.byte_columns.specs.Columns.{count_in, differs, left_bytes, right_bytes}
-use Rattle.byte_columns.specs.Laws.{listed}
 use Rattle.trace_pair.specs.declared.log.PairLog.{PairLog}
 use Rattle.trace_pair.specs.declared.log.PairLog.TheVariants.{A, B}
 use Rattle.trace_pair.specs.ColumnLines.{byte_or_gap, bytes_in, cells, cells_behind, column_letters, letter_or_gap, mark_end, mark_start}
@@ -13,7 +12,7 @@ use Rattle.trace_pair.specs.Logs.{byte_of}
 use Rattle.trace_pair.proofs.Pieces.{cut-first, cut-none}
 
 -- how many bytes a log has in columns
-one-listed : (byte : Option ℕ) → count_in byte ≡ length (listed byte)
+one-listed : (byte : Option ℕ) → count_in byte ≡ length (option_to_list byte)
 one-listed None = refl
 one-listed (Some byte) = refl
 
@@ -22,7 +21,7 @@ left-listed [] = refl
 left-listed (here ∷ later) =
     let one = one-listed here.left in
     let rest = left-listed later in
-    let both = length-append (listed here.left) (bytes_in A later) in
+    let both = length-append (option_to_list here.left) (bytes_in A later) in
     omega arith
 
 pub right-listed : (columns : List Column) → right_bytes columns ≡ length (bytes_in B columns)
@@ -30,7 +29,7 @@ right-listed [] = refl
 right-listed (here ∷ later) =
     let one = one-listed here.right in
     let rest = right-listed later in
-    let both = length-append (listed here.right) (bytes_in B later) in
+    let both = length-append (option_to_list here.right) (bytes_in B later) in
     omega arith
 
 module _ {S : Type 0} (says : S → List ℕ → S → Type 0) (onward : (s m t : S) (a b : List ℕ) → says s a m → says m b t → says s (a ++ b) t)

@@ -10,8 +10,9 @@ use Rattle.trace_report.specs.Blocks.{begins_exchange}
 use Rattle.trace_report.specs.Items.{RowMessageValue, answer_by, answer_in, begins, message_in, rows_before}
 use Rattle.trace_report.specs.Roles.{is_answer_role, is_request_role}
 use Rattle.trace_report.specs.Rows.{RowValue, message, no_answer, dropped, ended, unfinished}
-use Rattle.trace_pair.specs.First.{asks, before_request, chart_from, chart_to, last_request, most_before, rows_more}
-use Rattle.trace_pair.specs.Laws.{ChartHasTheItem}
+use Rattle.trace_pair.specs.FirstDifference.{asks, before_request, chart_from, chart_to, last_request, most_before, rows_more}
+use Rattle.trace_pair.specs.ChartLaws.{ChartHasTheItem}
+use Rattle.trace_pair.specs.Losses.{first_row}
 use Rattle.trace_pair.proofs.ChartPlaces.{first-asks, first-later, first-to, from-first, get-past, last-below, last-earlier, last-there, to-within, up-by}
 use Rattle.trace_pair.proofs.LossPlaces.{begins-first, begins-next, begins-none}
 
@@ -193,19 +194,19 @@ module _ (item : ℕ) (rows : List RowValue) where
           sym (ap answer_in parted ∙ answered-before (drop (suc far) span) behind none)
 
   begins-there : (take from rows ≡ [])
-      ⊎ (((asks (slice_get (take count rest) 0) ≡ true) × (length (take from rows) ≤ rows_before (item - 1) rows)) ⊎ (length (take from rows) + most_before ≡ first))
+      ⊎ (((asks (slice_get (take count rest) 0) ≡ true) × (length (take from rows) ≤ first_row (item - 1) rows)) ⊎ (length (take from rows) + most_before ≡ first))
   begins-there = elim (cases_lt 0 from) [
     | inr none ↦ let nothing : from ≡ 0 = omega (arith, none) in inl (ap (λ (n : ℕ). take n rows) nothing)
-    | inl some ↦ elim (cases_lt (first - 8) (last_request (suc (rows_before (item - 1) rows)) rows)) [
+    | inl some ↦ elim (cases_lt (first - 8) (last_request (suc (first_row (item - 1) rows)) rows)) [
       | inr cut ↦ inr (inr (omega (arith, long, some, cut)))
-      | inl asked ↦ inr (inl (of-request (omega (arith, asked)) some, omega (arith, long, asked, last-below (rows_before (item - 1) rows) rows)))
+      | inl asked ↦ inr (inl (of-request (omega (arith, asked)) some, omega (arith, long, asked, last-below (first_row (item - 1) rows) rows)))
     ]
   ]
     where
-      of-request : from ≡ last_request (suc (rows_before (item - 1) rows)) rows → 0 < from → asks (slice_get (take count rest) 0) ≡ true
+      of-request : from ≡ last_request (suc (first_row (item - 1) rows)) rows → 0 < from → asks (slice_get (take count rest) 0) ≡ true
       of-request is some =
           let here : asks (slice_get rows from) ≡ true =
-          ap (λ (n : ℕ). asks (slice_get rows n)) is ∙ last-asks (suc (rows_before (item - 1) rows)) rows (omega (arith, is, some)) in
+          ap (λ (n : ℕ). asks (slice_get rows n)) is ∙ last-asks (suc (first_row (item - 1) rows)) rows (omega (arith, is, some)) in
           let within = asks-within rows from here in
           let low : 0 < count = elim (cases_lt first (length rows)) [
             | inl before ↦ omega (arith, up, first-before before)
@@ -214,9 +215,20 @@ module _ (item : ℕ) (rows : List RowValue) where
           let same : from ≡ from + 0 = omega arith in
           ap asks (get-taken count rest 0 low ∙ sym (get-drop from rows 0 from same)) ∙ here
 
-  -- how far the row of the item before stands behind it
+  -- around the first item, or the second, it begins with the first row, or as far before the item as a chart goes
+  begins-whole : item ≤ 1 → ((take from rows ≡ []) ⊎ (length (take from rows) + most_before ≡ first))
+  begins-whole low =
+      let none : item - 1 ≡ 0 = omega (arith, low) in
+      let start : first_row (item - 1) rows ≡ 0 = ap (λ (n : ℕ). first_row n rows) none in
+      let asked = last-below (first_row (item - 1) rows) rows in
+      elim (cases_lt 8 first) [
+        | inl far ↦ inr (omega (arith, long, start, asked, far))
+        | inr close ↦ let nothing : from ≡ 0 = omega (arith, start, asked, close) in inl (ap (λ (n : ℕ). take n rows) nothing)
+      ]
+
+  -- how far what belongs to the item before begins behind it
   abbrev nearer : ℕ
-  nearer = rows_before (item - 1) rows - length (take from rows)
+  nearer = first_row (item - 1) rows - length (take from rows)
 
   none-between : list_any begins_exchange (take nearer (drop 1 (take count rest))) ≡ false
   none-between = none-asks (drop 1 (take count rest)) nearer each
@@ -224,7 +236,7 @@ module _ (item : ℕ) (rows : List RowValue) where
       of-log : (at : ℕ) → at < nearer → asks (slice_get rows (from + suc at)) ≡ false
       of-log at low = elim (cases_Bool (asks (slice_get rows (from + suc at)))) [
         | inr none ↦ none
-        | inl there ↦ absurd (omega (arith, long, low, asks-before (suc (rows_before (item - 1) rows)) (from + suc at) rows there (omega (arith, long, low))))
+        | inl there ↦ absurd (omega (arith, long, low, asks-before (suc (first_row (item - 1) rows)) (from + suc at) rows there (omega (arith, long, low))))
       ]
 
       of-chart : (at : ℕ) → at < nearer → asks (slice_get (take count rest) (suc at)) ≡ false
@@ -255,6 +267,7 @@ has-the-item item rows = (
     piece = whole item rows;
     begins = begins-there item rows;
     last = none-between item rows;
+    lost = begins-whole item rows;
     before = omega (arith, long item rows, up item rows);
     near = omega (arith, long item rows, near item rows);
     row = row-there item rows;

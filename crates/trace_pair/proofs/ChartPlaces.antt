@@ -6,8 +6,9 @@ use Rattle.std.proofs.lemmas.List.{drop_all, length-drop}
 use Rattle.trace_report.specs.Blocks.{begins_exchange}
 use Rattle.trace_report.specs.Items.{rows_before}
 use Rattle.trace_report.specs.Rows.{RowValue}
-use Rattle.trace_pair.specs.First.{asks, before_request, chart_from, chart_rows, chart_to, last_request, rows_more}
-use Rattle.trace_pair.proofs.LossPlaces.{before-all, before-up, before-within}
+use Rattle.trace_pair.specs.FirstDifference.{asks, before_request, chart_from, chart_rows, chart_to, last_request, rows_more}
+use Rattle.trace_pair.specs.Losses.{first_row}
+use Rattle.trace_pair.proofs.LossPlaces.{before-all, before-up, before-within, first-earlier}
 
 -- two numbers are equal where two others are
 same-test : (a b x y : ℕ) → (a ≡ b → x ≡ y) → (x ≡ y → a ≡ b) → (a == b) ≡ (x == y)
@@ -30,6 +31,10 @@ before-later item rows = elim (cases_lt item 1) [
   | inl none ↦ let same : item - 1 ≡ item = omega (arith, none) in omega (arith, ap (λ (n : ℕ). rows_before n rows) same)
   | inr some ↦ let next : item - 1 + 1 ≡ item = omega (arith, some) in omega (arith, up-by (item - 1) 1 rows, ap (λ (n : ℕ). rows_before n rows) next)
 ]
+
+-- what belongs to the item before begins no later than the item
+pub belongs-before : (item : ℕ) (rows : List RowValue) → first_row (item - 1) rows ≤ rows_before item rows
+belongs-before item rows = omega (arith, first-earlier (item - 1) rows, before-later item rows)
 
 -- from its end on a list has nothing
 pub get-past : {X : Type 0} (xs : List X) (at : ℕ) → length xs ≤ at → slice_get xs at ≡ None
@@ -81,15 +86,15 @@ module _ (item : ℕ) (rows : List RowValue) (low end : ℕ) where
     latest-earlier none =
         omega (arith, latest, last-earlier at rows none, ap (λ (n : ℕ). last_request n rows) one-more, ap (λ (n : ℕ). last_request n rows) so-far)
 
-  pub latest-end : (at from : ℕ) → end ≤ at → low ≡ rows_before item rows - 8 → end ≡ min (suc (rows_before (item - 1) rows)) (length rows) → Latest at from
+  pub latest-end : (at from : ℕ) → end ≤ at → low ≡ rows_before item rows - 8 → end ≡ min (suc (first_row (item - 1) rows)) (length rows) → Latest at from
       → from ≡ chart_from item rows
   latest-end at from past low_is end_is latest =
-      let before = rows_before (item - 1) rows in
+      let before = first_row (item - 1) rows in
       let over : min at end ≡ end = omega (arith, past) in
       let all : last_request end rows ≡ last_request (suc before) rows = elim (cases_lt before (length rows)) [
         | inl within ↦ let next : end ≡ suc before = omega (arith, end_is, within) in ap (λ (n : ℕ). last_request n rows) next
         | inr none ↦
-            let same : end ≡ before = omega (arith, end_is, none, before-within (item - 1) rows) in
+            let same : end ≡ before = omega (arith, end_is, none, first-earlier (item - 1) rows, before-within (item - 1) rows) in
             ap (λ (n : ℕ). last_request n rows) same ∙ sym (last-earlier before rows (ap asks (get-past rows before none)))
       ] in
       omega (arith, latest, low_is, ap (λ (n : ℕ). last_request n rows) over, all)
@@ -152,7 +157,7 @@ module _ (item : ℕ) (rows : List RowValue) where
 -- The piece between.
 
 pub from-first : (item : ℕ) (rows : List RowValue) → chart_from item rows ≤ rows_before item rows
-from-first item rows = omega (arith, last-below (rows_before (item - 1) rows) rows, before-later item rows)
+from-first item rows = omega (arith, last-below (first_row (item - 1) rows) rows, belongs-before item rows)
 
 pub first-to : (item : ℕ) (rows : List RowValue) → rows_before item rows ≤ chart_to item rows
 first-to item rows = omega (arith, up-by item 2 rows)

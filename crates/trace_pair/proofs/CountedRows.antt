@@ -121,7 +121,7 @@ module _ (rows : List Row) (rest : List ℕ) where
   link = codes " <a href=\"#difference\">"
 
   abbrev see : List ℕ
-  see = if length (changes rows) == 1 then codes "See it." else codes "See the first."
+  see = if length (changes rows) == 1 then codes "See the difference." else codes "See the first difference."
 
   abbrev close : List ℕ
   close = codes "</a></p>\n"

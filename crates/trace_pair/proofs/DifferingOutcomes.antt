@@ -6,7 +6,7 @@ use Rattle.uds_difference.specs.Likeness.{same_bytes}
 use Rattle.uds_exchange.specs.Meaning.{exchange}
 use Rattle.trace_pair.specs.ByteWords.{byte_words}
 use Rattle.trace_pair.specs.ItemWords.{answer_bytes, answers_differ, between, came_of, differ, outcome_in, outcomes_differ, same_outcome}
-use Rattle.trace_pair.specs.Laws.{asked_words, none_outcome, none_words}
+use Rattle.trace_pair.specs.OutcomeLaws.{asked_words, none_outcome, none_words}
 use Rattle.trace_pair.specs.declared.log.PairLog.TheVariants.{A, B}
 use Rattle.trace_pair.specs.declared.outcome.Outcome.{Outcome}
 use Rattle.trace_pair.specs.declared.outcome.Outcome.TheVariants.{Positive, Refused}

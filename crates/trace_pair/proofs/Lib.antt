@@ -1,12 +1,14 @@
 pub mod Pieces
+pub mod NameLetters
 pub mod Cells
 pub mod LineCells
 mod SeenMarks
 mod OwnLines
 mod CountedBytes
+mod AloneBytes
 pub mod CountedColumns
 pub mod LastDigits
-pub mod Stretches
+pub mod LineNumbers
 pub mod Tables
 pub mod Standings
 pub mod FoldParts
@@ -26,8 +28,10 @@ pub mod ListedChanges
 pub mod LossyChanges
 pub mod LossPlaces
 mod LossesOnce
+mod LossyRows
 pub mod LostRows
 pub mod ChartPlaces
+pub mod LeftItems
 pub mod Asking
 mod Beside
 mod OwnItems

@@ -1,9 +1,8 @@
 -- A line of columns, as one log has it.
-use Rattle.std.proofs.Common.{◌≡◌, ℕ, zero, suc, ◌+◌, ◌-◌, ◌*◌, ◌≤◌, ◌<◌, Bool, List, [], ◌∷◌, ◌++◌, codes, length, take, drop, arith, ap, sym, ◌∙◌, append_assoc, refl}
+use Rattle.std.proofs.Common.{◌≡◌, ℕ, zero, suc, ◌+◌, ◌-◌, ◌*◌, ◌≤◌, ◌<◌, Bool, List, [], ◌∷◌, ◌++◌, codes, length, take, drop, arith, ap, sym, ◌∙◌, append_assoc, refl, option_to_list}
 use Rattle.std.proofs.lemmas.Grind.{flat_map-append}
 use Rattle.std.proofs.lemmas.List.{drop-take, length-append, length-take, take-append-drop, take-take}
 use Rattle.byte_columns.specs.declared.column.Column.{Column}
-use Rattle.byte_columns.specs.Laws.{listed}
 use Rattle.byte_columns.specs.Lines.{line, line_count}
 use Rattle.trace_pair.specs.declared.column_words.Whose.{Whose}
 use Rattle.trace_pair.specs.declared.log.PairLog.{PairLog}
@@ -43,7 +42,7 @@ module _ (columns : List Column) (number from to : ℕ) (below : number < line_c
       ∙ ap (λ (l : List Column). take from columns ++ l)
       (ap (λ (n : ℕ). drop from (take n columns)) (sym whole) ∙ drop-take from (to - from) columns ∙ line-piece) in
       ap (λ (l : List Column). length (bytes_in log l)) parts
-      ∙ ap (λ (l : List ℕ). length l) (flat_map-append (λ (here : Column). listed (byte_of log here)) (take from columns) (line columns number))
+      ∙ ap (λ (l : List ℕ). length l) (flat_map-append (λ (here : Column). option_to_list (byte_of log here)) (take from columns) (line columns number))
       ∙ length-append (bytes_in log (take from columns)) (bytes_in log (line columns number))
 
 -- What a log has in a line, by the bytes that it has there.

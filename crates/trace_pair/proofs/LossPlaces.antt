@@ -1,11 +1,12 @@
 -- The losses of an item are those that its rows tell: from the row with which it begins up to that of the next item.
 use Rattle.std.proofs.Common.{◌≡◌, ℕ, zero, suc, ◌+◌, ◌-◌, ◌≤◌, ◌<◌, Bool, true, false, List, [], ◌∷◌, ◌++◌, length, take, drop, ap, sym, ◌∙◌, arith, refl, inl, inr}
 use Rattle.std.specs.Prelude.{◌==◌, ◌&&◌, if◌then◌else◌}
+use Rattle.std.specs.List.{filter}
 use Rattle.std.proofs.lemmas.Bool.{cases_Bool, eq-eqb, ne_eqb}
 use Rattle.std.proofs.lemmas.List.{length-append}
 use Rattle.trace_report.specs.Items.{begins, rows_before}
 use Rattle.trace_report.specs.Rows.{RowValue, message, no_answer, dropped, ended, unfinished}
-use Rattle.trace_pair.specs.Losses.{count_begun, first_row, is_loss, losses_behind, losses_from, losses_of}
+use Rattle.trace_pair.specs.Losses.{count_begun, first_row, is_loss, losses_behind, losses_from, losses_in_front, losses_of}
 use Rattle.trace_pair.specs.proving.Losing.{lost}
 use Rattle.trace_pair.proofs.Pieces.{cut-joined, cut-none}
 
@@ -199,6 +200,10 @@ before begun item more (row ∷ rows) is some =
 pub first-some : (item : ℕ) (rows : List RowValue) → 0 < item → first_row item rows ≡ rows_before item rows
 first-some item rows some = ap (λ (b : Bool). if b then 0 else rows_before item rows) (ne_eqb item 0 (λ same. omega arith))
 
+pub first-earlier : (item : ℕ) (rows : List RowValue) → first_row item rows ≤ rows_before item rows
+first-earlier zero rows = omega arith
+first-earlier (suc n) rows = omega (arith, first-some (suc n) rows (omega arith))
+
 pub losses-are-lost : (rows : List RowValue) (item : ℕ) → losses_of rows item ≡ lost (piece (first_row item rows) (first_row (item + 1) rows) rows)
 losses-are-lost rows zero = inside-first rows ∙ sym (ap (λ (n : ℕ). lost (piece 0 n rows)) (first-some 1 rows (omega arith)))
 losses-are-lost rows (suc n) =
@@ -245,6 +250,27 @@ losses-counted rows item (suc more) =
     let sum = length-append (lost (piece a b rows)) (lost (piece b d rows)) in
     let whole = ap (λ (n : ℕ). length (lost (piece a (first_row n rows) rows))) same in
     omega (arith, one, others, joined, parted, sum, whole)
+
+-- what is lost is what passes the test
+pub lost-passes : (rows : List RowValue) → lost rows ≡ filter is_loss rows
+lost-passes [] = refl
+lost-passes (row ∷ rows) = by (is_loss row) (lost-passes rows)
+  where
+    by : (loss : Bool) → lost rows ≡ filter is_loss rows → (if loss then row ∷ lost rows else lost rows) ≡ (if loss then row ∷ filter is_loss rows else filter is_loss rows)
+    by true rest = ap (λ (l : List RowValue). row ∷ l) rest
+    by false rest = rest
+
+-- in front of an item stand the rows of the one before it, or those before the first one
+pub in-front-counted : (rows : List RowValue) (item : ℕ)
+    → losses_in_front rows item ≡ length (lost (piece (first_row (item - 1) rows) (rows_before item rows) rows))
+in-front-counted rows zero =
+    let span : rows_before 0 rows ≡ rows_before 0 rows - 0 = omega arith in
+    ap (λ (l : List RowValue). length l) (sym (lost-passes (take (rows_before 0 rows) rows))) ∙ ap (λ (n : ℕ). length (lost (take n rows))) span
+in-front-counted rows (suc n) =
+    let next : n + 1 ≡ suc n = omega arith in
+    let less : n ≡ suc n - 1 = omega arith in
+    let end : first_row (n + 1) rows ≡ rows_before (suc n) rows = first-some (n + 1) rows (omega arith) ∙ ap (λ (m : ℕ). rows_before m rows) next in
+    ap (λ (l : List RowValue). length l) (losses-are-lost rows n) ∙ (λ i. length (lost (piece (first_row (less i) rows) (end i) rows)))
 
 -- all rows stand before those of an item that is not there
 pub first-all : (item : ℕ) (rows : List RowValue) → length rows ≤ item → first_row item rows ≡ length rows

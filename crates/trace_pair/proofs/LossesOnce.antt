@@ -1,26 +1,17 @@
 -- Each loss of a log stands with one of its items.
 use Rattle.std.proofs.Common.{◌≡◌, ℕ, zero, suc, ◌+◌, ◌-◌, ◌≤◌, ◌<◌, Bool, true, false, List, [], ◌∷◌, ◌++◌, length, ap, sym, ◌∙◌, arith, refl, inl, inr}
 use Rattle.std.specs.Prelude.{max, Some, None, if◌then◌else◌}
-use Rattle.std.specs.List.{filter, flat_map, range_with_len}
+use Rattle.std.specs.List.{flat_map, range_with_len}
 use Rattle.std.proofs.lemmas.Bool.{cases_Bool}
 use Rattle.std.proofs.lemmas.List.{take_all}
 use Rattle.trace_report.specs.Roles.{begins_item}
 use Rattle.trace_report.specs.Items.{RowMessageValue, begins, items_by, items_in, rows_before}
 use Rattle.trace_report.specs.Rows.{RowValue, message, no_answer, dropped, ended, unfinished}
-use Rattle.trace_pair.specs.Laws.{EachLossStandsOnce}
-use Rattle.trace_pair.specs.Losses.{first_row, is_loss, losses_of}
+use Rattle.trace_pair.specs.LossLaws.{EachLossStandsOnce}
+use Rattle.trace_pair.specs.Losses.{first_row, losses_of}
 use Rattle.trace_pair.specs.proving.Losing.{lost}
-use Rattle.trace_pair.proofs.LossPlaces.{begins-next, begins-none, first-later, first-some, first-up, losses-are-lost, lost-joined, piece}
+use Rattle.trace_pair.proofs.LossPlaces.{begins-next, begins-none, first-later, first-some, first-up, losses-are-lost, lost-joined, lost-passes, piece}
 use Rattle.trace_pair.proofs.Pieces.{cut-joined, cut-none}
-
--- what is lost is what passes the test
-lost-passes : (rows : List RowValue) → lost rows ≡ filter is_loss rows
-lost-passes [] = refl
-lost-passes (row ∷ rows) = by (is_loss row) (lost-passes rows)
-  where
-    by : (loss : Bool) → lost rows ≡ filter is_loss rows → (if loss then row ∷ lost rows else lost rows) ≡ (if loss then row ∷ filter is_loss rows else filter is_loss rows)
-    by true rest = ap (λ (l : List RowValue). row ∷ l) rest
-    by false rest = rest
 
 -- the losses of so many items, from this one on
 losses-joined : (rows : List RowValue) (item count : ℕ)

@@ -1,9 +1,8 @@
 -- The differences that rows of the table of items begin, and the numbers to which the page links.
-use Rattle.std.proofs.Common.{◌≡◌, ℕ, zero, suc, ◌+◌, ◌-◌, ◌≤◌, ◌<◌, Bool, true, false, List, [], ◌∷◌, ◌++◌, Option, Some, None, map, length, take, ap, sym, subst, ◌∙◌, arith, refl, inl, inr}
+use Rattle.std.proofs.Common.{◌≡◌, ℕ, zero, suc, ◌+◌, ◌-◌, ◌≤◌, ◌<◌, Bool, true, false, List, [], ◌∷◌, ◌++◌, Option, Some, None, option_to_list, map, length, take, ap, sym, subst, ◌∙◌, arith, refl, inl, inr}
 use Rattle.std.specs.Prelude.{◌==◌, if◌then◌else◌, nat_le, nat_lt, slice_get}
 use Rattle.std.specs.List.{AllByRecursion, flat_map, range_with_len}
 use Rattle.std.proofs.lemmas.Bool.{cases_lt, eqb-true, le-leb, le-ltb, lt-leb, lt-ltb}
-use Rattle.byte_columns.specs.Laws.{listed}
 use Rattle.uds_difference.specs.declared.row.Row.{Row}
 use Rattle.uds_difference.specs.declared.row.Row.TheVariants.{Same}
 use Rattle.shown_rows.specs.declared.changes.Change.{Change}
@@ -14,7 +13,8 @@ use Rattle.trace_report.specs.Linked.{IsAmong}
 use Rattle.trace_report.specs.Session.{SessionValue}
 use Rattle.trace_pair.specs.declared.item_row.RowPlace.{RowPlace}
 use Rattle.trace_pair.specs.Differences.{difference_lines}
-use Rattle.trace_pair.specs.Laws.{DifferencesAreTheChanges, LinksNameIdentifiers, ListLeadsToTheTable, differences, identifier, table_rows}
+use Rattle.trace_pair.specs.LinkLaws.{DifferencesAreTheChanges, LinksNameIdentifiers, ListLeadsToTheTable, differences, identifier}
+use Rattle.trace_pair.specs.TableLaws.{table_rows}
 use Rattle.trace_pair.specs.Links.{NumberedChange, difference_at, difference_in, linked_numbers, listed_line, number_alone, number_behind, number_in, number_unlisted, numbered}
 use Rattle.trace_pair.specs.RowStretches.{PlacedRow, changes_with, placed_from}
 use Rattle.trace_pair.proofs.RowsOnce.{links_have_targets, of-table}
@@ -100,18 +100,18 @@ module _ (P : ℕ → Type 0) where
     one-leads true e = (has 1 (omega arith) (omega (arith, eqb-true count 1 e)), tt)
     one-leads false e = tt
 
-    next-leads : (number : ℕ) → 1 ≤ number → AllByRecursion P (listed (if nat_lt number count then Some (number + 1) else None))
+    next-leads : (number : ℕ) → 1 ≤ number → AllByRecursion P (option_to_list (if nat_lt number count then Some (number + 1) else None))
     next-leads number some = elim (cases_lt number count) [
       | inl more ↦
-          subst (λ (is : Bool). AllByRecursion P (listed (if is then Some (number + 1) else None))) (sym (lt-ltb number count more))
+          subst (λ (is : Bool). AllByRecursion P (option_to_list (if is then Some (number + 1) else None))) (sym (lt-ltb number count more))
           (has (number + 1) (omega arith) (omega (arith, more)), tt)
-      | inr last ↦ subst (λ (is : Bool). AllByRecursion P (listed (if is then Some (number + 1) else None))) (sym (le-ltb number count last)) tt
+      | inr last ↦ subst (λ (is : Bool). AllByRecursion P (option_to_list (if is then Some (number + 1) else None))) (sym (le-ltb number count last)) tt
     ]
 
     each-leads : (number : ℕ) (here : List Change) → 1 ≤ number → AllByRecursion P (flat_map number_behind (numbered count number here))
     each-leads number [] some = tt
     each-leads number (here ∷ later) some =
-        both (listed (if nat_lt number count then Some (number + 1) else None)) (flat_map number_behind (numbered count (number + 1) later))
+        both (option_to_list (if nat_lt number count then Some (number + 1) else None)) (flat_map number_behind (numbered count (number + 1) later))
         (next-leads number some) (each-leads (number + 1) later (omega arith))
 
     all-lead : (here : List Change) → length here ≡ count → AllByRecursion P (linked_numbers (numbered count 1 here))

@@ -9,7 +9,7 @@ use Rattle.trace_log.specs.Trace.{trace}
 use Rattle.trace_log.specs.declared.fault.CompareFault.{CompareFault}
 use Rattle.trace_log.specs.declared.fault.CompareFault.TheVariants.{Right}
 use Rattle.trace_log.specs.declared.fault.Fault.TheVariants.{Memory}
-use Rattle.trace_report.specs.Kept.{HasOwnFrame, KeepsOne, KeepsTwo, TwoValue}
+use Rattle.trace_report.specs.Kept.{HasOwnFrame, KeepsOne, KeepsTwo, KeptSessionsValue}
 use Rattle.trace_report.specs.Laws.{ItemsAreTheMeaning}
 use Rattle.trace_report.specs.Session.{SessionValue, session_of}
 use Rattle.trace_pair.specs.MemoryNeeded.{MeansItem, NeedsMemoryToAlign}
@@ -30,13 +30,13 @@ module _ (are_the_meaning : ItemsAreTheMeaning) (settings : Settings) where
       (values_in session, record { meanings = meanings; means = read.1; found = ap values_in is ∙ are_the_meaning (trace settings meanings) }, some)
 
   -- where one of two sessions has an item, the first log means one, or the second one has a frame
-  needed_where_either : (one other : List ℕ) (held : TwoValue) → KeepsTwo MESSAGE_LIMIT settings one other (Ok held) → (values_in held.left ≢ []) ⊎ (values_in held.right ≢ [])
+  needed_where_either : (one other : List ℕ) (held : KeptSessionsValue) → KeepsTwo MESSAGE_LIMIT settings one other (Ok held) → (values_in held.left ≢ []) ⊎ (values_in held.right ≢ [])
       → NeedsMemoryToAlign MESSAGE_LIMIT settings one other
   needed_where_either one other held holds (inl some) = inl (means_where_items one held.left holds.0 some)
   needed_where_either one other held holds (inr some) = inr (own_where_items other held.right holds.1 some)
 
   -- memory is told of the second of two logs only where that has a frame, or the first one means an item
-  pub needed_where_refused : (one other : List ℕ) (kept result : Result TwoValue CompareFault) → IsSetBeside kept result → KeepsTwo MESSAGE_LIMIT settings one other kept
+  pub needed_where_refused : (one other : List ℕ) (kept result : Result KeptSessionsValue CompareFault) → IsSetBeside kept result → KeepsTwo MESSAGE_LIMIT settings one other kept
       → (kept ≡ Err (Right Memory) → HasOwnFrame settings other) → result ≡ Err (Right Memory) → NeedsMemoryToAlign MESSAGE_LIMIT settings one other
   needed_where_refused one other (Ok held) (Ok beside) is holds needed told = absurd (never_both beside (Right Memory) told)
   needed_where_refused one other (Ok held) (Err why) is holds needed told = needed_where_either one other held holds is.1

@@ -1,10 +1,9 @@
 -- What stands in a line is what its logs have there.
-use Rattle.std.proofs.Common.{◌≡◌, ℕ, ◌+◌, Bool, true, false, not, List, [], ◌∷◌, ◌++◌, codes, Option, Some, None, ap, ap₂, ◌∙◌, append_assoc, arith, refl}
+use Rattle.std.proofs.Common.{◌≡◌, ℕ, ◌+◌, Bool, true, false, not, List, [], ◌∷◌, ◌++◌, codes, Option, Some, None, option_to_list, ap, ap₂, ◌∙◌, append_assoc, arith, refl}
 use Rattle.std.specs.Prelude.{if◌then◌else◌}
 use Rattle.std.proofs.lemmas.Bool.{eqb-true, ltb-false}
 use Rattle.byte_columns.specs.declared.column.Column.{Column}
 use Rattle.byte_columns.specs.Columns.{differing, is_same_byte}
-use Rattle.byte_columns.specs.Laws.{listed}
 use Rattle.byte_columns.specs.Lines.{line, line_count, line_differs}
 use Rattle.trace_pair.specs.declared.column_words.Whose.{Whose}
 use Rattle.trace_pair.specs.declared.column_words.Whose.TheVariants.{Of, OfBoth, Untold}
@@ -16,7 +15,7 @@ use Rattle.trace_pair.specs.Logs.{other_log}
 
 -- Columns of which none differs.
 
-same-byte : (left right : Option ℕ) → is_same_byte left right ≡ true → listed left ≡ listed right
+same-byte : (left right : Option ℕ) → is_same_byte left right ≡ true → option_to_list left ≡ option_to_list right
 same-byte None None is = refl
 same-byte (Some x) (Some y) is = ap (λ (n : ℕ). n ∷ []) (eqb-true x y is)
 same-byte None (Some y) is = absurd cc

@@ -10,7 +10,7 @@ use Rattle.trace_log.specs.declared.fault.CompareFault.{CompareFault}
 use Rattle.trace_log.specs.declared.fault.CompareFault.TheVariants.{Left, Right}
 use Rattle.trace_log.specs.declared.fault.Fault.{Fault}
 use Rattle.trace_log.specs.declared.fault.Fault.TheVariants.{Memory, Read, Write}
-use Rattle.trace_report.specs.Kept.{HasOwnFrame, KeepsTwo, TwoValue}
+use Rattle.trace_report.specs.Kept.{HasOwnFrame, KeepsTwo, KeptSessionsValue}
 use Rattle.trace_pair.specs.InMemory.{HasNoPairPage, KeepsInMemory, IsPairPageWith, counted_two}
 use Rattle.trace_pair.specs.Page.{page_of}
 use Rattle.trace_pair.specs.Titles.{TitleValue}
@@ -19,7 +19,7 @@ use Rattle.trace_pair.specs.declared.in_memory.NoPairPage.{NoPairPage}
 use Rattle.trace_pair.specs.declared.in_memory.NoPairPage.TheVariants.{OfMemory}
 
 -- what two logs say, where no device fails
-pub held_in_memory : (limit : ℕ) (settings : Settings) (one other : List ℕ) (answer : Result TwoValue CompareFault)
+pub held_in_memory : (limit : ℕ) (settings : Settings) (one other : List ℕ) (answer : Result KeptSessionsValue CompareFault)
     → FailedIf (Left Read) answer 0 0 → FailedIf (Right Read) answer 0 0 → IfErr answer (λ fault. fault_in fault ≢ Write)
     → (answer ≡ Err (Left Memory) → HasOwnFrame settings one) → (answer ≡ Err (Right Memory) → HasOwnFrame settings other)
     → KeepsTwo limit settings one other answer → KeepsInMemory limit settings one other answer
@@ -38,7 +38,7 @@ text_in_memory {A = A} result value old taken held text is old_is held_is wrote 
     all said = sym held_is ∙ said ∙ ap (λ xs. xs ++ text) old_is
 
 -- the page of two logs that are held, or why there is none
-pub page_of_held : (title : TitleValue) (limit : ℕ) (settings : Settings) (one other : List ℕ) (held : TwoValue) (result : Result CountedPage NoPairPage) → KeepsTwo limit settings one other (Ok held)
+pub page_of_held : (title : TitleValue) (limit : ℕ) (settings : Settings) (one other : List ℕ) (held : KeptSessionsValue) (result : Result CountedPage NoPairPage) → KeepsTwo limit settings one other (Ok held)
     → MatchResult result (λ page. (page.text.items ≡ page_of title held.left held.right) × (page.counted ≡ counted_two held)) (λ why. why ≡ OfMemory)
     → MatchResult result (λ page. IsPairPageWith title limit settings one other page.text.items page.counted) (HasNoPairPage limit settings one other)
 page_of_held title limit settings one other held (Ok page) holds is = (held, holds, is.0, is.1)

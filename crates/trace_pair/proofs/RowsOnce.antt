@@ -1,9 +1,8 @@
 -- The rows of the table of items: each once, with its items and its number.
-use Rattle.std.proofs.Common.{◌≡◌, ℕ, zero, suc, ◌+◌, ◌-◌, ◌/◌, min, Bool, true, false, List, [], ◌∷◌, ◌++◌, map, length, take, drop, ap, ap₂, sym, ◌∙◌, arith, refl}
+use Rattle.std.proofs.Common.{◌≡◌, ℕ, zero, suc, ◌+◌, ◌-◌, ◌/◌, min, Bool, true, false, List, [], ◌∷◌, ◌++◌, map, length, take, drop, ap, ap₂, sym, ◌∙◌, arith, refl, option_to_list}
 use Rattle.std.specs.Prelude.{if◌then◌else◌, Some, None}
 use Rattle.std.specs.List.{flat_map, range_with_len}
 use Rattle.std.proofs.lemmas.List.{length-drop, take-append-drop}
-use Rattle.byte_columns.specs.Laws.{listed}
 use Rattle.uds_difference.specs.Rows.{rows_of}
 use Rattle.uds_difference.specs.declared.row.Row.{Row}
 use Rattle.uds_difference.specs.declared.row.Row.TheVariants.{Same, Changed, OnlyLeft, OnlyRight}
@@ -13,7 +12,8 @@ use Rattle.shown_rows.specs.Folds.{context_behind, is_shown}
 use Rattle.shown_rows.specs.Rows.{left_in, right_in}
 use Rattle.trace_pair.specs.declared.log.PairLog.TheVariants.{A, B}
 use Rattle.trace_pair.specs.ItemRows.{begun_number}
-use Rattle.trace_pair.specs.Laws.{EachItemStandsOnce, EachRowStandsOnce, LinksHaveTargets, identifier, item_place, kind_of, rows_in, rows_of_table, table_rows}
+use Rattle.trace_pair.specs.TableLaws.{EachItemStandsOnce, EachRowStandsOnce, item_place, kind_of, rows_in, rows_of_table, table_rows}
+use Rattle.trace_pair.specs.LinkLaws.{LinksHaveTargets, identifier}
 use Rattle.trace_pair.specs.RowStretches.{PlacedRow, Stretch, shown, folded, begun, changes_with, fold_rows, folded_row, parts_of, placed, placed_from, placed_row, same_rows, stretches, tables_of, with_folded, with_seen}
 use Rattle.trace_pair.proofs.ItemPlaces.{left-placed, left_places, right-placed, right_places}
 
@@ -181,7 +181,7 @@ module _ (all : ℕ) where
   -- one more row, with which a change begins or none does
   one-number : (begins : Bool) (before count : ℕ) (rest : ℕ → List PlacedRow) (here : Change) (others : List Change)
       → ((n : ℕ) → flat_map identifier (rest n) ≡ range_with_len (n + 1) (length others))
-      → listed (begun_number (if begins then Some (record { number = before + 1; all = all; count = count }) else None))
+      → option_to_list (begun_number (if begins then Some (record { number = before + 1; all = all; count = count }) else None))
       ++ flat_map identifier (rest (if begins then before + 1 else before))
       ≡ range_with_len (before + 1) (length (if begins then here ∷ others else others))
   one-number true before count rest here others numbered = ap (λ (l : List ℕ). (before + 1) ∷ l) (numbered (before + 1))

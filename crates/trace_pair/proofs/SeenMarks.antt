@@ -8,7 +8,7 @@ use Rattle.byte_columns.specs.declared.column.Column.{Column}
 use Rattle.byte_columns.specs.Columns.{differs}
 use Rattle.trace_pair.specs.declared.log.PairLog.{PairLog}
 use Rattle.trace_pair.specs.ColumnLines.{byte_or_gap, cells_behind, mark_end, mark_start}
-use Rattle.trace_pair.specs.Laws.{MarksAreOfColumnsThatDiffer, SeenLetter, seen_from, seen_letter, seen_of}
+use Rattle.trace_pair.specs.ColumnLaws.{MarksAreOfColumnsThatDiffer, SeenLetter, seen_from, seen_letter, seen_of}
 use Rattle.trace_pair.specs.Logs.{byte_of}
 
 -- a digit begins no tag, and is no blank

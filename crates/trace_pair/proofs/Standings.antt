@@ -56,7 +56,7 @@ module _ (at : Standing) (row : Row) (later : List Row) where
       else with_fold (folded (row ∷ later)) row at
 
   pub left-small : (k : ℕ) → at.left ≤ k → (standing_behind at row later).left ≤ k + 1
-  left-small k small = by (nat_lt 0 at.folded) (is_shown at.context (row ∷ later))
+  left-small k small = by (nat_lt 0 at.folded) (is_shown at.still_shown (row ∷ later))
     where
       by : (within is : Bool) → (behind within is).left ≤ k + 1
       by true is = omega (arith, small, left-one row)
@@ -64,7 +64,7 @@ module _ (at : Standing) (row : Row) (later : List Row) where
       by false false = omega (arith, small, left-one row)
 
   pub right-small : (k : ℕ) → at.right ≤ k → (standing_behind at row later).right ≤ k + 1
-  right-small k small = by (nat_lt 0 at.folded) (is_shown at.context (row ∷ later))
+  right-small k small = by (nat_lt 0 at.folded) (is_shown at.still_shown (row ∷ later))
     where
       by : (within is : Bool) → (behind within is).right ≤ k + 1
       by true is = omega (arith, small, right-one row)
@@ -72,7 +72,7 @@ module _ (at : Standing) (row : Row) (later : List Row) where
       by false false = omega (arith, small, right-one row)
 
   pub changes-small : (k : ℕ) → at.changes ≤ k → (standing_behind at row later).changes ≤ k + 1
-  changes-small k small = by (nat_lt 0 at.folded) (is_shown at.context (row ∷ later))
+  changes-small k small = by (nat_lt 0 at.folded) (is_shown at.still_shown (row ∷ later))
     where
       one : changes_with at.front at.changes row ≤ at.changes + 1
       one = one-change at.front at.changes row
@@ -83,7 +83,7 @@ module _ (at : Standing) (row : Row) (later : List Row) where
       by false false = omega (arith, small, one)
 
   pub blocks-small : (k : ℕ) → at.blocks ≤ k → (standing_behind at row later).blocks ≤ k + 1
-  blocks-small k small = by (nat_lt 0 at.folded) (is_shown at.context (row ∷ later))
+  blocks-small k small = by (nat_lt 0 at.folded) (is_shown at.still_shown (row ∷ later))
     where
       one : blocks_behind at.table at.blocks ≤ at.blocks + 1
       one = one-block at.table at.blocks

@@ -1,5 +1,5 @@
 -- What is told of an exchange without an answer.
-use Rattle.std.proofs.Common.{◌≡◌, ◌+◌, ℕ, Bool, true, false, true≢false, List, [], ◌∷◌, ◌++◌, length, Option, Some, None, ap, arith, nat_eq, refl, subst, sym, ◌∙◌}
+use Rattle.std.proofs.Common.{◌≡◌, ◌+◌, ℕ, Bool, true, false, true≢false, List, [], ◌++◌, length, Option, Some, None, ap, arith, nat_eq, refl, subst, sym, ◌∙◌}
 use Rattle.std.proofs.lemmas.Bool.{eq-eqb}
 use Rattle.std.proofs.lemmas.List.{append_cancel_left, length-append}
 use Rattle.std.specs.Prelude.{codes, get_or, option_map, if◌then◌else◌}
@@ -9,13 +9,13 @@ use Rattle.uds_difference.specs.declared.row.Row.{Row}
 use Rattle.uds_difference.specs.declared.row.Row.TheVariants.{Same, Changed, OnlyLeft, OnlyRight}
 use Rattle.uds_exchange.specs.Meaning.{ItemValue, exchange, stray}
 use Rattle.trace_report.specs.Items.{PlacedItemValue, RowMessageValue, item_value}
-use Rattle.trace_report.specs.MessageRows.{role_words}
+use Rattle.trace_pair.specs.LongNames.{parted_role_words}
 use Rattle.trace_report.specs.Roles.{is_request_role}
 use Rattle.trace_report.specs.declared.roles.MessageRole.{MessageRole}
 use Rattle.trace_report.specs.declared.roles.MessageRole.TheVariants as role
 use Rattle.trace_pair.specs.ItemRows.{answer_data, message_of_both, other_outcomes, outcome_by, outcome_line, same_outcomes, told, told_if}
 use Rattle.trace_pair.specs.ItemWords.{came_of, outcome_mark, outcome_note, outcome_words, same_outcome}
-use Rattle.trace_pair.specs.Laws.{HasNone, UnansweredHasNone, none_outcome, none_told, told_whole}
+use Rattle.trace_pair.specs.OutcomeLaws.{HasNone, UnansweredHasNone, none_outcome, none_told, told_whole}
 use Rattle.trace_pair.specs.Logs.{letter_mark}
 use Rattle.trace_pair.specs.ToldItems.{no_answer_text, told_answer, told_item, told_message}
 use Rattle.trace_pair.specs.declared.log.PairLog.{PairLog}
@@ -110,7 +110,7 @@ too_long name shown is =
     omega (arith, all, whole, front)
 
 -- no message is told so
-told-else : (is : MessageRole) (d : Dir) (bytes shown : List ℕ) (silent : Bool) → role_words is d bytes ++ shown ≡ no_answer_text silent → ⊥
+told-else : (is : MessageRole) (d : Dir) (bytes shown : List ℕ) (silent : Bool) → parted_role_words is d bytes ++ shown ≡ no_answer_text silent → ⊥
 told-else role.Request d bytes shown true same = too_long _ shown same
 told-else (role.Positive asked) d bytes shown true same = never_at 3 same refl
 told-else (role.Negative asked) d bytes shown true same = never_at 3 same refl

@@ -9,7 +9,7 @@ use Rattle.shown_rows.specs.Folds.{context_behind, is_shown}
 use Rattle.shown_rows.specs.Laws.{RowAt, shown_at}
 use Rattle.shown_rows.specs.Rows.{left_in, right_in}
 use Rattle.shown_rows.proofs.Promises.{shown_rows_stand_in_hunks}
-use Rattle.trace_pair.specs.Laws.{UnfoldedRowsAreThoseOfHunks, place_of, unfolded_in, unfolded_rows}
+use Rattle.trace_pair.specs.TableLaws.{UnfoldedRowsAreThoseOfHunks, place_of, unfolded_in, unfolded_rows}
 use Rattle.trace_pair.specs.RowStretches.{PlacedRow, Stretch, shown, folded, changes_with, placed, placed_from, placed_row, stretches, with_folded, with_seen}
 use Rattle.trace_pair.proofs.RowsOnce.{tables-have}
 

@@ -121,7 +121,7 @@ module _ (all : ℕ) where
     -- what stands before rows
     abbrev stands : ℕ → ℕ → Row → ℕ → ℕ → ℕ → Table → ℕ → Standing
     stands inside more front left right before table blocks =
-        record { folded = inside; context = more; front = front; left = left; right = right; changes = before; table = table; blocks = blocks }
+        record { folded = inside; still_shown = more; front = front; left = left; right = right; changes = before; table = table; blocks = blocks }
 
     -- Rows that are written one after another are their stretches: in front of a fold, and within one.
     record AreStretches (rows : List Row) : Type 0 where

@@ -8,6 +8,7 @@ use Rattle.uds_difference.specs.declared.row.Row.TheVariants.{Same, Changed, Onl
 use Rattle.shown_rows.specs.declared.changes.Change.{Change}
 use Rattle.trace_pair.specs.declared.log.PairLog.{PairLog}
 use Rattle.trace_pair.specs.declared.log.PairLog.TheVariants.{A, B}
+use Rattle.trace_pair.specs.DifferenceNames.{difference_name}
 use Rattle.trace_pair.specs.Logs.{letter}
 use Rattle.trace_pair.specs.ItemWords.{differ, item_title, outcome_note}
 
@@ -62,7 +63,7 @@ unclean_note false false = []
 
 -- where a change stands: a link to the one of this number, or the words alone
 abbrev pub where_link : Bool → ℕ → List ℕ → List ℕ
-where_link true number place = codes "<a href=\"#d" ++ decimal number ++ codes "\">" ++ place ++ codes "</a>"
+where_link true number place = codes "<a href=\"#" ++ difference_name number ++ codes "\">" ++ place ++ codes "</a>"
 where_link false number place = place
 
 -- a change in a line

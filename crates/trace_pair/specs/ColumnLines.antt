@@ -1,13 +1,13 @@
 -- Two messages byte under byte, as a page has them: lines of sixteen columns, in which each byte that differs has a mark.
-use Rattle.std.specs.Prelude.{ℕ, ◌+◌, ◌*◌, ◌==◌, Bool, true, false, not, ◌&&◌, List, [], ◌∷◌, ◌++◌, codes, length, nat_le, take, Option, Some, None, if◌then◌else◌}
+use Rattle.std.specs.Prelude.{ℕ, ◌+◌, ◌-◌, ◌*◌, ◌==◌, Bool, true, false, not, ◌&&◌, List, [], ◌∷◌, ◌++◌, codes, length, nat_le, take, Option, Some, None, option_to_list, if◌then◌else◌}
 use Rattle.std.specs.Fmt.{decimal}
 use Rattle.std.specs.List.{flat_map, range_with_len}
 use Rattle.can_log.specs.Digits.{hexadecimal}
 use Rattle.byte_columns.specs.declared.column.Column.{Column}
-use Rattle.byte_columns.specs.declared.lines.TheConstants.{LINE}
+use Rattle.byte_columns.specs.declared.stretches.Stretch.{Stretch}
+use Rattle.byte_columns.specs.declared.stretches.Stretch.TheVariants.{Shown, Folded}
 use Rattle.byte_columns.specs.Columns.{differing, differs}
-use Rattle.byte_columns.specs.Laws.{listed}
-use Rattle.byte_columns.specs.Lines.{Stretch, shown, folded, columns_from, hidden, line, line_count, line_differs, stretches}
+use Rattle.byte_columns.specs.Lines.{columns_from, hidden, line, line_count, line_differs, line_length, stretches}
 use Rattle.trace_report.specs.Letters.{letter_text}
 use Rattle.trace_pair.specs.declared.column_lines.ShownLogs.{ShownLogs}
 use Rattle.trace_pair.specs.declared.column_lines.ShownLogs.TheVariants.{Both, Only}
@@ -44,7 +44,7 @@ cells log (here ∷ later) = mark_start false (differs here) ++ byte_or_gap (byt
 
 -- the bytes that a log has in these columns
 abbrev pub bytes_in : PairLog → List Column → List ℕ
-bytes_in log columns = flat_map (λ (here : Column). listed (byte_of log here)) columns
+bytes_in log columns = flat_map (λ (here : Column). option_to_list (byte_of log here)) columns
 
 -- the letter for what a log has in a column: a blank in a gap
 abbrev pub letter_or_gap : Option ℕ → List ℕ
@@ -99,7 +99,7 @@ side_line lettered whose log number columns =
 
 -- how many bytes a log has before a line
 abbrev pub bytes_before : PairLog → List Column → ℕ → ℕ
-bytes_before log columns number = length (bytes_in log (take (LINE * number) columns))
+bytes_before log columns number = length (bytes_in log (take (line_length * number) columns))
 
 -- the line of a number, as one log has it
 abbrev pub line_of : Bool → Whose → PairLog → List Column → ℕ → List ℕ
@@ -130,6 +130,10 @@ abbrev pub counted : ShownLogs → List Column → List Column
 counted sides [] = []
 counted sides (here ∷ later) = if is_counted sides here then here ∷ counted sides later else counted sides later
 
+-- how many columns don't count: there the other log alone has a byte
+abbrev pub uncounted : ShownLogs → List Column → ℕ
+uncounted sides columns = length columns - length (counted sides columns)
+
 -- how many of some bytes differ
 abbrev pub differ_words : ℕ → List ℕ
 differ_words count = if count == 0 then codes "the same" else if count == 1 then codes "1 of them differs" else decimal count ++ codes " of them differ"
@@ -138,27 +142,44 @@ differ_words count = if count == 0 then codes "the same" else if count == 1 then
 abbrev pub bytes_more : ℕ → List ℕ
 bytes_more count = if count == 1 then codes "1 byte more" else decimal count ++ codes " bytes more"
 
--- so many bytes more, of which so many differ
-abbrev pub fold_words : ℕ → ℕ → List ℕ
-fold_words count differ = if count == 0 then codes "no byte more" else bytes_more count ++ codes ", " ++ differ_words differ
+-- so many bytes
+abbrev pub bytes_word : ℕ → List ℕ
+bytes_word count = if count == 1 then codes "1 byte" else decimal count ++ codes " bytes"
 
--- a stretch of lines: one that is shown, or several that are folded, with how many columns of theirs count, and how many of
--- these differ
+-- so many bytes that only this log has, if it has some
+abbrev pub only_words : PairLog → ℕ → List ℕ
+only_words log count = if count == 0 then [] else codes "; " ++ bytes_word count ++ codes " only in " ++ letter log
+
+-- so many bytes that only the other log has, behind what is told of the one that is shown
+abbrev pub other_words : ShownLogs → ℕ → List ℕ
+other_words Both count = []
+other_words (Only log) count = only_words (other_log log) count
+
+-- so many bytes more, of which so many differ; and so many that only the other log has
+abbrev pub fold_words : ShownLogs → ℕ → ℕ → ℕ → List ℕ
+fold_words sides count differ others =
+    (if count == 0 then codes "no byte more" else bytes_more count ++ codes ", " ++ differ_words differ) ++ other_words sides others
+
+-- what is told of the columns of a fold: how many count, how many of these differ, and how many don't count
+abbrev pub fold_text : ShownLogs → List Column → List ℕ
+fold_text sides columns = fold_words sides (length (counted sides columns)) (differing (counted sides columns)) (uncounted sides columns)
+
+-- a stretch of lines: one that is shown, or several that are folded, with what is told of their columns
 abbrev pub stretch_text : ShownLogs → Bool → List Column → Stretch → List ℕ
-stretch_text sides lettered columns (shown number) = line_text sides lettered columns number
-stretch_text sides lettered columns (folded first count) =
-    codes "<details><summary>"
-    ++ fold_words (length (counted sides (columns_from columns first count))) (differing (counted sides (columns_from columns first count)))
-    ++ codes "</summary>" ++ flat_map (line_text sides lettered columns) (range_with_len first count) ++ codes "</details>"
+stretch_text sides lettered columns (Shown number) = line_text sides lettered columns number
+stretch_text sides lettered columns (Folded first count) =
+    codes "<details><summary>" ++ fold_text sides (columns_from columns first count) ++ codes "</summary>" ++ flat_map (line_text sides lettered columns) (range_with_len first count) ++ codes "</details>"
 
--- so many bytes more that are not shown, of which so many differ
-abbrev pub hidden_words : ℕ → ℕ → List ℕ
-hidden_words count differ =
-    if count == 0 then [] else codes "<p class=\"rest\"><i>" ++ bytes_more count ++ codes ", not shown; " ++ differ_words differ ++ codes "</i></p>"
+-- so many bytes more that are not shown, of which so many differ; and so many that only the other log has
+abbrev pub hidden_words : ShownLogs → ℕ → ℕ → ℕ → List ℕ
+hidden_words sides count differ others =
+    if count == 0 && others == 0 then []
+    else codes "<p class=\"rest\"><i>" ++ (if count == 0 then codes "no byte more" else bytes_more count ++ codes ", not shown; " ++ differ_words differ)
+    ++ other_words sides others ++ codes "</i></p>"
 
--- what is not shown: how many columns of it count, and how many of these differ
+-- what is not shown: how many columns of it count, how many of these differ, and how many don't count
 abbrev pub hidden_text : ShownLogs → List Column → List ℕ
-hidden_text sides columns = hidden_words (length (counted sides columns)) (differing (counted sides columns))
+hidden_text sides columns = hidden_words sides (length (counted sides columns)) (differing (counted sides columns)) (uncounted sides columns)
 
 -- two messages byte under byte
 abbrev pub lines_text : ShownLogs → Bool → List Column → List ℕ

@@ -4,6 +4,7 @@ use Rattle.std.specs.Fmt.{decimal}
 use Rattle.shown_rows.specs.declared.changes.Change.{Change}
 use Rattle.trace_report.specs.Session.{SessionValue}
 use Rattle.trace_pair.specs.declared.log.PairLog.TheVariants.{A, B}
+use Rattle.trace_pair.specs.DifferenceNames.{difference_name}
 use Rattle.trace_pair.specs.ChangeWords.{change_line}
 use Rattle.trace_pair.specs.Sessions.{values_in}
 use Rattle.trace_pair.specs.Verdict.{is_lossy}
@@ -48,7 +49,7 @@ abbrev pub list_end : ℕ → List ℕ
 list_end count =
     (if nat_lt open_differences count then codes "</ol>\n</details>\n" else codes "</ol>\n")
     ++ (if nat_le count listed_differences then []
-    else codes "<p>" ++ (if count == listed_differences + 1 then codes "1 more difference stands" else decimal (count - listed_differences) ++ codes " more differences stand") ++ codes " below: <a href=\"#d" ++ decimal first_unlisted ++ codes "\">go on there</a>.</p>\n")
+    else codes "<p>" ++ (if count == listed_differences + 1 then codes "1 more difference stands" else decimal (count - listed_differences) ++ codes " more differences stand") ++ codes " below: <a href=\"#" ++ difference_name first_unlisted ++ codes "\">go on there</a>.</p>\n")
 
 -- the list, where there are several differences
 abbrev pub list_text : SessionValue → SessionValue → List Change → List ℕ

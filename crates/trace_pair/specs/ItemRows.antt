@@ -7,7 +7,6 @@ use Rattle.uds_difference.specs.declared.row.Row.TheVariants.{Same, Changed, Onl
 use Rattle.byte_columns.specs.Columns.{beside}
 use Rattle.trace_report.specs.Roles.{is_request_role}
 use Rattle.trace_report.specs.Items.{PlacedItemValue, RowMessageValue, item_value, items_in}
-use Rattle.trace_report.specs.MessageRows.{role_words}
 use Rattle.trace_report.specs.Session.{SessionValue}
 use Rattle.trace_report.specs.Data.{data_text}
 use Rattle.trace_report.specs.Letters.{has_word}
@@ -17,10 +16,12 @@ use Rattle.trace_pair.specs.declared.column_lines.ShownLogs.TheVariants.{Both}
 use Rattle.trace_pair.specs.declared.log.PairLog.{PairLog}
 use Rattle.trace_pair.specs.declared.log.PairLog.TheVariants.{A, B}
 use Rattle.trace_pair.specs.declared.outcome.Outcome.{Outcome}
+use Rattle.trace_pair.specs.DifferenceNames.{difference_name}
 use Rattle.trace_pair.specs.ChangeWords.{tag}
 use Rattle.trace_pair.specs.ColumnLines.{lines_text}
 use Rattle.trace_pair.specs.ItemWords.{came_of, differ, outcome_mark, same_outcome}
 use Rattle.trace_pair.specs.Logs.{has_item, letter_mark}
+use Rattle.trace_pair.specs.LongNames.{parted_role_words}
 use Rattle.trace_pair.specs.Losses.{losses_of, losses_text}
 use Rattle.trace_pair.specs.ToldItems.{note_of, told_answer, told_item}
 
@@ -31,7 +32,7 @@ both_bytes xs ys = lines_text Both (has_word xs || has_word ys) (beside xs ys)
 -- a message of two items, once where it is the same in both
 abbrev pub message_of_both : RowMessageValue → RowMessageValue → List ℕ
 message_of_both one other =
-    role_words one.role one.dir one.bytes ++ (if same_bytes one.bytes other.bytes then data_text one.bytes else both_bytes one.bytes other.bytes)
+    parted_role_words one.role one.dir one.bytes ++ (if same_bytes one.bytes other.bytes then data_text one.bytes else both_bytes one.bytes other.bytes)
 
 -- the answers of two exchanges with the same outcome: byte under byte
 abbrev pub same_outcomes : List ℕ → Option RowMessageValue → Option RowMessageValue → List ℕ
@@ -95,7 +96,7 @@ row_class OnlyRight = codes "d ob"
 -- where a change begins, the identifier to which the list leads
 abbrev pub row_start : Row → Option ℕ → List ℕ
 row_start kind None = codes "<tr class=\"" ++ row_class kind ++ codes "\">"
-row_start kind (Some number) = codes "<tr class=\"" ++ row_class kind ++ codes "\" id=\"d" ++ decimal number ++ codes "\">"
+row_start kind (Some number) = codes "<tr class=\"" ++ row_class kind ++ codes "\" id=\"" ++ difference_name number ++ codes "\">"
 
 -- what a change is, above its first row
 abbrev pub change_words : Row → ℕ → Option PlacedItemValue → Option PlacedItemValue → List ℕ
@@ -109,7 +110,7 @@ next_number number all = if nat_lt number all then Some (number + 1) else None
 
 -- a link to the next change, if there is one, or to the list
 abbrev pub way_on : Option ℕ → List ℕ
-way_on (Some next) = codes "<a href=\"#d" ++ decimal next ++ codes "\">next</a>"
+way_on (Some next) = codes "<a href=\"#" ++ difference_name next ++ codes "\">next</a>"
 way_on None = codes "<a href=\"#differences\">list</a>"
 
 -- the way to the next change of all, or back to the list from the last one

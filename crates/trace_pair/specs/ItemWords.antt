@@ -6,7 +6,7 @@ use Rattle.direction.specs.declared.Dir.TheVariants as dir
 use Rattle.uds_message.specs.Message.{is_keep_alive, is_negative_response, is_suppressing, response_code, sid}
 use Rattle.uds_exchange.specs.Meaning.{ItemValue, exchange, stray}
 use Rattle.uds_difference.specs.Likeness.{same_bytes}
-use Rattle.trace_text.specs.Words.{code_text, direction_text, service_text}
+use Rattle.trace_text.specs.Words.{direction_text}
 use Rattle.trace_report.specs.Data.{bytes_apart, more_words}
 use Rattle.trace_pair.specs.declared.outcome.Outcome.{Outcome}
 use Rattle.trace_pair.specs.declared.outcome.Outcome.TheVariants.{Positive, Refused, Silent, Unanswered}
@@ -14,6 +14,7 @@ use Rattle.trace_pair.specs.declared.log.PairLog.{PairLog}
 use Rattle.trace_pair.specs.declared.log.PairLog.TheVariants.{A, B}
 use Rattle.trace_pair.specs.ByteWords.{byte_words}
 use Rattle.trace_pair.specs.Logs.{letter}
+use Rattle.trace_pair.specs.LongNames.{parted_code, parted_service}
 
 -- what came of a request: its answer, or why there is none
 abbrev pub came_of : List ℕ → Option (List ℕ) → Outcome
@@ -23,14 +24,14 @@ came_of request None = if is_suppressing request then Silent else Unanswered
 -- what came of a request, in words
 abbrev pub outcome_words : Outcome → List ℕ
 outcome_words Positive = codes "positive"
-outcome_words (Refused code) = codes "refused with <b>" ++ code_text code ++ codes "</b>"
+outcome_words (Refused code) = codes "refused with <b>" ++ parted_code code ++ codes "</b>"
 outcome_words Silent = codes "silent, as the request asks"
 outcome_words Unanswered = codes "without an answer"
 
 -- what came of a request, as the mark of its line says it
 abbrev pub outcome_mark : Outcome → List ℕ
 outcome_mark Positive = codes "positive"
-outcome_mark (Refused code) = codes "negative " ++ code_text code
+outcome_mark (Refused code) = codes "negative " ++ parted_code code
 outcome_mark Silent = codes "silent"
 outcome_mark Unanswered = codes "no answer"
 
@@ -44,7 +45,7 @@ is_refusal Unanswered = false
 -- what came of a request in a log; that it was refused may have been said before
 abbrev pub outcome_in : PairLog → Bool → Outcome → List ℕ
 outcome_in log said Positive = codes "positive in " ++ letter log
-outcome_in log said (Refused code) = (if said then codes "with <b>" else codes "refused with <b>") ++ code_text code ++ codes "</b> in " ++ letter log
+outcome_in log said (Refused code) = (if said then codes "with <b>" else codes "refused with <b>") ++ parted_code code ++ codes "</b> in " ++ letter log
 outcome_in log said Silent = codes "silent in " ++ letter log ++ codes ", as the request asks"
 outcome_in log said Unanswered = codes "without an answer in " ++ letter log
 
@@ -84,7 +85,7 @@ keeps_alive dir.Unit bytes = false
 
 -- what an item is, and how it begins
 abbrev pub item_title : ItemValue → List ℕ
-item_title (exchange request answer) = codes "<b>" ++ service_text (sid request) ++ codes "</b> " ++ first_bytes request
+item_title (exchange request answer) = codes "<b>" ++ parted_service (sid request) ++ codes "</b> " ++ first_bytes request
 item_title (stray side bytes) =
     (if keeps_alive side bytes then codes "<b>keep-alive</b> " else codes "<b>stray</b> <i>from the " ++ direction_text side ++ codes "</i> ")
     ++ first_bytes bytes

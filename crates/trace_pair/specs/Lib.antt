@@ -1,4 +1,6 @@
 pub mod Logs
+pub mod LongNames
+pub mod DifferenceNames
 pub mod ColumnLines
 pub mod ByteWords
 pub mod ItemWords
@@ -13,7 +15,7 @@ pub mod Recordings
 pub mod Widths
 pub mod Differences
 pub mod Counterparts
-pub mod First
+pub mod FirstDifference
 pub mod ItemRows
 pub mod RowStretches
 pub mod Links
@@ -24,6 +26,12 @@ pub mod Titles
 pub mod Page
 pub mod InMemory
 pub mod Laws
+pub mod ChartLaws
+pub mod OutcomeLaws
+pub mod TableLaws
+pub mod LinkLaws
 pub mod ColumnLaws
+pub mod ByteLaws
 pub mod RowLaws
+pub mod LossLaws
 pub mod proving

@@ -1,14 +1,13 @@
 -- The differences as rows of the table of items begin them, and the numbers of those to which the page links.
-use Rattle.std.specs.Prelude.{ℕ, ◌+◌, ◌-◌, ◌==◌, List, [], ◌∷◌, ◌++◌, length, map, nat_le, take, Option, Some, None, if◌then◌else◌}
+use Rattle.std.specs.Prelude.{ℕ, ◌+◌, ◌-◌, ◌==◌, List, [], ◌∷◌, ◌++◌, length, map, nat_le, take, Option, Some, None, option_to_list, if◌then◌else◌}
 use Rattle.std.specs.List.{flat_map}
-use Rattle.byte_columns.specs.Laws.{listed}
 use Rattle.shown_rows.specs.declared.changes.Change.{Change}
 use Rattle.shown_rows.specs.Changes.{change}
 use Rattle.trace_report.specs.Session.{SessionValue}
 use Rattle.trace_pair.specs.declared.item_row.Begun.{Begun}
 use Rattle.trace_pair.specs.declared.item_row.RowPlace.{RowPlace}
 use Rattle.trace_pair.specs.Differences.{difference_line, first_unlisted, listed_differences, more_start, open_differences}
-use Rattle.trace_pair.specs.First.{first_number}
+use Rattle.trace_pair.specs.FirstDifference.{first_number}
 use Rattle.trace_pair.specs.ItemRows.{next_number}
 use Rattle.trace_pair.specs.RowStretches.{PlacedRow}
 
@@ -43,7 +42,7 @@ number_in it = it.number
 
 -- the number to which the line above a difference links, if one follows
 abbrev pub number_behind : NumberedChange → List ℕ
-number_behind it = listed (next_number it.number it.all)
+number_behind it = option_to_list (next_number it.number it.all)
 
 -- the number to which the end of the list links, where not all of so many are listed
 abbrev pub number_unlisted : ℕ → List ℕ

@@ -1,10 +1,10 @@
 -- The two logs of a page, by their letters.
-use Rattle.std.specs.Prelude.{ℕ, Bool, true, false, List, ◌++◌, codes, Option}
+use Rattle.std.specs.Prelude.{ℕ, Bool, true, false, List, ◌++◌, codes, Option, if◌then◌else◌}
 use Rattle.byte_columns.specs.declared.column.Column.{Column}
 use Rattle.uds_difference.specs.declared.row.Row.{Row}
 use Rattle.uds_difference.specs.declared.row.Row.TheVariants.{Same, Changed, OnlyLeft, OnlyRight}
 use Rattle.shown_rows.specs.declared.changes.Change.{Change}
-use Rattle.trace_report.specs.Front.{name_text}
+use Rattle.trace_report.specs.LogNames.{name_text}
 use Rattle.trace_pair.specs.declared.log.PairLog.{PairLog}
 use Rattle.trace_pair.specs.declared.log.PairLog.TheVariants.{A, B}
 
@@ -44,3 +44,7 @@ has_item B OnlyRight = true
 abbrev pub items_before : PairLog → Change → ℕ
 items_before A here = here.left
 items_before B here = here.right
+
+-- how many items of a log a change has
+abbrev pub own_count : PairLog → Change → ℕ
+own_count log here = if has_item log here.kind then here.count else 0

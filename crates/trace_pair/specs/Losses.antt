@@ -2,10 +2,10 @@
 use Prim.Native.Nat.{zero, suc}
 use Rattle.std.specs.Prelude.{ℕ, ◌+◌, ◌-◌, ◌==◌, Bool, true, false, ◌&&◌, List, [], ◌∷◌, ◌++◌, codes, length, nat_le, take, if◌then◌else◌}
 use Rattle.std.specs.Fmt.{decimal}
-use Rattle.std.specs.List.{flat_map}
+use Rattle.std.specs.List.{filter, flat_map}
 use Rattle.trace_report.specs.Items.{begins, rows_before}
 use Rattle.trace_report.specs.Rows.{RowValue, message, no_answer, dropped, ended, unfinished}
-use Rattle.trace_report.specs.LostRows.{dropped_words, ended_words, unfinished_words}
+use Rattle.trace_report.specs.MissingRows.{dropped_words, ended_words, unfinished_words}
 use Rattle.trace_pair.specs.declared.log.PairLog.{PairLog}
 use Rattle.trace_pair.specs.Logs.{letter, letter_mark}
 
@@ -40,6 +40,12 @@ losses_of rows item = losses_behind 0 item rows
 abbrev pub losses_from : List RowValue → ℕ → ℕ → ℕ
 losses_from rows item zero = 0
 losses_from rows item (suc more) = length (losses_of rows item) + losses_from rows (item + 1) more
+
+-- How much is missing in front of the item of a place, where another log has items that this one lacks: of the item before
+-- it; in front of the first one, what is missing before the row with which that begins, or of a log without an item.
+abbrev pub losses_in_front : List RowValue → ℕ → ℕ
+losses_in_front rows zero = length (filter is_loss (take (rows_before 0 rows) rows))
+losses_in_front rows (suc before) = length (losses_of rows before)
 
 -- a loss in words, without its place
 abbrev pub loss_words : RowValue → List ℕ

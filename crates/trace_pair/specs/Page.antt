@@ -6,8 +6,9 @@ use Rattle.trace_log.specs.declared.fault.Fault.{Fault}
 use Rattle.trace_log.specs.declared.fault.Fault.TheVariants.{BadLine, LogLimit, Oversize, OutputLimit, Read, Write, Memory}
 use Rattle.trace_report.specs.Causes.{cause_line, cause_of}
 use Rattle.trace_report.specs.Counts.{counts_text}
-use Rattle.trace_report.specs.Front.{identifiers_text, name_text, page_start, shapes_text}
-use Rattle.trace_report.specs.Kept.{TwoValue}
+use Rattle.trace_report.specs.Front.{identifiers_text, page_start, shapes_text}
+use Rattle.trace_report.specs.LogNames.{name_text}
+use Rattle.trace_report.specs.Kept.{KeptSessionsValue}
 use Rattle.trace_report.specs.Session.{SessionValue}
 use Rattle.trace_report.specs.Sorts.{counts_in}
 use Rattle.trace_report.specs.Verdict.{refusal_words, span_of, verdict_head}
@@ -20,7 +21,7 @@ use Rattle.shown_rows.specs.Changes.{changes}
 use Rattle.trace_pair.specs.declared.log.PairLog.{PairLog}
 use Rattle.trace_pair.specs.declared.log.PairLog.TheVariants.{A, B}
 use Rattle.trace_pair.specs.Differences.{list_text}
-use Rattle.trace_pair.specs.First.{first_text}
+use Rattle.trace_pair.specs.FirstDifference.{first_text}
 use Rattle.trace_pair.specs.Help.{help_text}
 use Rattle.trace_pair.specs.ItemTables.{items_text}
 use Rattle.trace_pair.specs.Logs.{letter, lettered_name}
@@ -82,12 +83,22 @@ page_of title left right =
     body title (is_shortest (values_in left) (values_in right)) (bound_for (length (values_in left) + length (values_in right)))
     (rows_of (values_in left) (values_in right)) left right
 
+-- that the lines before are shown elsewhere, where some stand before what refuses the log; no other fault has a page
+abbrev pub before_words : Fault → List ℕ
+before_words (BadLine line column) = if line == 1 then [] else codes " A report of this log alone shows the lines before that."
+before_words LogLimit = codes " A report of this log alone shows the lines before that."
+before_words (Oversize line announced) = []
+before_words OutputLimit = []
+before_words Read = []
+before_words Write = []
+before_words Memory = []
+
 -- the page where this log is refused
 abbrev pub refused_page : TitleValue → PairLog → Fault → Option RefusalCause → List ℕ
 refused_page title log why cause =
     front title 0 ++ verdict_head (codes "bad") (codes "&#10005;") ++ letter log
     ++ codes " is refused, so nothing is compared</h2>\n<p><em>" ++ refusal_words why
-    ++ codes ".</em> A report of this log alone shows the lines before that.</p>\n" ++ cause_line cause
+    ++ codes ".</em>" ++ before_words why ++ codes "</p>\n" ++ cause_line cause
     ++ codes "</section>\n<main>\n<section id=\"items\">\n<h2>Items</h2>\n<p>Nothing is compared.</p>\n</section>\n</main>\n" ++ help_text
 
 -- a line or the limit refuses the log; no other fault has a page
@@ -105,7 +116,7 @@ abbrev pub unread_page : TitleValue → PairLog → Fault → Option RefusalCaus
 unread_page title log why cause = if has_page why then refused_page title log why cause else []
 
 -- the page of what is answered of two logs, where this is the cause of a refusal
-abbrev pub pair_page : TitleValue → Result TwoValue CompareFault → Option RefusalCause → List ℕ
+abbrev pub pair_page : TitleValue → Result KeptSessionsValue CompareFault → Option RefusalCause → List ℕ
 pair_page title (Ok two) cause = page_of title two.left two.right
 pair_page title (Err (Left why)) cause = unread_page title A why cause
 pair_page title (Err (Right why)) cause = unread_page title B why cause

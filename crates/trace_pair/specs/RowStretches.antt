@@ -27,20 +27,20 @@ abbrev pub changes_with : Row → ℕ → Row → ℕ
 changes_with front before row = if begins_change front row then before + 1 else before
 
 -- The first of these rows in its place. Before it stand: of all changes so many, this row in front of it, and so many items
--- of both logs; so many rows more are seen for a change before them.
+-- of both logs; so many of the next rows are seen for a change before them.
 abbrev pub placed_row : ℕ → ℕ → Row → ℕ → ℕ → ℕ → Row → List Row → PlacedRow
-placed_row all before front left right more row rows = record {
+placed_row all before front left right still_shown row rows = record {
   place = record { kind = row; left = left; right = right };
   begins = begun front before all row rows;
-  is_seen = is_shown more (row ∷ rows);
+  is_seen = is_shown still_shown (row ∷ rows);
 }
 
 -- these rows in their places, by what stands before them
 abbrev pub placed_from : ℕ → ℕ → Row → ℕ → ℕ → ℕ → List Row → List PlacedRow
-placed_from all before front left right more [] = []
-placed_from all before front left right more (row ∷ rows) =
-    placed_row all before front left right more row rows
-    ∷ placed_from all (changes_with front before row) row (left + left_in row) (right + right_in row) (context_behind more row) rows
+placed_from all before front left right still_shown [] = []
+placed_from all before front left right still_shown (row ∷ rows) =
+    placed_row all before front left right still_shown row rows
+    ∷ placed_from all (changes_with front before row) row (left + left_in row) (right + right_in row) (context_behind still_shown row) rows
 
 -- all rows of two sessions in their places
 abbrev pub placed : List Row → List PlacedRow

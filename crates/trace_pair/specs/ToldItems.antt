@@ -3,16 +3,17 @@ use Rattle.std.specs.Prelude.{ℕ, Bool, List, [], ◌++◌, codes, max, min, Op
 use Rattle.uds_message.specs.Message.{is_suppressing}
 use Rattle.trace_report.specs.Roles.{is_request_role, asked_at}
 use Rattle.trace_report.specs.Items.{RowMessageValue, PlacedItemValue}
-use Rattle.trace_report.specs.MessageRows.{further_note, named_lines, role_words}
+use Rattle.trace_report.specs.MessageRows.{further_note, named_lines}
 use Rattle.trace_report.specs.Data.{data_text}
 use Rattle.trace_report.specs.Durations.{seconds_between}
 use Rattle.trace_report.specs.declared.row.MessagePlace.{MessagePlace}
 use Rattle.trace_pair.specs.declared.log.PairLog.{PairLog}
 use Rattle.trace_pair.specs.Logs.{letter_mark}
+use Rattle.trace_pair.specs.LongNames.{parted_role_words}
 
 -- a message: what it is, and its bytes
 abbrev pub told_message : RowMessageValue → List ℕ
-told_message sent = role_words sent.role sent.dir sent.bytes ++ data_text sent.bytes
+told_message sent = parted_role_words sent.role sent.dir sent.bytes ++ data_text sent.bytes
 
 -- what stands in place of an answer
 abbrev pub no_answer_text : Bool → List ℕ

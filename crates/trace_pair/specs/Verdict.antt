@@ -1,5 +1,5 @@
 -- The verdict of a page of two logs: whether the sessions differ, in how many places and how, and how far that can be known.
-use Rattle.std.specs.Prelude.{ℕ, ◌+◌, ◌-◌, ◌==◌, Bool, true, false, not, ◌&&◌, ◌||◌, List, [], ◌∷◌, ◌++◌, codes, length, nat_lt, nat_le, if◌then◌else◌}
+use Rattle.std.specs.Prelude.{ℕ, ◌+◌, ◌==◌, Bool, true, false, not, ◌&&◌, ◌||◌, List, [], ◌∷◌, ◌++◌, codes, length, nat_lt, nat_le, if◌then◌else◌}
 use Rattle.std.specs.Fmt.{decimal}
 use Rattle.std.specs.List.{list_any}
 use Rattle.trace_log.specs.Summing.{is_clean}
@@ -14,7 +14,7 @@ use Rattle.trace_report.specs.Verdict.{verdict_head}
 use Rattle.trace_pair.specs.declared.log.PairLog.{PairLog}
 use Rattle.trace_pair.specs.declared.log.PairLog.TheVariants.{A, B}
 use Rattle.trace_pair.specs.Logs.{has_item, items_before}
-use Rattle.trace_pair.specs.Losses.{losses_from}
+use Rattle.trace_pair.specs.Losses.{losses_from, losses_in_front}
 use Rattle.trace_pair.specs.Sessions.{values_in}
 
 -- so many items
@@ -41,15 +41,15 @@ same_words count = if count == 0 then codes "No item is the same." else if count
 abbrev pub different_heading : ℕ → ℕ → ℕ → ℕ → ℕ → List ℕ
 different_heading differences same left right changed =
     verdict_head (codes "warn") (codes "&#8800;") ++ differences_word differences ++ counts_words left right changed
-    ++ codes "</h2>\n<p>" ++ same_words same ++ codes " <a href=\"#difference\">" ++ (if differences == 1 then codes "See it." else codes "See the first.") ++ codes "</a></p>\n"
+    ++ codes "</h2>\n<p>" ++ same_words same ++ codes " <a href=\"#difference\">" ++ (if differences == 1 then codes "See the difference." else codes "See the first difference.") ++ codes "</a></p>\n"
 
 -- Loss.
 
--- Something is missing of the items of a log that belong to a change; of a log that has none of them, of the last item
--- before it, or where none stands there, of the first one.
+-- Something is missing of the items of a log that belong to a change; of a log that has none of them, in front of the item
+-- before which they would stand.
 abbrev pub lossy_by : Bool → SessionValue → ℕ → ℕ → Bool
 lossy_by has session before count =
-    if has then nat_lt 0 (losses_from session.rows before count) else nat_lt 0 (losses_from session.rows (before - 1) 1)
+    if has then nat_lt 0 (losses_from session.rows before count) else nat_lt 0 (losses_in_front session.rows before)
 
 -- a log is not clean at a change
 abbrev pub is_lossy : PairLog → SessionValue → Change → Bool

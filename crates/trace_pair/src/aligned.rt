@@ -11,23 +11,23 @@ use crate::verdict::FoundDifference;
 use std::alloc::{AllocError, Global};
 use std::marker::Model;
 use trace_canon::Comparison;
-use trace_report::Two;
+use trace_report::KeptSessions;
 use uds_difference::{Difference, bound_for};
 
 /// What two logs say, kept, and what stands beside what in them. Contracts see both sessions.
 #[derive(Debug, Drop)]
 pub struct Aligned {
-    two: Two,
+    two: KeptSessions,
     difference: Difference,
 }
 
 impl Model for Aligned {
     ghost use Rattle.std.specs.Prelude.{◌≡◌};
-    ghost use Rattle.trace_report.specs.Kept.{TwoValue};
+    ghost use Rattle.trace_report.specs.Kept.{KeptSessionsValue};
     ghost use Rattle.uds_difference.specs.Rows.{is_shortest, rows_of};
     ghost use Rattle.trace_pair.specs.Sessions.{values_in};
 
-    ghost Value = { TwoValue };
+    ghost Value = { KeptSessionsValue };
 
     ghost view = { λ aligned. aligned.two };
 
@@ -37,7 +37,7 @@ impl Model for Aligned {
 
 impl Aligned {
     /// Both sessions, which are set side by side now. Where neither has an item, no memory is asked for.
-    pub fn of(alloc: Global, two: Two) -> Result<Aligned, AllocError>
+    pub fn of(alloc: Global, two: KeptSessions) -> Result<Aligned, AllocError>
         ensures kept { IfOk result (λ aligned. aligned ≡ two) }
         ensures refused { IfErr result (λ refused. (values_in two.left ≢ []) ⊎ (values_in two.right ≢ [])) }
     {
@@ -46,7 +46,7 @@ impl Aligned {
     }
 
     /// Both sessions.
-    pub fn two(&self) -> &Two
+    pub fn two(&self) -> &KeptSessions
         ensures { result.now ≡ self.now }
     {
         &self.two
@@ -76,7 +76,7 @@ impl Aligned {
         ensures shortest { result.shortest ≡ is_shortest (values_in self.now.left) (values_in self.now.right) }
         ensures bound { result.bound ≡ bound_for (length (values_in self.now.left) + length (values_in self.now.right)) }
     {
-        let items = self.two.left().rows().items() + self.two.right().rows().items();
+        let items = self.two.left().rows().item_count() + self.two.right().rows().item_count();
         FoundDifference {
             rows: &self.difference.rows,
             shortest: self.difference.shortest,

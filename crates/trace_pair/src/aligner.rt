@@ -15,7 +15,7 @@ use std::alloc::Global;
 use trace_io::Source;
 use trace_log::{CompareFault, Config, Fault};
 use trace_report::laws::items_are_the_meaning;
-use trace_report::{Two, keep_two};
+use trace_report::{KeptSessions, keep_two};
 
 /// Reads two logs, the first one whole before the second, and sets side by side what both say. No announcement and no
 /// canonical log is too long for it. Memory that is refused for that, of two logs that can be read, is told of the second.
@@ -61,7 +61,10 @@ pub fn align_two<A: Source, B: Source>(
 }
 
 /// What is answered of two logs that were kept, set side by side.
-fn set_beside(alloc: Global, kept: Result<Two, CompareFault>) -> Result<Aligned, CompareFault>
+fn set_beside(
+    alloc: Global,
+    kept: Result<KeptSessions, CompareFault>,
+) -> Result<Aligned, CompareFault>
     ensures { IsSetBeside kept result }
 {
     match kept {

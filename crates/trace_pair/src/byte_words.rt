@@ -4,7 +4,7 @@ ghost use Rattle.byte_columns.specs.Columns.{differing};
 ghost use Rattle.trace_pair.specs.ByteWords as Spec;
 
 use crate::log::PairLog;
-use byte_columns::{Beside, Column};
+use byte_columns::{ByteColumns, Column};
 use text_parts::{Either, Part, say};
 use trace_io::TextSink;
 use trace_report::BytesApart;
@@ -24,22 +24,44 @@ impl<'a> Part for ByteWords<'a> {
 
     fn say<S: TextSink>(self, out: &mut S) {
         let ByteWords(left, right) = self;
-        let columns = Beside::of(left, right);
+        let columns = ByteColumns::of(left, right);
         say_where(left, right, &columns, out);
-        say(out, LengthsWords(left.len(), right.len()));
+        say(
+            out,
+            LengthsWords {
+                left: left.len(),
+                right: right.len(),
+            },
+        );
     }
 }
 
 /// Says where two messages differ: one has bytes more than the other, or they are others.
-fn say_where<S: TextSink>(left: &[u8], right: &[u8], columns: &Beside<'_>, out: &mut S)
+fn say_where<S: TextSink>(left: &[u8], right: &[u8], columns: &ByteColumns<'_>, out: &mut S)
     ensures { S.says out.old (Spec.where_words left.now right.now columns.now) out.new }
 {
     let count = count_differing(columns);
     let place = columns.first_differing();
     if has_alone(left, right, count) {
-        say(out, AloneWords(PairLog::A, count, place, left));
+        say(
+            out,
+            AloneWords {
+                log: PairLog::A,
+                count,
+                place,
+                bytes: left,
+            },
+        );
     } else if has_alone(right, left, count) {
-        say(out, AloneWords(PairLog::B, count, place, right));
+        say(
+            out,
+            AloneWords {
+                log: PairLog::B,
+                count,
+                place,
+                bytes: right,
+            },
+        );
     } else {
         let here = column_at(columns, place);
         say(out, (FirstWords(place, here), OthersWords(count)));
@@ -47,7 +69,7 @@ fn say_where<S: TextSink>(left: &[u8], right: &[u8], columns: &Beside<'_>, out: 
 }
 
 /// How many columns differ.
-fn count_differing(columns: &Beside<'_>) -> usize
+fn count_differing(columns: &ByteColumns<'_>) -> usize
     ensures { result ≡ differing columns.now }
 {
     columns.differing(0, columns.len())
@@ -63,19 +85,29 @@ fn has_alone(own: &[u8], other: &[u8], count: usize) -> bool
 
 /// So many bytes that one log has alone, from a place of its message on.
 #[derive(Clone, Copy)]
-struct AloneWords<'a>(PairLog, usize, usize, &'a [u8]);
+struct AloneWords<'a> {
+    log: PairLog,
+    count: usize,
+    place: usize,
+    bytes: &'a [u8],
+}
 
 impl<'a> Part for AloneWords<'a> {
     ghost use Rattle.trace_pair.specs.ByteWords.{alone_words};
 
-    ghost text = { λ t. alone_words t.0 t.1 t.2 t.3.now };
+    ghost text = { λ words. alone_words words.log words.count words.place words.bytes.now };
 
     fn say<S: TextSink>(self, out: &mut S) {
-        let AloneWords(log, count, place, bytes) = self;
+        let AloneWords {
+            log,
+            count,
+            place,
+            bytes,
+        } = self;
         say(
             out,
             (
-                AloneWhere(log, count, place),
+                AloneWhere { log, count, place },
                 "<b>",
                 BytesApart(piece(bytes, place, count.min(TOLD))),
                 "</b>",
@@ -95,15 +127,19 @@ fn piece(bytes: &[u8], place: usize, count: usize) -> &[u8]
 
 /// Where so many bytes stand that one log has alone, from a place of its message on.
 #[derive(Clone, Copy)]
-struct AloneWhere(PairLog, usize, usize);
+struct AloneWhere {
+    log: PairLog,
+    count: usize,
+    place: usize,
+}
 
 impl Part for AloneWhere {
     ghost use Rattle.trace_pair.specs.ByteWords.{alone_where};
 
-    ghost text = { λ t. alone_where t.0 t.1 t.2 };
+    ghost text = { λ words. alone_where words.log words.count words.place };
 
     fn say<S: TextSink>(self, out: &mut S) {
-        let AloneWhere(log, count, place) = self;
+        let AloneWhere { log, count, place } = self;
         let one = (": byte ", Ordinal(place), " only in ", log, ": ");
         let several = (
             ": ",
@@ -135,7 +171,7 @@ impl Part for UntoldWords {
 }
 
 /// The column at a place, if there is one.
-fn column_at(columns: &Beside<'_>, place: usize) -> Option<Column>
+fn column_at(columns: &ByteColumns<'_>, place: usize) -> Option<Column>
     ensures { result ≡ slice_get columns.now place }
 {
     if place < columns.len() {
@@ -209,15 +245,18 @@ impl Part for OthersWords {
 
 /// How long both messages are, where that is not the same.
 #[derive(Clone, Copy)]
-struct LengthsWords(usize, usize);
+struct LengthsWords {
+    left: usize,
+    right: usize,
+}
 
 impl Part for LengthsWords {
     ghost use Rattle.trace_pair.specs.ByteWords.{lengths_words};
 
-    ghost text = { λ words. lengths_words words.0 words.1 };
+    ghost text = { λ words. lengths_words words.left words.right };
 
     fn say<S: TextSink>(self, out: &mut S) {
-        let LengthsWords(left, right) = self;
+        let LengthsWords { left, right } = self;
         let words = (
             "; ",
             Number(left as u64),

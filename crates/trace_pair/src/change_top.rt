@@ -2,6 +2,7 @@
 
 use crate::change_words::Tag;
 use crate::differ_words::DifferWords;
+use crate::difference_names::DifferenceName;
 use crate::item_row::Begun;
 use crate::sessions::item_of;
 use text_parts::{Either, Part, say};
@@ -12,30 +13,43 @@ use uds_difference::Row;
 
 /// What a change is, and the way to the next one, where a change begins.
 #[derive(Clone, Copy)]
-pub(crate) struct TopIf<'a>(
-    pub Option<Begun>,
-    pub Row,
-    pub Option<PlacedItem<'a>>,
-    pub Option<PlacedItem<'a>>,
-);
+pub(crate) struct TopIf<'a> {
+    pub begun: Option<Begun>,
+    pub kind: Row,
+    pub one: Option<PlacedItem<'a>>,
+    pub other: Option<PlacedItem<'a>>,
+}
 
 impl<'a> Part for TopIf<'a> {
     ghost use Rattle.std.specs.Prelude.{option_map};
     ghost use Rattle.trace_report.specs.Items.{item_of};
     ghost use Rattle.trace_pair.specs.ItemRows.{top_of};
 
-    ghost text = { λ t. top_of t.0 t.1 (option_map item_of t.2) (option_map item_of t.3) };
+    ghost text = { λ top. top_of top.begun top.kind (option_map item_of top.one) (option_map item_of top.other) };
 
     fn say<S: TextSink>(self, out: &mut S) {
-        let TopIf(begun, kind, one, other) = self;
+        let TopIf {
+            begun,
+            kind,
+            one,
+            other,
+        } = self;
         if let Some(begun) = begun {
             say(
                 out,
                 (
                     "<p class=\"top\"><span>",
-                    ChangeWords(kind, begun.count, one, other),
+                    ChangeWords {
+                        kind,
+                        count: begun.count,
+                        one,
+                        other,
+                    },
                     "</span>",
-                    Navigation(begun.number, begun.all),
+                    Navigation {
+                        number: begun.number,
+                        all: begun.all,
+                    },
                     "</p>",
                 ),
             );
@@ -45,17 +59,27 @@ impl<'a> Part for TopIf<'a> {
 
 /// What a change is.
 #[derive(Clone, Copy)]
-struct ChangeWords<'a>(Row, usize, Option<PlacedItem<'a>>, Option<PlacedItem<'a>>);
+struct ChangeWords<'a> {
+    kind: Row,
+    count: usize,
+    one: Option<PlacedItem<'a>>,
+    other: Option<PlacedItem<'a>>,
+}
 
 impl<'a> Part for ChangeWords<'a> {
     ghost use Rattle.std.specs.Prelude.{option_map};
     ghost use Rattle.trace_report.specs.Items.{item_of};
     ghost use Rattle.trace_pair.specs.ItemRows.{change_words};
 
-    ghost text = { λ t. change_words t.0 t.1 (option_map item_of t.2) (option_map item_of t.3) };
+    ghost text = { λ words. change_words words.kind words.count (option_map item_of words.one) (option_map item_of words.other) };
 
     fn say<S: TextSink>(self, out: &mut S) {
-        let ChangeWords(kind, count, one, other) = self;
+        let ChangeWords {
+            kind,
+            count,
+            one,
+            other,
+        } = self;
         match (one, other) {
             (Some(one), Some(other)) => say(
                 out,
@@ -66,23 +90,26 @@ impl<'a> Part for ChangeWords<'a> {
                     DifferWords(item_of(one), item_of(other)),
                 ),
             ),
-            (None, _) | (Some(_), None) => say(out, AloneWords(kind, count)),
+            (None, _) | (Some(_), None) => say(out, AloneWords { kind, count }),
         }
     }
 }
 
 /// So many items that stand alone.
 #[derive(Clone, Copy)]
-struct AloneWords(Row, usize);
+struct AloneWords {
+    kind: Row,
+    count: usize,
+}
 
 impl Part for AloneWords {
     ghost use Rattle.std.specs.Prelude.{None};
     ghost use Rattle.trace_pair.specs.ItemRows.{change_words};
 
-    ghost text = { λ t. change_words t.0 t.1 None None };
+    ghost text = { λ words. change_words words.kind words.count None None };
 
     fn say<S: TextSink>(self, out: &mut S) {
-        let AloneWords(kind, count) = self;
+        let AloneWords { kind, count } = self;
         say(
             out,
             (
@@ -97,15 +124,18 @@ impl Part for AloneWords {
 
 /// The way to the next change of all, or back to the list from the last one.
 #[derive(Clone, Copy)]
-struct Navigation(u64, u64);
+struct Navigation {
+    number: u64,
+    all: u64,
+}
 
 impl Part for Navigation {
     ghost use Rattle.trace_pair.specs.ItemRows.{navigation};
 
-    ghost text = { λ t. navigation t.0 t.1 };
+    ghost text = { λ way. navigation way.number way.all };
 
     fn say<S: TextSink>(self, out: &mut S) {
-        let Navigation(number, all) = self;
+        let Navigation { number, all } = self;
         if all == 1 {
             return;
         }
@@ -117,7 +147,7 @@ impl Part for Navigation {
             " ",
         );
         if number < all {
-            let next = ("<a href=\"#d", Number(number + 1), "\">next</a>");
+            let next = ("<a href=\"#", DifferenceName(number + 1), "\">next</a>");
             say(out, (front, next, "</span>"));
         } else {
             say(out, (front, "<a href=\"#differences\">list</a>", "</span>"));

@@ -6,6 +6,7 @@ ghost use Rattle.trace_pair.specs.declared.log.PairLog.TheVariants.{A, B};
 ghost use Rattle.trace_pair.specs.Sessions.{left_items, right_items, values_in};
 
 use crate::differ_words::DifferWords;
+use crate::difference_names::DifferenceName;
 use crate::item_words::{ItemTitle, OutcomeNote};
 use crate::log::PairLog;
 use crate::losses::is_lossy;
@@ -91,7 +92,7 @@ fn say_where<S: TextSink>(linked: bool, number: usize, change: Change, out: &mut
     ensures { S.says out.old (where_link linked number (where_text change.kind change.left change.right change.count)) out.new }
 {
     if linked {
-        say(out, ("<a href=\"#d", Number(number as u64), "\">"));
+        say(out, ("<a href=\"#", DifferenceName(number as u64), "\">"));
         say_place(change, out);
         say(out, "</a>");
     } else {

@@ -1,22 +1,25 @@
 //! A chart of one log: the rows around an item, with a mark at each byte that differs.
-ghost use Rattle.std.specs.Prelude.{◌≡◌, ◌-◌, None, drop, false, max, option_map, slice_get, take};
+ghost use Rattle.std.specs.Prelude.{◌≡◌, ◌+◌, ◌-◌, ◌<◌, ◌^◌, None, drop, false, max, nat_le, option_map, slice_get, take};
 ghost use Rattle.shown_rows.specs.Rows.{changes_within};
 ghost use Rattle.trace_report.specs.Blocks.{begins_exchange as asks};
+ghost use Rattle.trace_report.specs.Items.{rows_before};
 ghost use Rattle.trace_report.specs.Rows.{missing_of, row_of};
-ghost use Rattle.trace_pair.specs.First as Spec;
-ghost use Rattle.trace_pair.specs.proving.Marks.{charted_of};
+ghost use Rattle.trace_pair.specs.FirstDifference as Spec;
+ghost use Rattle.trace_pair.specs.proving.Marks.{charted_of, marked_of};
 
-use crate::chart_words::{BodyStart, ChartEnd, MessageEnd, PairChartHead};
+use crate::chart_words::{BodyStart, ChartEnd, ItemsEnd, PairChartHead};
 use crate::column_lines::{ShownLogs, have_word, say_columns};
-use crate::counterparts::{Charted, counterpart, is_other, marks_at};
+use crate::counterparts::{Charted, Marked, counterpart, found_item};
 use crate::log::PairLog;
+use crate::long_names::PartedRoleWords;
+use crate::losses::first_row;
 use crate::widths::SessionClasses;
-use byte_columns::Beside;
+use byte_columns::ByteColumns;
 use text_parts::say;
 use trace_io::TextSink;
 use trace_report::{
-    CellFront, Data, KeptRows, KeptSession, MessageFront, Missing, Note, RoleWords, SentMessage,
-    SessionRow, begins_item, is_request_role, say_missing_row,
+    Arrow, CellEnd, CellFront, Data, KeptRows, KeptSession, MessageFront, Missing, Note,
+    SentMessage, SessionRow, begins_exchange, begins_item, say_missing_row,
 };
 
 /// A chart has so many rows at most.
@@ -33,15 +36,17 @@ struct Around {
     to: usize,
 }
 
-/// Says the chart of a log around the item of a place, counted from 0.
+/// Says the chart of a log around the item of a place, counted from 0, of so many that the difference has from that on.
 pub(crate) fn say_chart<S: TextSink>(
     chart: Charted<'_>,
     item: usize,
+    count: usize,
     session: &KeptSession,
     out: &mut S,
 )
-    requires { changes_within chart.same chart.rows.now ≡ false }
-    ensures { S.says out.old (Spec.chart_text (charted_of chart.entry) item session.now) out.new }
+    requires same { changes_within chart.same chart.rows.now ≡ false }
+    requires small { item + count < 2 ^ 63 }
+    ensures { S.says out.old (Spec.chart_text (charted_of chart.entry) item count session.now) out.new }
 {
     let rows = session.rows();
     let from = chart_from(rows, item);
@@ -53,21 +58,23 @@ pub(crate) fn say_chart<S: TextSink>(
         from,
         to: end,
     };
-    say_rows(chart, session.first(), rows, around, out);
+    say_rows(chart, session.first_time(), rows, around, out);
     let rest = ChartEnd {
         more: to.saturating_sub(end),
         ends: to == rows.len(),
     };
     say(out, rest);
+    say(out, ItemsEnd(items_left(rows, to, item, count)));
     say(out, "</table>\n");
 }
 
-/// Where the rows of a chart around an item begin: with the last request at or before the item before it.
+/// Where the rows of a chart around an item begin: with the last request at or before the item before it, and with what is
+/// lost in front of the log's first item, where that is the item before.
 fn chart_from(rows: &KeptRows, item: usize) -> usize
     ensures { result ≡ Spec.chart_from item rows.now }
 {
     let low = rows.rows_before(item).saturating_sub(MOST_BEFORE);
-    let before = rows.rows_before(item.saturating_sub(1));
+    let before = first_row(rows, item.saturating_sub(1));
     let end = before.saturating_add(1).min(rows.len());
     let mut from = low;
     'rows: for at in low..end {
@@ -78,7 +85,7 @@ fn chart_from(rows: &KeptRows, item: usize) -> usize
     from
 }
 
-/// Where they end: before the first request at or behind the second item behind it.
+/// Where the rows of a chart around an item end: before the first request at or behind the second item behind it.
 fn chart_to(rows: &KeptRows, item: usize) -> usize
     ensures { result ≡ Spec.chart_to item rows.now }
 {
@@ -89,6 +96,27 @@ fn chart_to(rows: &KeptRows, item: usize) -> usize
         }
     }
     rows.len()
+}
+
+/// How many of so many items are left, from the first on that begins at or behind a place of the rows.
+fn items_left(rows: &KeptRows, place: usize, item: usize, count: usize) -> usize
+    requires { item + count < 2 ^ 63 }
+    ensures { result ≡ Spec.items_left place item count rows.now }
+{
+    let end = item + count;
+    'items: for at in item..end {
+        if begins_behind(rows, at, place) {
+            return end - at;
+        }
+    }
+    0
+}
+
+/// Whether an item begins at or behind a place of the rows.
+fn begins_behind(rows: &KeptRows, item: usize, place: usize) -> bool
+    ensures { result ≡ nat_le place (rows_before item rows.now) }
+{
+    place <= rows.rows_before(item)
 }
 
 /// Whether an exchange begins with the row at a place, where there is one.
@@ -118,9 +146,16 @@ fn say_rows<S: TextSink>(
         let Some(row) = rows.row(at) else {
             return;
         };
-        let other = is_other(chart, number_of(last, row));
-        say(out, BodyStart(begins_body(front, row, other), other));
-        say_row(chart, origin, row, out);
+        let found = found_item(chart, number_of(last, row));
+        let other = found.is_other;
+        say(
+            out,
+            BodyStart {
+                begins: begins_body(front, row, other),
+                other,
+            },
+        );
+        say_row(chart.log, found.marked, origin, row, out);
         front = Some(other);
         last = last_begun(last, row);
     }
@@ -181,20 +216,15 @@ fn is_another(before: bool, other: bool) -> bool
     if before { !other } else { other }
 }
 
-/// Whether an exchange begins with a row.
-fn begins_exchange(row: SessionRow<'_>) -> bool
-    ensures { result ≡ asks (row_of row.entry) }
-{
-    match row {
-        SessionRow::Message { sent, .. } => is_request_role(sent.role),
-        SessionRow::Missing(_) => false,
-    }
-}
-
-/// Says a row, to which no link leads.
-fn say_row<S: TextSink>(chart: Charted<'_>, origin: u64, row: SessionRow<'_>, out: &mut S)
-    requires { changes_within chart.same chart.rows.now ≡ false }
-    ensures { S.says out.old (Spec.chart_row (charted_of chart.entry) origin (row_of row.entry)) out.new }
+/// Says a row of a log, to which no link leads, with these marks of its item.
+fn say_row<S: TextSink>(
+    log: PairLog,
+    marked: Option<Marked<'_>>,
+    origin: u64,
+    row: SessionRow<'_>,
+    out: &mut S,
+)
+    ensures { S.says out.old (Spec.chart_row log (option_map marked_of marked.entry) origin (row_of row.entry)) out.new }
 {
     match row {
         SessionRow::Message { sent, message } => {
@@ -209,13 +239,12 @@ fn say_row<S: TextSink>(chart: Charted<'_>, origin: u64, row: SessionRow<'_>, ou
                         place,
                     },
                     CellFront(dir),
-                    RoleWords(role, dir, message),
+                    PartedRoleWords(role, dir, message),
                 ),
             );
-            let marked = marks_at(chart, place.item);
-            say_data(chart.log, message, counterpart(marked, role), out);
+            say_data(log, message, counterpart(marked, role), out);
             say(out, Note(role, place, message.len() as u64));
-            say(out, MessageEnd(dir));
+            say(out, CellEnd(dir, Arrow::Headed));
         }
         SessionRow::Missing(missing) => say_missing_row(false, origin, missing, out),
     }
@@ -240,11 +269,11 @@ fn say_data<S: TextSink>(log: PairLog, message: &[u8], other: Option<&[u8]>, out
 }
 
 /// Two messages beside each other, of which the first one is of this log.
-fn beside_of<'a>(log: PairLog, own: &'a [u8], other: &'a [u8]) -> Beside<'a>
+fn beside_of<'a>(log: PairLog, own: &'a [u8], other: &'a [u8]) -> ByteColumns<'a>
     ensures { result ≡ Spec.beside_of log own.now other.now }
 {
     match log {
-        PairLog::A => Beside::of(own, other),
-        PairLog::B => Beside::of(other, own),
+        PairLog::A => ByteColumns::of(own, other),
+        PairLog::B => ByteColumns::of(other, own),
     }
 }

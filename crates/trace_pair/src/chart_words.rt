@@ -1,5 +1,4 @@
 //! What stands around the rows of a chart: its head, its bodies, the ends of its rows, and its own.
-use direction::Dir;
 use text_parts::{Either, Part, When, say};
 use trace_io::TextSink;
 use trace_text::Number;
@@ -9,7 +8,7 @@ use trace_text::Number;
 pub(crate) struct PairChartHead<P>(pub P);
 
 impl<P: Part> Part for PairChartHead<P> {
-    ghost use Rattle.trace_pair.specs.First.{chart_head};
+    ghost use Rattle.trace_pair.specs.FirstDifference.{chart_head};
 
     ghost text = { λ head. chart_head (P.text head.0) };
 
@@ -27,40 +26,20 @@ impl<P: Part> Part for PairChartHead<P> {
 
 /// The start of a body, where one begins: of items that are the same in both logs, or of others.
 #[derive(Clone, Copy)]
-pub(crate) struct BodyStart(pub bool, pub bool);
-
-impl Part for BodyStart {
-    ghost use Rattle.trace_pair.specs.First.{body_start};
-
-    ghost text = { λ start. body_start start.0 start.1 };
-
-    fn say<S: TextSink>(self, out: &mut S) {
-        let BodyStart(begins, other) = self;
-        let body = Either(other, "<tbody class=\"df\">\n", "<tbody>\n");
-        say(out, When(begins, body));
-    }
+pub(crate) struct BodyStart {
+    pub begins: bool,
+    pub other: bool,
 }
 
-/// A cell behind the words of a message: its arrow, which is no smaller than this, and the end of the row.
-#[derive(Clone, Copy)]
-pub(crate) struct MessageEnd(pub Dir);
+impl Part for BodyStart {
+    ghost use Rattle.trace_pair.specs.FirstDifference.{body_start};
 
-impl Part for MessageEnd {
-    ghost use Rattle.trace_pair.specs.First.{message_end};
-
-    ghost text = { λ end. message_end end.0 };
+    ghost text = { λ start. body_start start.begins start.other };
 
     fn say<S: TextSink>(self, out: &mut S) {
-        match self.0 {
-            Dir::Tester => say(
-                out,
-                "</div><svg aria-hidden=\"true\" width=\"32\" height=\"12\"><use href=\"#t\"/></svg></div>\n",
-            ),
-            Dir::Unit => say(
-                out,
-                "</div><svg aria-hidden=\"true\" width=\"32\" height=\"12\"><use href=\"#u\"/></svg></div>\n",
-            ),
-        }
+        let BodyStart { begins, other } = self;
+        let body = Either(other, "<tbody class=\"df\">\n", "<tbody>\n");
+        say(out, When(begins, body));
     }
 }
 
@@ -72,7 +51,7 @@ pub(crate) struct ChartEnd {
 }
 
 impl Part for ChartEnd {
-    ghost use Rattle.trace_pair.specs.First.{chart_end};
+    ghost use Rattle.trace_pair.specs.FirstDifference.{chart_end};
 
     ghost text = { λ end. chart_end end.more end.ends };
 
@@ -90,12 +69,32 @@ impl Part for ChartEnd {
     }
 }
 
+/// How many items more the difference has, if it has some.
+#[derive(Clone, Copy)]
+pub(crate) struct ItemsEnd(pub usize);
+
+impl Part for ItemsEnd {
+    ghost use Rattle.trace_pair.specs.FirstDifference.{items_end};
+
+    ghost text = { λ end. items_end end.0 };
+
+    fn say<S: TextSink>(self, out: &mut S) {
+        let items = Either(
+            self.0 == 1,
+            " item more of this difference, not shown here</i>",
+            " items more of this difference, not shown here</i>",
+        );
+        let some = WordsRow("p", ("<i>", Number(self.0 as u64), items));
+        say(out, Either(self.0 == 0, (), some));
+    }
+}
+
 /// A row of words alone, with its look, in a body of its own.
 #[derive(Clone, Copy)]
 struct WordsRow<P>(&'static str, P);
 
 impl<P: Part> Part for WordsRow<P> {
-    ghost use Rattle.trace_pair.specs.First.{words_row};
+    ghost use Rattle.trace_pair.specs.FirstDifference.{words_row};
 
     ghost text = { λ row. words_row row.0.now (P.text row.1) };
 

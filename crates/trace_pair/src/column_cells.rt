@@ -6,7 +6,7 @@ ghost use Rattle.trace_pair.specs.Logs as Spec;
 
 use crate::column_words::{ByteOrGap, FirstNumber, LineNumber, MarkEnd, MarkStart, Whose};
 use crate::log::{PairLog, other_log};
-use byte_columns::{Beside, Column};
+use byte_columns::{ByteColumns, Column};
 use text_parts::say;
 use trace_io::TextSink;
 use trace_report::shown_byte;
@@ -14,7 +14,7 @@ use trace_report::shown_byte;
 /// A line of columns, by its number.
 #[derive(Clone, Copy)]
 pub(crate) struct ColumnLine<'a> {
-    pub columns: &'a Beside<'a>,
+    pub columns: &'a ByteColumns<'a>,
     pub number: usize,
 }
 
@@ -31,9 +31,9 @@ pub(crate) fn say_line_of<S: TextSink>(
     ensures { S.says out.old (line_of lettered whose log line.entry.columns.now line.entry.number) out.new }
 {
     let ColumnLine { columns, number } = line;
-    let (from, to) = columns.line(number);
-    let before = bytes_before(log, columns, from);
-    if bytes_before(log, columns, to) == before {
+    let range = columns.line_range(number);
+    let before = bytes_before(log, columns, range.start);
+    if bytes_before(log, columns, range.end) == before {
         say(
             out,
             (
@@ -43,14 +43,21 @@ pub(crate) fn say_line_of<S: TextSink>(
             ),
         );
     } else {
-        let there = bytes_before(other_log(log), columns, from);
-        let first = LineNumber(columns.lines(), FirstNumber(whose, before, there));
+        let there = bytes_before(other_log(log), columns, range.start);
+        let first = LineNumber {
+            lines: columns.line_count(),
+            first: FirstNumber {
+                whose,
+                before,
+                there,
+            },
+        };
         say(out, ("<p><i>", first, "</i> ", whose, "<code>"));
         let own = OwnColumns {
             log,
             columns,
-            from,
-            to,
+            from: range.start,
+            to: range.end,
         };
         say_cells(own, out);
         say(out, "</code>");
@@ -60,7 +67,7 @@ pub(crate) fn say_line_of<S: TextSink>(
 }
 
 /// How many bytes a log has in the columns before a place.
-fn bytes_before(log: PairLog, columns: &Beside<'_>, at: usize) -> usize
+fn bytes_before(log: PairLog, columns: &ByteColumns<'_>, at: usize) -> usize
     requires { at ≤ length columns.now }
     ensures { result ≡ length (bytes_in log (take at columns.now)) }
 {
@@ -74,7 +81,7 @@ fn bytes_before(log: PairLog, columns: &Beside<'_>, at: usize) -> usize
 #[derive(Clone, Copy)]
 struct OwnColumns<'a> {
     log: PairLog,
-    columns: &'a Beside<'a>,
+    columns: &'a ByteColumns<'a>,
     from: usize,
     to: usize,
 }
@@ -96,7 +103,13 @@ fn say_cells<S: TextSink>(own: OwnColumns<'_>, out: &mut S)
         let differs = column.differs();
         say(
             out,
-            (MarkStart(false, differs), ByteOrGap(byte_of(log, column))),
+            (
+                MarkStart {
+                    marked: false,
+                    differs,
+                },
+                ByteOrGap(byte_of(log, column)),
+            ),
         );
         let behind = OwnColumns {
             log,
@@ -108,7 +121,7 @@ fn say_cells<S: TextSink>(own: OwnColumns<'_>, out: &mut S)
     }
 }
 
-/// Says them behind a column that has a mark or has none.
+/// Says the bytes or gaps of a log in columns, behind a column that has a mark or has none.
 fn say_cells_behind<S: TextSink>(own: OwnColumns<'_>, marked: bool, out: &mut S)
     requires forward { own.from ≤ own.to }
     requires inside { own.to ≤ length own.columns.now }
@@ -127,15 +140,21 @@ fn say_cells_behind<S: TextSink>(own: OwnColumns<'_>, marked: bool, out: &mut S)
         say(
             out,
             (
-                MarkEnd(marked, differs),
+                MarkEnd { marked, differs },
                 " ",
-                MarkStart(marked, differs),
+                MarkStart { marked, differs },
                 ByteOrGap(byte_of(log, column)),
             ),
         );
         marked = differs;
     }
-    say(out, MarkEnd(marked, false));
+    say(
+        out,
+        MarkEnd {
+            marked,
+            differs: false,
+        },
+    );
 }
 
 /// Says its letters there in grey, where the messages may be text.

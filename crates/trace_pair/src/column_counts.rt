@@ -2,51 +2,60 @@
 ghost use Rattle.std.specs.Prelude.{[], ◌≡◌, ◌+◌, ◌-◌, ◌≤◌, ◌∷◌, drop, length, take};
 ghost use Rattle.byte_columns.specs.Columns.{differing};
 ghost use Rattle.byte_columns.specs.Lines.{columns_from, hidden, line_count};
-ghost use Rattle.trace_pair.specs.ColumnLines.{counted};
+ghost use Rattle.trace_pair.specs.ColumnLines.{counted, uncounted};
 ghost use Rattle.trace_pair.specs.ColumnLines as Spec;
 
 use crate::column_cells::byte_of;
 use crate::column_lines::ShownLogs;
-use byte_columns::{Beside, Column, LINE};
+use byte_columns::{ByteColumns, Column, LINE_LENGTH};
 
-/// How many columns count, and how many of these differ.
+/// How many columns count, how many of these differ, and how many don't count: there the other log alone has a byte.
 #[derive(Clone, Copy)]
 pub(crate) struct ColumnCounts {
     pub all: usize,
     pub differing: usize,
+    pub others: usize,
 }
 
-/// Those of so many lines, from one number on.
+/// Counts the columns of so many lines, from the line of a number on.
 pub(crate) fn counts_from(
     sides: ShownLogs,
-    columns: &Beside<'_>,
+    columns: &ByteColumns<'_>,
     first: usize,
     count: usize,
 ) -> ColumnCounts
     requires { first + count ≤ line_count columns.now }
     ensures all { result.all ≡ length (counted sides (columns_from columns.now first count)) }
     ensures differing { result.differing ≡ differing (counted sides (columns_from columns.now first count)) }
+    ensures others { result.others ≡ uncounted sides (columns_from columns.now first count) }
 {
-    let most = columns.in_lines();
-    let from = (first * LINE).min(most);
-    let to = ((first + count) * LINE).min(most);
+    let most = columns.columns_in_lines();
+    let from = (first * LINE_LENGTH).min(most);
+    let to = ((first + count) * LINE_LENGTH).min(most);
     counts_between(sides, columns, from, to)
 }
 
-/// Those of what no line has.
-pub(crate) fn hidden_counts(sides: ShownLogs, columns: &Beside<'_>) -> ColumnCounts
+/// Counts the columns behind those that stand in lines.
+pub(crate) fn hidden_counts(sides: ShownLogs, columns: &ByteColumns<'_>) -> ColumnCounts
     ensures all { result.all ≡ length (counted sides (hidden columns.now)) }
     ensures differing { result.differing ≡ differing (counted sides (hidden columns.now)) }
+    ensures others { result.others ≡ uncounted sides (hidden columns.now) }
 {
-    counts_between(sides, columns, columns.in_lines(), columns.len())
+    counts_between(sides, columns, columns.columns_in_lines(), columns.len())
 }
 
-/// Those of the columns from one place up to another.
-fn counts_between(sides: ShownLogs, columns: &Beside<'_>, from: usize, to: usize) -> ColumnCounts
+/// Counts the columns from one place up to another.
+fn counts_between(
+    sides: ShownLogs,
+    columns: &ByteColumns<'_>,
+    from: usize,
+    to: usize,
+) -> ColumnCounts
     requires forward { from ≤ to }
     requires inside { to ≤ length columns.now }
     ensures all { result.all ≡ length (counted sides (take (to - from) (drop from columns.now))) }
     ensures differing { result.differing ≡ differing (counted sides (take (to - from) (drop from columns.now))) }
+    ensures others { result.others ≡ uncounted sides (take (to - from) (drop from columns.now)) }
 {
     let mut all: usize = 0;
     let mut differing: usize = 0;
@@ -55,7 +64,11 @@ fn counts_between(sides: ShownLogs, columns: &Beside<'_>, from: usize, to: usize
         all += one_if_counted(sides, column);
         differing += one_if_differing(sides, column);
     }
-    ColumnCounts { all, differing }
+    ColumnCounts {
+        all,
+        differing,
+        others: (to - from).saturating_sub(all),
+    }
 }
 
 /// One for a column that counts, and else none.

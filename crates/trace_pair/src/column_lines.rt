@@ -1,8 +1,10 @@
 //! Two messages byte under byte, in lines of sixteen columns.
-ghost use Rattle.std.specs.Prelude.{◌≡◌, ◌+◌, ◌-◌, ◌||◌, ◌≤◌, ◌<◌};
+ghost use Rattle.std.specs.Prelude.{◌≡◌, ◌+◌, ◌||◌, ◌≤◌, ◌<◌};
 ghost use Rattle.std.specs.List.{flat_map, range_with_len};
 ghost use Rattle.trace_pair.specs.declared.column_lines.ShownLogs.TheVariants.{Both};
-ghost use Rattle.byte_columns.specs.Lines.{folded, line_count, stretches};
+ghost use Rattle.byte_columns.specs.declared.stretches.Stretch.TheVariants.{Folded};
+ghost use Rattle.byte_columns.specs.Laws.{IsOfOneKind};
+ghost use Rattle.byte_columns.specs.Lines.{line_count, stretches};
 ghost use Rattle.trace_report.specs.Letters.{has_word};
 ghost use Rattle.trace_pair.specs.ColumnLines.{line_text, lines_text, stretch_text};
 
@@ -10,7 +12,7 @@ use crate::column_cells::{ColumnLine, say_line_of};
 use crate::column_counts::{counts_from, hidden_counts};
 use crate::column_words::{FoldWords, Hidden, Whose};
 use crate::log::PairLog;
-use byte_columns::Beside;
+use byte_columns::{ByteColumns, Stretch};
 use text_parts::say;
 use trace_io::TextSink;
 use trace_report::has_word;
@@ -28,14 +30,14 @@ pub(crate) enum ShownLogs {
 pub(crate) fn say_columns<S: TextSink>(
     sides: ShownLogs,
     lettered: bool,
-    columns: &Beside<'_>,
+    columns: &ByteColumns<'_>,
     out: &mut S,
 )
     ensures { S.says out.old (lines_text sides lettered columns.now) out.new }
 {
     say(out, "<div class=\"hx\">");
     say_stretches(sides, lettered, columns, out);
-    say(out, Hidden(hidden_counts(sides, columns)));
+    say(out, Hidden(sides, hidden_counts(sides, columns)));
     say(out, "</div>");
 }
 
@@ -47,27 +49,39 @@ pub(crate) fn have_word(one: &[u8], other: &[u8]) -> bool
 }
 
 /// Says all lines, shown or folded.
-fn say_stretches<S: TextSink>(sides: ShownLogs, lettered: bool, columns: &Beside<'_>, out: &mut S)
+fn say_stretches<S: TextSink>(
+    sides: ShownLogs,
+    lettered: bool,
+    columns: &ByteColumns<'_>,
+    out: &mut S,
+)
     ensures { S.says out.old (flat_map (stretch_text sides lettered columns.now) (stretches columns.now)) out.new }
 {
-    let count = columns.lines();
-    let mut before: usize = 0;
-    let mut at: usize = 0;
-    'lines: while at < count {
-        let folded = columns.folded(at, before);
-        if folded == 0 {
-            say_line(sides, lettered, columns, at, out);
-            before = columns.differing_behind(at, before, 1);
-            at += 1;
-        } else {
+    'lines: for stretch in columns.stretches() {
+        say_stretch(sides, lettered, columns, stretch, out);
+    }
+}
+
+/// Says a line that is shown, or those that are folded together.
+fn say_stretch<S: TextSink>(
+    sides: ShownLogs,
+    lettered: bool,
+    columns: &ByteColumns<'_>,
+    stretch: Stretch,
+    out: &mut S,
+)
+    requires { IsOfOneKind columns.now stretch }
+    ensures { S.says out.old (stretch_text sides lettered columns.now stretch) out.new }
+{
+    match stretch {
+        Stretch::Shown(number) => say_line(sides, lettered, columns, number, out),
+        Stretch::Folded { first, count } => {
             let fold = LineRange {
                 columns: &*columns,
-                first: at,
-                count: folded,
+                first,
+                count,
             };
             say_fold(sides, lettered, fold, out);
-            before = columns.differing_behind(at, before, folded);
-            at += folded;
         }
     }
 }
@@ -75,7 +89,7 @@ fn say_stretches<S: TextSink>(sides: ShownLogs, lettered: bool, columns: &Beside
 /// So many lines, from one on.
 #[derive(Clone, Copy)]
 struct LineRange<'a> {
-    columns: &'a Beside<'a>,
+    columns: &'a ByteColumns<'a>,
     first: usize,
     count: usize,
 }
@@ -83,7 +97,7 @@ struct LineRange<'a> {
 /// Says lines that are folded together.
 fn say_fold<S: TextSink>(sides: ShownLogs, lettered: bool, fold: LineRange<'_>, out: &mut S)
     requires { fold.first + fold.count ≤ line_count fold.columns.now }
-    ensures { S.says out.old (stretch_text sides lettered fold.entry.columns.now (folded fold.entry.first fold.entry.count)) out.new }
+    ensures { S.says out.old (stretch_text sides lettered fold.entry.columns.now (Folded fold.entry.first fold.entry.count)) out.new }
 {
     let LineRange {
         columns,
@@ -91,7 +105,8 @@ fn say_fold<S: TextSink>(sides: ShownLogs, lettered: bool, fold: LineRange<'_>, 
         count,
     } = fold;
     let counts = counts_from(sides, columns, first, count);
-    say(out, ("<details><summary>", FoldWords(counts), "</summary>"));
+    let told = FoldWords(sides, counts);
+    say(out, ("<details><summary>", told, "</summary>"));
     say_lines(sides, lettered, fold, out);
     say(out, "</details>");
 }
@@ -115,7 +130,7 @@ fn say_lines<S: TextSink>(sides: ShownLogs, lettered: bool, fold: LineRange<'_>,
 fn say_line<S: TextSink>(
     sides: ShownLogs,
     lettered: bool,
-    columns: &Beside<'_>,
+    columns: &ByteColumns<'_>,
     number: usize,
     out: &mut S,
 )
@@ -132,7 +147,12 @@ fn say_line<S: TextSink>(
 }
 
 /// Says a line of both logs: twice, where it differs.
-fn say_line_of_both<S: TextSink>(lettered: bool, columns: &Beside<'_>, number: usize, out: &mut S)
+fn say_line_of_both<S: TextSink>(
+    lettered: bool,
+    columns: &ByteColumns<'_>,
+    number: usize,
+    out: &mut S,
+)
     requires { number < line_count columns.now }
     ensures { S.says out.old (line_text Both lettered columns.now number) out.new }
 {

@@ -33,12 +33,24 @@ pub(crate) struct Marked<'a> {
     pub answer: Option<&'a [u8]>,
 }
 
-/// Whether the item of a number is not the same in both logs.
-pub(crate) fn is_other(chart: Charted<'_>, number: u64) -> bool
+/// What a chart finds of an item: whether it is not the same in both logs, and what the chart marks of it.
+#[derive(Clone, Copy)]
+pub(crate) struct FoundItem<'a> {
+    pub is_other: bool,
+    pub marked: Option<Marked<'a>>,
+}
+
+/// What a chart finds of the item of a number.
+pub(crate) fn found_item<'a>(chart: Charted<'a>, number: u64) -> FoundItem<'a>
     requires { changes_within chart.same chart.rows.now ≡ false }
-    ensures { result ≡ Spec.is_other (charted_of chart.entry) number }
+    ensures other { result.is_other ≡ Spec.is_other (charted_of chart.entry) number }
+    ensures marks { option_map marked_of result.marked ≡ Spec.marks_at (charted_of chart.entry) number }
 {
-    is_other_in(row_in_chart(chart, number))
+    let row = row_in_chart(chart, number);
+    FoundItem {
+        is_other: is_other_in(row),
+        marked: marks_in(chart, row),
+    }
 }
 
 /// Whether an item that stands in a row is not the same in both logs.
@@ -93,14 +105,6 @@ fn has_number(log: PairLog, number: u64, here: RowPlace) -> bool
     ensures { result ≡ Spec.has_number log number here }
 {
     has_item(log, here.kind) && place_in(log, here) as u64 + 1 == number
-}
-
-/// What a chart marks of the item of a number.
-pub(crate) fn marks_at<'a>(chart: Charted<'a>, number: u64) -> Option<Marked<'a>>
-    requires { changes_within chart.same chart.rows.now ≡ false }
-    ensures { option_map marked_of result ≡ Spec.marks_at (charted_of chart.entry) number }
-{
-    marks_in(chart, row_in_chart(chart, number))
 }
 
 /// What a chart marks of an item that stands in a row.

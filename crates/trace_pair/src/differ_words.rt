@@ -30,14 +30,29 @@ impl<'a> Part for DifferWords<'a> {
                 let one = came_of(request, answer);
                 let came = came_of(other, reply);
                 if request == other {
-                    say(out, AnswersDiffer("", one, came, answer, reply));
+                    say(
+                        out,
+                        AnswersDiffer {
+                            before: "",
+                            one,
+                            other: came,
+                            answer,
+                            reply,
+                        },
+                    );
                 } else {
                     say(
                         out,
                         (
                             "request",
                             ByteWords(request, other),
-                            AnswersDiffer("; ", one, came, answer, reply),
+                            AnswersDiffer {
+                                before: "; ",
+                                one,
+                                other: came,
+                                answer,
+                                reply,
+                            },
                         ),
                     );
                 }
@@ -54,22 +69,28 @@ impl<'a> Part for DifferWords<'a> {
 
 /// How the answers of two exchanges differ, behind what stands before: in what came of the request, or else in bytes.
 #[derive(Clone, Copy)]
-struct AnswersDiffer<'a>(
-    &'static str,
-    Outcome,
-    Outcome,
-    Option<&'a [u8]>,
-    Option<&'a [u8]>,
-);
+struct AnswersDiffer<'a> {
+    before: &'static str,
+    one: Outcome,
+    other: Outcome,
+    answer: Option<&'a [u8]>,
+    reply: Option<&'a [u8]>,
+}
 
 impl<'a> Part for AnswersDiffer<'a> {
     ghost use Rattle.std.specs.Prelude.{option_map};
     ghost use Rattle.trace_pair.specs.ItemWords.{answers_differ};
 
-    ghost text = { λ t. answers_differ t.0.now t.1 t.2 (option_map (λ answer. answer.now) t.3) (option_map (λ reply. reply.now) t.4) };
+    ghost text = { λ words. answers_differ words.before.now words.one words.other (option_map (λ answer. answer.now) words.answer) (option_map (λ reply. reply.now) words.reply) };
 
     fn say<S: TextSink>(self, out: &mut S) {
-        let AnswersDiffer(before, one, other, answer, reply) = self;
+        let AnswersDiffer {
+            before,
+            one,
+            other,
+            answer,
+            reply,
+        } = self;
         if same_outcome(one, other) {
             if let (Some(answer), Some(reply)) = (answer, reply) {
                 say_answer_bytes(before, answer, reply, out);

@@ -6,6 +6,7 @@ ghost use Rattle.trace_pair.specs.Differences as Spec;
 ghost use Rattle.trace_pair.specs.proving.Changing.{count_if, line_if};
 
 use crate::change_words::say_change_line;
+use crate::difference_names::DifferenceName;
 use crate::sessions::Sessions;
 use shown_rows::{Change, change_at, count_changes, left_in, right_in};
 use text_parts::{Either, Part, When, say};
@@ -164,8 +165,8 @@ impl Part for DifferencesEnd {
         let others = (
             "<p>",
             Either(count == LISTED + 1, "1 more difference stands", several),
-            " below: <a href=\"#d",
-            Number(LISTED as u64 + 1),
+            " below: <a href=\"#",
+            DifferenceName(LISTED as u64 + 1),
             "\">go on there</a>.</p>\n",
         );
         say(

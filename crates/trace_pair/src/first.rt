@@ -1,15 +1,15 @@
 //! The first difference as recorded: both logs around it.
-ghost use Rattle.std.specs.Prelude.{◌≡◌, IfSome, false, slice_get};
+ghost use Rattle.std.specs.Prelude.{◌≡◌, ◌+◌, ◌<◌, ◌^◌, IfSome, false, slice_get};
 ghost use Rattle.shown_rows.specs.Changes.{changes};
 ghost use Rattle.shown_rows.specs.Rows.{changes_within};
 ghost use Rattle.trace_pair.specs.ChangeWords.{IsSmall};
-ghost use Rattle.trace_pair.specs.First as Spec;
+ghost use Rattle.trace_pair.specs.FirstDifference as Spec;
 ghost use Rattle.trace_pair.specs.proving.Marks.{charted_of};
 
 use crate::change_words::say_change_line;
 use crate::chart::say_chart;
 use crate::counterparts::Charted;
-use crate::log::{LetteredName, PairLog};
+use crate::log::{LetteredName, PairLog, own_count};
 use crate::sessions::Sessions;
 use shown_rows::{Change, change_at, count_changes, left_in, right_in};
 use text_parts::{Either, say};
@@ -110,26 +110,44 @@ fn say_change<S: TextSink>(
         rows,
         same: change.left,
     };
-    say_side(left, names.left, change.left, sessions.left, out);
-    say_side(right, names.right, change.right, sessions.right, out);
+    let left_count = own_count(PairLog::A, change);
+    let right_count = own_count(PairLog::B, change);
+    say_side(
+        left,
+        names.left,
+        change.left,
+        left_count,
+        sessions.left,
+        out,
+    );
+    say_side(
+        right,
+        names.right,
+        change.right,
+        right_count,
+        sessions.right,
+        out,
+    );
     say(out, "</div>\n</section>\n");
 }
 
-/// Says the change as one log has it.
+/// Says the change as one log has it, of which so many items are, from the one of a place on.
 fn say_side<S: TextSink>(
     chart: Charted<'_>,
     name: &[u8],
     item: usize,
+    count: usize,
     session: &KeptSession,
     out: &mut S,
 )
-    requires { changes_within chart.same chart.rows.now ≡ false }
-    ensures { S.says out.old (Spec.side (charted_of chart.entry) name.now item session.now) out.new }
+    requires same { changes_within chart.same chart.rows.now ≡ false }
+    requires small { item + count < 2 ^ 63 }
+    ensures { S.says out.old (Spec.side (charted_of chart.entry) name.now item count session.now) out.new }
 {
     say(
         out,
         ("<section>\n<h3>", LetteredName(chart.log, name), "</h3>\n"),
     );
-    say_chart(chart, item, session, out);
+    say_chart(chart, item, count, session, out);
     say(out, "</section>\n");
 }

@@ -12,7 +12,7 @@ use std::alloc::Global;
 use trace_canon::in_memory::CountedComparison;
 use trace_io::{Bytes, Writing};
 use trace_log::{CompareFault, Config, Fault};
-use trace_report::{Two, keep_two};
+use trace_report::{KeptSessions, keep_two};
 
 /// A page of two logs, how they compare, and the counts of each.
 #[derive(Debug, Drop)]
@@ -55,14 +55,19 @@ pub fn pair_page(
 }
 
 /// What two logs say, as [`keep_two`](trace_report::keep_two) answers it.
-fn keep_both(alloc: Global, config: &Config, left: &[u8], right: &[u8]) -> Result<Two, CompareFault>
+fn keep_both(
+    alloc: Global,
+    config: &Config,
+    left: &[u8],
+    right: &[u8],
+) -> Result<KeptSessions, CompareFault>
     ensures { KeepsInMemory MESSAGE_LIMIT config.now left.now right.now result }
 {
     keep_two(alloc, config, &mut Bytes::new(left), &mut Bytes::new(right))
 }
 
 /// The page of two logs that are kept, unless memory for it was refused.
-fn page_of(alloc: Global, title: &Title<'_>, two: Two) -> Result<CountedPage, NoPairPage>
+fn page_of(alloc: Global, title: &Title<'_>, two: KeptSessions) -> Result<CountedPage, NoPairPage>
     ensures { MatchResult result (λ page. (page.text.items ≡ Spec.page_of (title_of title.now) two.left two.right) × (page.counted ≡ counted_two two)) (λ why. why ≡ NoPairPage.OfMemory) }
 {
     let Ok(aligned) = Aligned::of(alloc, two) else {

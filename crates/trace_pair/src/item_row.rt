@@ -4,6 +4,7 @@ ghost use Rattle.trace_report.specs.Items.{item_of};
 ghost use Rattle.trace_pair.specs.ItemRows as Spec;
 
 use crate::change_top::TopIf;
+use crate::difference_names::DifferenceName;
 use crate::log::{PairLog, has_item};
 use crate::losses::say_losses;
 use crate::pair_bytes::ToldPair;
@@ -12,7 +13,7 @@ use crate::told_items::{NoteOf, ToldItem};
 use text_parts::{Part, say};
 use trace_io::TextSink;
 use trace_report::{KeptSession, PlacedItem};
-use trace_text::{Number, Ordinal};
+use trace_text::Ordinal;
 use uds_difference::Row;
 
 /// Where a row stands: what it is, and how many items of both stand before it.
@@ -47,13 +48,18 @@ pub(crate) fn say_item_row<S: TextSink>(
         (
             RowStart(place.kind, begun),
             Numbers(place),
-            TopIf(begun, place.kind, one, other),
+            TopIf {
+                begun,
+                kind: place.kind,
+                one,
+                other,
+            },
             "<div class=\"it\">",
             ItemsOfRow(place.kind, one, other),
             "</div><div class=\"ab\">",
-            NoteIf(PairLog::A, sessions.left.first(), one),
+            NoteIf(PairLog::A, sessions.left.first_time(), one),
             " ",
-            NoteIf(PairLog::B, sessions.right.first(), other),
+            NoteIf(PairLog::B, sessions.right.first_time(), other),
             "</div>",
         ),
     );
@@ -104,7 +110,7 @@ impl Part for RowStart {
     fn say<S: TextSink>(self, out: &mut S) {
         say(out, ("<tr class=\"", RowClass(self.0)));
         match self.1 {
-            Some(begun) => say(out, ("\" id=\"d", Number(begun.number), "\">")),
+            Some(begun) => say(out, ("\" id=\"", DifferenceName(begun.number), "\">")),
             None => say(out, "\">"),
         }
     }
@@ -227,7 +233,14 @@ impl<'a> Part for NoteIf<'a> {
 
     fn say<S: TextSink>(self, out: &mut S) {
         if let Some(item) = self.2 {
-            say(out, NoteOf(self.0, self.1, item));
+            say(
+                out,
+                NoteOf {
+                    log: self.0,
+                    origin: self.1,
+                    item,
+                },
+            );
         }
     }
 }

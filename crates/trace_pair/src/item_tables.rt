@@ -50,7 +50,7 @@ pub(crate) fn say_items<S: TextSink>(sessions: Sessions<'_>, rows: &[Row], out: 
 fn say_losses_of_no_item<S: TextSink>(log: PairLog, session: &KeptSession, out: &mut S)
     ensures { S.says out.old (losses_of_no_item log session.now) out.new }
 {
-    if session.rows().items() == 0 {
+    if session.rows().item_count() == 0 {
         say_losses(log, session, 0, out);
     }
 }
@@ -100,7 +100,7 @@ fn say_row_or_fold<S: TextSink>(
         → S.says out.old (row_or_fold sessions.entry.left.now sessions.entry.right.now all at row later) out.new }
 {
     if at.folded == 0 {
-        if is_shown(at.context, rows) {
+        if is_shown(at.still_shown, rows) {
             say_shown(sessions, all, at, rows, out);
         } else {
             say(out, TableEnd(at.table));
@@ -168,10 +168,12 @@ impl Part for TableOpening {
             Table::Closed => say(out, TableStart),
             Table::Open(_) | Table::Block(_) => {
                 if at.table.is_full() {
-                    say(
-                        out,
-                        (TableEnd(at.table), BlockStart(at.blocks, at.left, at.right)),
-                    );
+                    let start = BlockStart {
+                        blocks: at.blocks,
+                        left: at.left,
+                        right: at.right,
+                    };
+                    say(out, (TableEnd(at.table), start));
                 }
             }
         }
@@ -180,15 +182,23 @@ impl Part for TableOpening {
 
 /// The start of a table that folds, by how many such stand before it, and by how many items of both.
 #[derive(Clone, Copy)]
-struct BlockStart(usize, usize, usize);
+struct BlockStart {
+    blocks: usize,
+    left: usize,
+    right: usize,
+}
 
 impl Part for BlockStart {
     ghost use Rattle.trace_pair.specs.ItemTables.{block_start};
 
-    ghost text = { λ t. block_start t.0 t.1 t.2 };
+    ghost text = { λ start. block_start start.blocks start.left start.right };
 
     fn say<S: TextSink>(self, out: &mut S) {
-        let BlockStart(blocks, left, right) = self;
+        let BlockStart {
+            blocks,
+            left,
+            right,
+        } = self;
         say(
             out,
             (

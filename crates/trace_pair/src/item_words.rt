@@ -2,12 +2,13 @@
 ghost use Rattle.std.specs.Prelude.{◌≡◌, take};
 ghost use Rattle.trace_pair.specs.ItemWords as Spec;
 
+use crate::long_names::PartedService;
 use crate::outcome::came_of;
 use direction::Dir;
 use text_parts::{Either, Part, say};
 use trace_io::TextSink;
 use trace_report::{BytesApart, MoreWords};
-use trace_text::{Number, Sender, ServiceName};
+use trace_text::{Number, Sender};
 use uds_exchange::Item;
 use uds_message::{TesterKind, sid, tester_kind};
 
@@ -30,7 +31,7 @@ impl<'a> Part for ItemTitle<'a> {
                 out,
                 (
                     "<b>",
-                    ServiceName(sid(request)),
+                    PartedService(sid(request)),
                     "</b> ",
                     FirstBytes(request),
                 ),

@@ -1,8 +1,14 @@
 //! What holds of a page of two logs, whatever logs it is of. A law is its contract; a call does nothing. A law of a lower
 //! crate that a proof needs is called.
-ghost use Rattle.trace_pair.specs.Laws.{AgreesWithCompare, ChangesAreOfComparison, ChartHasTheItem, ComparisonIsOfItems, DifferencesAreTheChanges, EachItemStandsOnce, EachLossStandsOnce, EachRowStandsOnce, LinksHaveTargets, LinksNameIdentifiers, LinksSpellIdentifiers, ListLeadsToTheTable, MarksAreOfColumnsThatDiffer, StyleHoldsNoTag, UnansweredHasNone, UnfoldedRowsAreThoseOfHunks};
-ghost use Rattle.trace_pair.specs.ColumnLaws.{EachByteIsCounted, EachLogHasItsLine};
+ghost use Rattle.trace_pair.specs.Laws.{AgreesWithCompare, ChangesAreOfComparison, ComparisonIsOfItems, StyleHoldsNoTag};
+ghost use Rattle.trace_pair.specs.ChartLaws.{ChartCountsTheRun, ChartHasTheItem};
+ghost use Rattle.trace_pair.specs.LinkLaws.{DifferencesAreTheChanges, LinksHaveTargets, LinksNameIdentifiers, LinksSpellIdentifiers, ListLeadsToTheTable};
+ghost use Rattle.trace_pair.specs.TableLaws.{EachItemStandsOnce, EachRowStandsOnce, UnfoldedRowsAreThoseOfHunks};
+ghost use Rattle.trace_pair.specs.LossLaws.{EachLossStandsOnce, LossyWhereLost};
+ghost use Rattle.trace_pair.specs.ColumnLaws.{EachByteIsCounted, EachLogHasItsLine, MarksAreOfColumnsThatDiffer};
+ghost use Rattle.trace_pair.specs.OutcomeLaws.{UnansweredHasNone};
 ghost use Rattle.trace_pair.specs.RowLaws.{EachItemHasItsRow, HeadingCountsTheRows};
+ghost use Rattle.trace_pair.specs.ByteLaws.{AloneBytesArePutIn};
 
 use trace_report::laws::items_are_the_meaning;
 
@@ -44,6 +50,11 @@ pub fn chart_has_the_item()
     ensures { ChartHasTheItem }
 {}
 
+/// Of a longer run the chart tells how many items begin behind its rows and those that it says it leaves out.
+pub fn chart_counts_the_run()
+    ensures { ChartCountsTheRun }
+{}
+
 /// An item that is said to have no answer has none, wherever the page says so, and so has the log of two that is said
 /// to have none.
 pub fn unanswered_has_none()
@@ -70,6 +81,11 @@ pub fn each_loss_stands_once()
     ensures { EachLossStandsOnce }
 {}
 
+/// A log is said to be not clean at a change exactly where its rows there tell that something is missing.
+pub fn lossy_where_lost()
+    ensures { LossyWhereLost }
+{}
+
 /// Each byte that differs has a mark, and no other.
 pub fn marks_are_of_columns_that_differ()
     ensures { MarksAreOfColumnsThatDiffer }
@@ -83,6 +99,11 @@ pub fn each_log_has_its_line()
 /// Of what is folded or not shown each byte is counted, and each that differs.
 pub fn each_byte_is_counted()
     ensures { EachByteIsCounted }
+{}
+
+/// Bytes that are said to be in one log alone are put into the message of the other one, and no other differs.
+pub fn alone_bytes_are_put_in()
+    ensures { AloneBytesArePutIn }
 {}
 
 /// Each difference to which a link leads begins with a row of the table of items.

@@ -5,18 +5,33 @@
 //! answers of logs in memory with their page and the counts.
 //!
 //! ```text
-//! Two -> Aligned -> front, verdict, recordings, differences, first, item_tables, help -> page
+//! KeptSessions -> Aligned -> front, verdict, recordings, differences, first, item_tables, help -> page
 //! ```
 //!
-//! The `verdict` says in how many places the sessions differ, and how far that can be known: a log that is not clean, a
-//! bound that was passed. The `recordings` are those of both logs, by `dates`. Of several `differences` there is a list;
-//! each is a line of `change_words`. The `first` one stands as recorded, in a `chart` of each log, which marks each
-//! byte that an item has other than its counterpart (`counterparts`). The `item_tables` have each item of both sessions
-//! once, in an `item_row`: what is the same is in `folds`, but for three rows before and behind a change. What is missing of
-//! a log (`losses`) stands in the row of its item.
+//! The verdict says in how many places the sessions differ, and how far that can be known: a log that is not clean, a bound
+//! that was passed. Of several differences there is a list. The first one stands as recorded, in a chart of each log, which
+//! marks each byte that an item has other than its counterpart. The table of items has each item of both sessions once:
+//! what is the same is folded, but for three rows before and behind a change. What is missing of a log stands in the row of
+//! its item.
 //!
-//! Items are told by `item_words` and `told_items`, two that changed by `differ_words` in a sentence, and by `pair_bytes` in
-//! a row: byte under byte, in the `column_lines` of `byte_columns`.
+//! | Part | Files | Definitions |
+//! |---|---|---|
+//! | the two logs, and their sessions | `log`, `sessions` | `Logs`, `Sessions` |
+//! | both side by side, and how they compare | `comparing`, `aligned`, `aligner` | `Compared`, `MemoryNeeded` |
+//! | what is missing of a log, by its items | `losses` | `Losses` |
+//! | items in words, of which long names may be parted | `long_names`, `outcome`, `item_words`, `told_items` | `LongNames`, `ItemWords`, `ToldItems` |
+//! | two messages byte under byte, in the columns of `byte_columns` | `column_cells`, `column_counts`, `column_words`, `column_lines` | `ColumnLines` |
+//! | how two items differ, in a sentence | `byte_words`, `differ_words` | `ByteWords`, `ItemWords` |
+//! | what stands before the verdict, and behind all | `style`, `title`, `front`, `help` | `Style`, `Titles`, `Page`, `Help` |
+//! | the verdict | `lossy_changes`, `same_words`, `verdict_words`, `verdict` | `Verdict` |
+//! | what was found of each log | `dates`, `recordings` | `Recordings` |
+//! | the list of the differences, and what links to them name | `difference_names`, `change_words`, `differences` | `DifferenceNames`, `ChangeWords`, `Differences` |
+//! | the first difference as recorded, and its charts | `counterparts`, `chart_words`, `chart`, `first` | `Counterparts`, `FirstDifference` |
+//! | a row of the table of items, and two that changed in it | `pair_bytes`, `change_top`, `item_row` | `ItemRows` |
+//! | the table: which rows are seen, and which are folded | `standing`, `widths`, `folds`, `item_tables` | `RowStretches`, `Widths`, `ItemTables` |
+//! | the page, and that of a log that is refused | `page` | `Page` |
+//! | the page of two logs in memory, with the counts | [`in_memory`] | `InMemory` |
+//! | what holds of each page | [`laws`] | `Links`; `Laws` of all of it, and those of its parts: `RowLaws`, `LossLaws`, `ByteLaws`, `ColumnLaws`, `ChartLaws`, `OutcomeLaws`, `TableLaws`, `LinkLaws` |
 #![tactic(auto)]
 
 mod aligned;
@@ -34,6 +49,7 @@ mod comparing;
 mod counterparts;
 mod dates;
 mod differ_words;
+mod difference_names;
 mod differences;
 mod first;
 mod folds;
@@ -45,6 +61,7 @@ mod item_tables;
 mod item_words;
 pub mod laws;
 mod log;
+mod long_names;
 mod losses;
 mod lossy_changes;
 mod outcome;

@@ -1,5 +1,5 @@
 //! The two logs of a page.
-ghost use Rattle.std.specs.Prelude.{◌≡◌};
+ghost use Rattle.std.specs.Prelude.{◌≡◌, ◌≤◌};
 ghost use Rattle.trace_pair.specs.Logs as Spec;
 
 use shown_rows::Change;
@@ -38,7 +38,7 @@ pub(crate) fn other_log(log: PairLog) -> PairLog
     }
 }
 
-/// Its letter, where words go on.
+/// The letter of a log, where words go on.
 #[derive(Clone, Copy)]
 pub(crate) struct LetterMark(pub PairLog);
 
@@ -85,5 +85,17 @@ pub(crate) fn items_before(log: PairLog, change: Change) -> usize
     match log {
         PairLog::A => change.left,
         PairLog::B => change.right,
+    }
+}
+
+/// How many items of a log a change has.
+pub(crate) fn own_count(log: PairLog, change: Change) -> usize
+    ensures value { result ≡ Spec.own_count log change }
+    ensures few { result ≤ change.count }
+{
+    if has_item(log, change.kind) {
+        change.count
+    } else {
+        0
     }
 }

@@ -1,7 +1,7 @@
 //! What is missing in a log, by the items that it belongs to.
 ghost use Rattle.std.specs.Prelude.{◌≡◌, ◌≤◌, ◌+◌, ◌-◌, drop, length, nat_lt, option_map, take};
 ghost use Rattle.std.specs.List.{flat_map};
-ghost use Rattle.trace_pair.specs.Losses.{first_row, loss_line, losses_from, losses_of, losses_text, told_losses};
+ghost use Rattle.trace_pair.specs.Losses.{first_row, loss_line, losses_from, losses_in_front, losses_of, losses_text, told_losses};
 ghost use Rattle.trace_pair.specs.Losses as Spec;
 ghost use Rattle.trace_pair.specs.Verdict as Verdict;
 ghost use Rattle.trace_pair.specs.proving.Losing.{loss_if, lost, lost_if};
@@ -20,8 +20,8 @@ use uds_difference::Row;
 /// So many losses of an item are told.
 const TOLD: usize = 20;
 
-/// Whether something is missing of the items of a log that belong to a change, or where it has none, of the last item
-/// before it.
+/// Whether something is missing of the items of a log that belong to a change, or where it has none, in front of the item
+/// before which they would stand.
 pub(crate) fn is_lossy(log: PairLog, session: &KeptSession, change: Change) -> bool
     ensures { result ≡ Verdict.is_lossy log session.now change }
 {
@@ -29,7 +29,7 @@ pub(crate) fn is_lossy(log: PairLog, session: &KeptSession, change: Change) -> b
     if has_item(log, change.kind) {
         misses(session, before, change.count)
     } else {
-        misses(session, before.saturating_sub(1), 1)
+        misses_in_front(session, before)
     }
 }
 
@@ -38,6 +38,22 @@ fn misses(session: &KeptSession, item: usize, count: usize) -> bool
     ensures { result ≡ nat_lt 0 (losses_from session.now.rows item count) }
 {
     count_losses(session, item, count) > 0
+}
+
+/// Whether something is missing in front of an item.
+fn misses_in_front(session: &KeptSession, item: usize) -> bool
+    ensures { result ≡ nat_lt 0 (losses_in_front session.now.rows item) }
+{
+    count_in_front(session, item) > 0
+}
+
+/// How many losses belong to the item before this one, or stand before the first one.
+fn count_in_front(session: &KeptSession, item: usize) -> usize
+    ensures { result ≡ losses_in_front session.now.rows item }
+{
+    let rows = session.rows();
+    let from = first_row(rows, item.saturating_sub(1));
+    count_lost(rows, from, rows.rows_before(item))
 }
 
 /// How many losses belong to so many items, from this one on.
@@ -81,7 +97,7 @@ fn stretch(rows: &KeptRows, item: usize, count: usize) -> (usize, usize)
 }
 
 /// How many rows stand before those that belong to an item: what stands before the first one belongs to that.
-fn first_row(rows: &KeptRows, item: usize) -> usize
+pub(crate) fn first_row(rows: &KeptRows, item: usize) -> usize
     ensures { result ≡ first_row item rows.now }
 {
     if item == 0 { 0 } else { rows.rows_before(item) }

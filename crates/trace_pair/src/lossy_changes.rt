@@ -111,9 +111,15 @@ impl Part for LossyLine {
                 out,
                 (
                     "<p class=\"lossline\"><b>",
-                    AtWords(self.lossy, self.all),
+                    AtWords {
+                        lossy: self.lossy,
+                        all: self.all,
+                    },
                     "</b> ",
-                    WhoWords(self.left, self.right),
+                    WhoWords {
+                        left: self.left,
+                        right: self.right,
+                    },
                     ": frames are missing, late, out of order or of no legal form there. The recording may differ, and not the session.</p>\n",
                 ),
             );
@@ -123,15 +129,18 @@ impl Part for LossyLine {
 
 /// Which log is not clean at one of them.
 #[derive(Clone, Copy)]
-struct WhoWords(bool, bool);
+struct WhoWords {
+    left: bool,
+    right: bool,
+}
 
 impl Part for WhoWords {
     ghost use Rattle.trace_pair.specs.Verdict.{who_words};
 
-    ghost text = { λ words. who_words words.0 words.1 };
+    ghost text = { λ words. who_words words.left words.right };
 
     fn say<S: TextSink>(self, out: &mut S) {
-        match (self.0, self.1) {
+        match (self.left, self.right) {
             (true, true) => say(out, "A or B is not clean"),
             (true, false) => say(out, "A is not clean"),
             (false, _) => say(out, "B is not clean"),
@@ -141,15 +150,18 @@ impl Part for WhoWords {
 
 /// At so many of so many changes.
 #[derive(Clone, Copy)]
-struct AtWords(u64, u64);
+struct AtWords {
+    lossy: u64,
+    all: u64,
+}
 
 impl Part for AtWords {
     ghost use Rattle.trace_pair.specs.Verdict.{at_words};
 
-    ghost text = { λ words. at_words words.0 words.1 };
+    ghost text = { λ words. at_words words.lossy words.all };
 
     fn say<S: TextSink>(self, out: &mut S) {
-        let AtWords(lossy, all) = self;
+        let AtWords { lossy, all } = self;
         if lossy == all {
             say(
                 out,

@@ -3,9 +3,9 @@ ghost use Rattle.std.specs.Prelude.{◌≡◌, option_map};
 ghost use Rattle.trace_pair.specs.ItemWords as Spec;
 
 use crate::log::PairLog;
+use crate::long_names::PartedCode;
 use text_parts::{Either, Part, say};
 use trace_io::TextSink;
-use trace_text::ResponseCode;
 use uds_message::{is_negative_response, is_suppressing, response_code};
 
 /// What came of a request.
@@ -27,7 +27,7 @@ impl Part for Outcome {
     fn say<S: TextSink>(self, out: &mut S) {
         match self {
             Outcome::Positive => say(out, "positive"),
-            Outcome::Refused(code) => say(out, ("refused with <b>", ResponseCode(code), "</b>")),
+            Outcome::Refused(code) => say(out, ("refused with <b>", PartedCode(code), "</b>")),
             Outcome::Silent => say(out, "silent, as the request asks"),
             Outcome::Unanswered => say(out, "without an answer"),
         }
@@ -48,9 +48,17 @@ impl Part for OutcomesDiffer {
         say(
             out,
             (
-                OutcomeIn(PairLog::A, false, one),
+                OutcomeIn {
+                    log: PairLog::A,
+                    said: false,
+                    outcome: one,
+                },
                 Between(one),
-                OutcomeIn(PairLog::B, is_refusal(one), other),
+                OutcomeIn {
+                    log: PairLog::B,
+                    said: is_refusal(one),
+                    outcome: other,
+                },
             ),
         );
     }
@@ -58,19 +66,23 @@ impl Part for OutcomesDiffer {
 
 /// What came of a request in a log; that it was refused may have been said before.
 #[derive(Clone, Copy)]
-struct OutcomeIn(PairLog, bool, Outcome);
+struct OutcomeIn {
+    log: PairLog,
+    said: bool,
+    outcome: Outcome,
+}
 
 impl Part for OutcomeIn {
     ghost use Rattle.trace_pair.specs.ItemWords.{outcome_in};
 
-    ghost text = { λ t. outcome_in t.0 t.1 t.2 };
+    ghost text = { λ words. outcome_in words.log words.said words.outcome };
 
     fn say<S: TextSink>(self, out: &mut S) {
-        let OutcomeIn(log, said, outcome) = self;
+        let OutcomeIn { log, said, outcome } = self;
         let refused = Either(said, "with <b>", "refused with <b>");
         match outcome {
             Outcome::Positive => say(out, ("positive in ", log)),
-            Outcome::Refused(code) => say(out, (refused, ResponseCode(code), "</b> in ", log)),
+            Outcome::Refused(code) => say(out, (refused, PartedCode(code), "</b> in ", log)),
             Outcome::Silent => say(out, ("silent in ", log, ", as the request asks")),
             Outcome::Unanswered => say(out, ("without an answer in ", log)),
         }
@@ -118,7 +130,7 @@ impl Part for OutcomeMark {
     fn say<S: TextSink>(self, out: &mut S) {
         match self.0 {
             Outcome::Positive => say(out, "positive"),
-            Outcome::Refused(code) => say(out, ("negative ", ResponseCode(code))),
+            Outcome::Refused(code) => say(out, ("negative ", PartedCode(code))),
             Outcome::Silent => say(out, "silent"),
             Outcome::Unanswered => say(out, "no answer"),
         }

@@ -17,7 +17,7 @@ use crate::sessions::Sessions;
 use crate::title::Title;
 use crate::verdict::say_verdict;
 use shown_rows::count_changes;
-use text_parts::{Part, say};
+use text_parts::{Either, Part, say};
 use trace_io::{Target, TextSink};
 use trace_log::{CompareFault, Fault};
 use trace_report::{CauseLine, Counts, KeptSession, Refusal, RefusalCause, SpanOf, VerdictHead};
@@ -127,8 +127,8 @@ fn say_counts<S: TextSink>(log: PairLog, name: &[u8], session: &KeptSession, out
             Counts(&session.rows().counts(), &summary),
             SpanOf {
                 frames: summary.frames,
-                first: session.first(),
-                last: session.last(),
+                first: session.first_time(),
+                last: session.last_time(),
             },
             "</section>\n",
         ),
@@ -154,12 +154,37 @@ fn say_unread<S: TextSink>(
                 log,
                 " is refused, so nothing is compared</h2>\n<p><em>",
                 Refusal(why),
-                ".</em> A report of this log alone shows the lines before that.</p>\n",
+                ".</em>",
+                BeforeWords(why),
+                "</p>\n",
                 CauseLine(cause),
                 "</section>\n<main>\n<section id=\"items\">\n<h2>Items</h2>\n<p>Nothing is compared.</p>\n</section>\n</main>\n",
                 PairHelp,
             ),
         );
+    }
+}
+
+/// That the lines before are shown elsewhere, where some stand before what refuses the log.
+#[derive(Clone, Copy)]
+struct BeforeWords(Fault);
+
+impl Part for BeforeWords {
+    ghost use Rattle.trace_pair.specs.Page.{before_words};
+
+    ghost text = { λ words. before_words words.0 };
+
+    fn say<S: TextSink>(self, out: &mut S) {
+        let words = " A report of this log alone shows the lines before that.";
+        match self.0 {
+            Fault::BadLine { line, .. } => say(out, Either(line == 1, (), words)),
+            Fault::LogLimit => say(out, words),
+            Fault::Oversize { .. }
+            | Fault::OutputLimit
+            | Fault::Read
+            | Fault::Write
+            | Fault::Memory => {}
+        }
     }
 }
 

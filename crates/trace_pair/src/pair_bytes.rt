@@ -5,12 +5,13 @@ ghost use Rattle.trace_pair.specs.ItemRows.{both_bytes, outcome_by};
 
 use crate::column_lines::{ShownLogs, have_word, say_columns};
 use crate::log::{LetterMark, PairLog};
+use crate::long_names::PartedRoleWords;
 use crate::outcome::{Outcome, OutcomeMark, came_of, same_outcome};
 use crate::told_items::ToldAnswer;
-use byte_columns::Beside;
+use byte_columns::ByteColumns;
 use text_parts::{Either, Part, When, say};
 use trace_io::TextSink;
-use trace_report::{Data, PlacedItem, RoleWords, RowMessage, is_request_role};
+use trace_report::{Data, PlacedItem, RowMessage, is_request_role};
 
 /// Two items that changed: what is the same once, what differs byte under byte, and other outcomes in lines of their own.
 #[derive(Clone, Copy)]
@@ -65,7 +66,7 @@ impl<'a> Part for OfBoth<'a> {
 
     fn say<S: TextSink>(self, out: &mut S) {
         let OfBoth(one, other) = self;
-        say(out, RoleWords(one.sent.role, one.sent.dir, one.bytes));
+        say(out, PartedRoleWords(one.sent.role, one.sent.dir, one.bytes));
         if one.bytes == other.bytes {
             say(out, Data(one.bytes));
         } else {
@@ -78,7 +79,7 @@ impl<'a> Part for OfBoth<'a> {
 fn say_both_bytes<S: TextSink>(one: &[u8], other: &[u8], out: &mut S)
     ensures { S.says out.old (both_bytes one.now other.now) out.new }
 {
-    let columns = Beside::of(one, other);
+    let columns = ByteColumns::of(one, other);
     say_columns(ShownLogs::Both, have_word(one, other), &columns, out);
 }
 
@@ -86,7 +87,7 @@ fn say_both_bytes<S: TextSink>(one: &[u8], other: &[u8], out: &mut S)
 #[derive(Clone, Copy)]
 struct Answers<'a>(PlacedItem<'a>, PlacedItem<'a>);
 
-/// Those with the same outcome: byte under byte.
+/// The answers of two exchanges that have the same outcome: byte under byte.
 #[derive(Clone, Copy)]
 struct SameOutcomes<'a>(Answers<'a>);
 
@@ -105,7 +106,7 @@ impl<'a> Part for SameOutcomes<'a> {
     }
 }
 
-/// Other outcomes: each in its line, with a mark.
+/// The answers of two exchanges that have other outcomes: each in a line of its own, where the outcome has a mark.
 #[derive(Clone, Copy)]
 struct OtherOutcomes<'a>(Answers<'a>);
 

@@ -56,7 +56,10 @@ impl Part for SameHeading {
             out,
             (
                 SameStart(self.is_beyond_doubt()),
-                RecordedWords(self.left_clean, self.right_clean),
+                RecordedWords {
+                    left_clean: self.left_clean,
+                    right_clean: self.right_clean,
+                },
                 DoubtWords {
                     exchanged: self.exchanged,
                     asked: self.asked,
@@ -91,15 +94,18 @@ impl Part for SameStart {
 
 /// How far two sessions are known to be the same, by whether each log is clean.
 #[derive(Clone, Copy)]
-struct RecordedWords(bool, bool);
+struct RecordedWords {
+    left_clean: bool,
+    right_clean: bool,
+}
 
 impl Part for RecordedWords {
     ghost use Rattle.trace_pair.specs.Verdict.{recorded_words};
 
-    ghost text = { λ words. recorded_words words.0 words.1 };
+    ghost text = { λ words. recorded_words words.left_clean words.right_clean };
 
     fn say<S: TextSink>(self, out: &mut S) {
-        match (self.0, self.1) {
+        match (self.left_clean, self.right_clean) {
             (true, true) => {}
             (true, false) => say(out, " as far as they are recorded: B is not clean"),
             (false, true) => say(out, " as far as they are recorded: A is not clean"),

@@ -26,7 +26,7 @@ impl<'a> ItemSource for ItemsOf<'a> {
     ghost items = { λ of. values_in of.0.now };
 
     fn count(&self) -> usize {
-        self.0.rows().items()
+        self.0.rows().item_count()
     }
 
     fn item_at(&self, place: usize) -> Option<Item<'_>> {

@@ -26,8 +26,8 @@ pub(crate) enum Table {
 pub(crate) struct Standing {
     /// Of the fold before it so many rows are still to come.
     pub folded: usize,
-    /// So many rows are shown since a change stands before them.
-    pub context: usize,
+    /// So many of the next rows are shown for a change before them.
+    pub still_shown: usize,
     /// The row in front.
     pub front: Row,
     /// So many items of the left session.
@@ -48,7 +48,7 @@ impl Standing {
     {
         Standing {
             folded: 0,
-            context: 0,
+            still_shown: 0,
             front: Row::Same,
             left: 0,
             right: 0,
@@ -68,7 +68,7 @@ impl Standing {
         };
         if self.folded > 0 {
             self.with_fold(self.folded, *row)
-        } else if is_shown(self.context, rows) {
+        } else if is_shown(self.still_shown, rows) {
             self.with_shown(*row)
         } else {
             self.with_fold(folded(rows), *row)
@@ -81,7 +81,7 @@ impl Standing {
         ensures { result ≡ Spec.with_row row self }
     {
         let mut at = self;
-        at.context = context_behind(self.context, row);
+        at.still_shown = context_behind(self.still_shown, row);
         at.front = row;
         at.left = self.left + left_in(row);
         at.right = self.right + right_in(row);

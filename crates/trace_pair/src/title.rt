@@ -1,7 +1,7 @@
 //! What a page of two logs is made for.
 use can_log::Id;
 
-/// Its style, the names of the logs, and the identifiers.
+/// What a page is made for: its style, the names of the logs, and the identifiers.
 #[derive(Clone, Copy)]
 pub struct Title<'a> {
     pub style: &'a str,

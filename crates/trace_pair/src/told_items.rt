@@ -1,10 +1,11 @@
 //! Items as rows tell them.
 use crate::log::{LetterMark, PairLog};
+use crate::long_names::PartedRoleWords;
 use text_parts::{Part, When, say};
 use trace_io::TextSink;
 use trace_report::{
-    Data, FurtherNote, MessagePlace, NamedLines, PlacedItem, RoleWords, RowMessage, Seconds,
-    asked_at, is_request_role,
+    Data, FurtherNote, MessagePlace, NamedLines, PlacedItem, RowMessage, Seconds, asked_at,
+    is_request_role,
 };
 use uds_message::is_suppressing;
 
@@ -21,7 +22,8 @@ impl<'a> Part for ToldMessage<'a> {
     fn say<S: TextSink>(self, out: &mut S) {
         let sent = self.0.sent;
         let bytes = self.0.bytes;
-        say(out, (RoleWords(sent.role, sent.dir, bytes), Data(bytes)));
+        let words = PartedRoleWords(sent.role, sent.dir, bytes);
+        say(out, (words, Data(bytes)));
     }
 }
 
@@ -87,35 +89,66 @@ impl<'a> Part for ToldItem<'a> {
 
 /// When an item was, in a log whose first frame has this time.
 #[derive(Clone, Copy)]
-pub(crate) struct NoteOf<'a>(pub PairLog, pub u64, pub PlacedItem<'a>);
+pub(crate) struct NoteOf<'a> {
+    pub log: PairLog,
+    pub origin: u64,
+    pub item: PlacedItem<'a>,
+}
 
 impl<'a> Part for NoteOf<'a> {
     ghost use Rattle.trace_report.specs.Items.{item_of};
     ghost use Rattle.trace_pair.specs.ToldItems.{note_of};
 
-    ghost text = { λ t. note_of t.0 t.1 (item_of t.2) };
+    ghost text = { λ note. note_of note.log note.origin (item_of note.item) };
 
     fn say<S: TextSink>(self, out: &mut S) {
-        let NoteOf(log, origin, item) = self;
+        let NoteOf { log, origin, item } = self;
+        let begin = item.begin;
         match item.answer {
-            Some(reply) => say(out, ItemNote(log, origin, item.begin, reply)),
-            None => say(out, ItemNote(log, origin, item.begin, item.begin)),
+            Some(last) => say(
+                out,
+                ItemNote {
+                    log,
+                    origin,
+                    begin,
+                    last,
+                },
+            ),
+            None => say(
+                out,
+                ItemNote {
+                    log,
+                    origin,
+                    begin,
+                    last: begin,
+                },
+            ),
         }
     }
 }
 
 /// When an item was that begins with one message and ends with another.
 #[derive(Clone, Copy)]
-struct ItemNote<'a>(PairLog, u64, RowMessage<'a>, RowMessage<'a>);
+struct ItemNote<'a> {
+    log: PairLog,
+    origin: u64,
+    begin: RowMessage<'a>,
+    last: RowMessage<'a>,
+}
 
 impl<'a> Part for ItemNote<'a> {
     ghost use Rattle.trace_report.specs.Items.{message_of};
     ghost use Rattle.trace_pair.specs.ToldItems.{item_note};
 
-    ghost text = { λ t. item_note t.0 t.1 (message_of t.2) (message_of t.3) };
+    ghost text = { λ note. item_note note.log note.origin (message_of note.begin) (message_of note.last) };
 
     fn say<S: TextSink>(self, out: &mut S) {
-        let ItemNote(log, origin, begin, last) = self;
+        let ItemNote {
+            log,
+            origin,
+            begin,
+            last,
+        } = self;
         say(
             out,
             (

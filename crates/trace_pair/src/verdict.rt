@@ -54,10 +54,10 @@ fn say_different<S: TextSink>(found: FoundDifference<'_>, sessions: Sessions<'_>
         (
             DifferentHeading {
                 differences: count_changes(rows) as u64,
-                same: count_of(Row::Same, rows),
-                left: count_of(Row::OnlyLeft, rows),
-                right: count_of(Row::OnlyRight, rows),
-                changed: count_of(Row::Changed, rows),
+                same: count_of(Row::Same, rows) as u64,
+                left: count_of(Row::OnlyLeft, rows) as u64,
+                right: count_of(Row::OnlyRight, rows) as u64,
+                changed: count_of(Row::Changed, rows) as u64,
             },
             losses_at_changes(rows, sessions),
             BoundLine(found.shortest, found.bound),
@@ -98,7 +98,7 @@ fn look_exchanged(left: &Summary, right: &Summary) -> bool
 fn has_request(session: &KeptSession) -> bool
     ensures { result ≡ list_any Spec.is_exchange (values_in session.now) }
 {
-    let count = session.rows().items();
+    let count = session.rows().item_count();
     'places: for at in 0..count {
         if asks_at(session, at) {
             return true;

@@ -54,7 +54,11 @@ impl Part for DifferentHeading {
                 "</h2>\n<p>",
                 SameWords(self.same),
                 " <a href=\"#difference\">",
-                Either(self.differences == 1, "See it.", "See the first."),
+                Either(
+                    self.differences == 1,
+                    "See the difference.",
+                    "See the first difference.",
+                ),
                 "</a></p>\n",
             ),
         );

@@ -31,11 +31,20 @@ impl Part for ChartClasses {
             out,
             (
                 "ch w",
-                Room(7, items),
+                Room {
+                    most: 7,
+                    number: items,
+                },
                 " l",
-                Room(8, lines),
+                Room {
+                    most: 8,
+                    number: lines,
+                },
                 " s",
-                Room(7, seconds),
+                Room {
+                    most: 7,
+                    number: seconds,
+                },
             ),
         );
     }
@@ -52,11 +61,11 @@ impl<'a> Part for SessionClasses<'a> {
 
     fn say<S: TextSink>(self, out: &mut S) {
         let session = self.0;
-        let length = session.last().saturating_sub(session.first());
+        let length = session.last_time().saturating_sub(session.first_time());
         say(
             out,
             ChartClasses {
-                items: session.rows().items() as u64,
+                items: session.rows().item_count() as u64,
                 lines: session.summary().lines,
                 seconds: length / 1_000_000,
             },
@@ -74,23 +83,35 @@ impl<'a> Part for ItemsClass<'a> {
     ghost text = { λ of. items_class of.0.left.now of.0.right.now };
 
     fn say<S: TextSink>(self, out: &mut S) {
-        let left = self.0.left.rows().items();
-        let right = self.0.right.rows().items();
-        say(out, ("w", Room(7, left.max(right) as u64)));
+        let left = self.0.left.rows().item_count();
+        let right = self.0.right.rows().item_count();
+        say(
+            out,
+            (
+                "w",
+                Room {
+                    most: 7,
+                    number: left.max(right) as u64,
+                },
+            ),
+        );
     }
 }
 
 /// How many digits a column has room for, which has room for so many at most.
 #[derive(Clone, Copy)]
-struct Room(u64, u64);
+struct Room {
+    most: u64,
+    number: u64,
+}
 
 impl Part for Room {
     ghost use Rattle.trace_pair.specs.Widths.{room};
 
-    ghost text = { λ t. room t.0 t.1 };
+    ghost text = { λ it. room it.most it.number };
 
     fn say<S: TextSink>(self, out: &mut S) {
-        let Room(most, number) = self;
+        let Room { most, number } = self;
         say(out, Number(most.min(digits(number))));
     }
 }

@@ -1,10 +1,11 @@
 -- Lists of which none is equal to one behind it, and what is among a list.
-use Prim.Native.Nat.{zero, suc}
+use Prim.Native.Nat.{suc}
 use Rattle.std.proofs.Common.{◌≡◌, ℕ, List, [], ◌∷◌, ◌++◌, Option, Some, None, refl, ap, sym, subst, ◌∙◌, map}
-use Rattle.std.specs.Prelude.{◌≢◌, slice_get, take, drop}
+use Rattle.std.specs.Prelude.{◌≢◌, take, drop}
 use Rattle.std.specs.List.{AllByRecursion, cons_option, filter_map}
 use Rattle.std.proofs.lemmas.List.{take-append-drop}
 use Rattle.can_log.proofs.Promises.{AllByRecursion-append, AllByRecursion-front, AllByRecursion-weaker}
+use Rattle.uds_exchange.proofs.Promises.{at_front}
 use Rattle.trace_report.specs.Laws.{AreDistinct}
 use Rattle.trace_report.specs.Linked.{IsAmong}
 
@@ -36,13 +37,8 @@ module _ {X Y : Type 0} (P : X → Type 0) (text : X → Y) (apart : (a b : X) �
 
 -- What is among a list is among a longer one.
 
-pub at-front : {X : Type 0} (xs ys : List X) (place : ℕ) (x : X) → slice_get xs place ≡ Some x → slice_get (xs ++ ys) place ≡ Some x
-at-front [] ys place x is = cc
-at-front (y ∷ xs) ys zero x is = is
-at-front (y ∷ xs) ys (suc place) x is = at-front xs ys place x is
-
 pub among-front : {X : Type 0} (x : X) (xs ys : List X) → IsAmong x xs → IsAmong x (xs ++ ys)
-among-front x xs ys is = (is.0, at-front xs ys is.0 x is.1)
+among-front x xs ys is = (is.0, at_front xs ys is.0 x is.1)
 
 pub among-last : {X : Type 0} (x : X) (xs : List X) → IsAmong x (xs ++ x ∷ [])
 among-last x [] = (0, refl)

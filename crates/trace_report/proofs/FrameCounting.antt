@@ -1,5 +1,5 @@
 -- How many consecutive frames the receptions took that stand, after one more frame.
-use Rattle.std.proofs.Common.{◌≡◌, ℕ, ◌+◌, ◌<◌, ◌≤◌, ◌^◌, ◌==◌, true, ap, List, [], ◌∷◌, ◌++◌, length, Option, Some, None, Result, Ok, Err, IfSome, refl, sym, subst, ◌∙◌, nat_le, inl, inr, suc, min, arith, zero-le, option_map}
+use Rattle.std.proofs.Common.{◌≡◌, ℕ, ◌+◌, ◌<◌, ◌≤◌, ◌^◌, ◌==◌, true, ap, List, [], ◌∷◌, ◌++◌, length, Option, Some, None, Result, Ok, Err, IfSome, refl, sym, subst, ◌∙◌, nat_le, inl, inr, suc, arith, zero-le, option_map}
 use Rattle.std.proofs.lemmas.Bool.{cases_Bool}
 use Rattle.can_log.specs.Frame.{FrameValue}
 use Rattle.direction.specs.Dir.{other_direction}
@@ -25,8 +25,8 @@ use Rattle.trace_report.specs.Events.{frames_by}
 use Rattle.trace_canon.specs.declared.reception_starts.FramePlace.{FramePlace}
 use Rattle.trace_report.specs.declared.frames.FrameCounts.{FrameCounts}
 use Rattle.trace_canon.specs.ReceptionStarts.{IsBegunAt, still_begun}
-use Rattle.trace_report.specs.declared.places.Places.{Places}
-use Rattle.trace_report.specs.proving.Following.{CountFrames, KnowsPlaces, IsTaken, counted_by, frames_with, taken_after}
+use Rattle.trace_report.specs.declared.extents.ReceptionExtents.{ReceptionExtents}
+use Rattle.trace_report.specs.proving.Following.{CountFrames, KnowsExtents, IsTaken, counted_by, frames_with, taken_after}
 use Rattle.trace_canon.proofs.Promises.{role_own, role_other}
 
 abbrev entry_at : ℕ → ℕ → Dir → FrameValue → Entry
@@ -172,7 +172,7 @@ module _ (line micros most : ℕ) (few : most < 2 ^ 63) (place : FramePlace) whe
   begun_at : Option StandingReception → Option FramePlace
   begun_at own = option_map (λ (s : StandingReception). place) own
 
-  two_higher : (taken kept : ℕ) → kept ≡ taken → taken ≤ most → min (kept + 2) 18446744073709551615 ≡ taken + 2
+  two_higher : (taken kept : ℕ) → kept ≡ taken → taken ≤ most → one_more_count (one_more_count kept) ≡ taken + 2
   two_higher taken kept is low = rw is (omega arith)
 
   found : (d : Dir) (own others : Option StandingReception) (taken : ℕ) (read : Result Layout PduFault) (whole : List ℕ) → Counts own taken → TookAtMost most own
@@ -216,24 +216,24 @@ frames_found d T line micros frame begun taken whole few is counts completes =
     (found line micros (length T) few (place_of (last_start d e T)) d (stands MESSAGE_LIMIT d T) (stands MESSAGE_LIMIT (other_direction d) T) taken (layout_of frame) whole
     counts (stands_few d T) completes)
 
-frames_by_side : (d : Dir) (T : List Entry) (line micros : ℕ) (frame : FrameValue) (places : Places) (begun : Option FramePlace) (taken : ℕ) (whole : List ℕ)
-    → length T < 2 ^ 63 → KnowsPlaces T places → (d ≡ Tester → begun ≡ places.begun.tester) → (d ≡ Unit → begun ≡ places.begun.unit)
-    → (d ≡ Tester → taken ≡ places.frames.tester) → (d ≡ Unit → taken ≡ places.frames.unit)
+frames_by_side : (d : Dir) (T : List Entry) (line micros : ℕ) (frame : FrameValue) (extents : ReceptionExtents) (begun : Option FramePlace) (taken : ℕ) (whole : List ℕ)
+    → length T < 2 ^ 63 → KnowsExtents T extents → (d ≡ Tester → begun ≡ extents.begun.tester) → (d ≡ Unit → begun ≡ extents.begun.unit)
+    → (d ≡ Tester → taken ≡ extents.frames.tester) → (d ≡ Unit → taken ≡ extents.frames.unit)
     → (verdict MESSAGE_LIMIT T (entry_at line micros d frame)).verdict ≡ message whole
     → frames_with (still_begun d (verdict MESSAGE_LIMIT T (entry_at line micros d frame)).ended begun) taken ≡ frames_by (stands MESSAGE_LIMIT d T) (role d (entry_at line micros d frame))
-frames_by_side Tester T line micros frame places begun taken whole few known of_tester of_unit taken_tester taken_unit completes =
+frames_by_side Tester T line micros frame extents begun taken whole few known of_tester of_unit taken_tester taken_unit completes =
     (λ i. frames_with (still_begun Tester (verdict MESSAGE_LIMIT T (entry_at line micros Tester frame)).ended (of_tester refl i)) (taken_tester refl i))
-    ∙ frames_found Tester T line micros frame places.begun.tester places.frames.tester whole few (known.begun Tester) known.frames.tester completes
-frames_by_side Unit T line micros frame places begun taken whole few known of_tester of_unit taken_tester taken_unit completes =
+    ∙ frames_found Tester T line micros frame extents.begun.tester extents.frames.tester whole few (known.begun Tester) known.frames.tester completes
+frames_by_side Unit T line micros frame extents begun taken whole few known of_tester of_unit taken_tester taken_unit completes =
     (λ i. frames_with (still_begun Unit (verdict MESSAGE_LIMIT T (entry_at line micros Unit frame)).ended (of_unit refl i)) (taken_unit refl i))
-    ∙ frames_found Unit T line micros frame places.begun.unit places.frames.unit whole few (known.begun Unit) known.frames.unit completes
+    ∙ frames_found Unit T line micros frame extents.begun.unit extents.frames.unit whole few (known.begun Unit) known.frames.unit completes
 
--- of either side, by what is known of the places
-pub frames_known : (T : List Entry) (e : Entry) (d : Dir) (event : EventValue) (places : Places) (begun : Option FramePlace) (taken : ℕ) (whole : List ℕ)
-    → e.dir ≡ d → event ≡ verdict MESSAGE_LIMIT T e → length T < 2 ^ 63 → KnowsPlaces T places → (d ≡ Tester → begun ≡ places.begun.tester) → (d ≡ Unit → begun ≡ places.begun.unit)
-    → (d ≡ Tester → taken ≡ places.frames.tester) → (d ≡ Unit → taken ≡ places.frames.unit) → event.verdict ≡ message whole
+-- of either side, by what is known of the extents
+pub frames_known : (T : List Entry) (e : Entry) (d : Dir) (event : EventValue) (extents : ReceptionExtents) (begun : Option FramePlace) (taken : ℕ) (whole : List ℕ)
+    → e.dir ≡ d → event ≡ verdict MESSAGE_LIMIT T e → length T < 2 ^ 63 → KnowsExtents T extents → (d ≡ Tester → begun ≡ extents.begun.tester) → (d ≡ Unit → begun ≡ extents.begun.unit)
+    → (d ≡ Tester → taken ≡ extents.frames.tester) → (d ≡ Unit → taken ≡ extents.frames.unit) → event.verdict ≡ message whole
     → frames_with (still_begun d event.ended begun) taken ≡ frames_by (stands MESSAGE_LIMIT e.dir T) (role e.dir e)
-frames_known T e d event places begun taken whole dir_is is few known of_tester of_unit taken_tester taken_unit completes =
+frames_known T e d event extents begun taken whole dir_is is few known of_tester of_unit taken_tester taken_unit completes =
     (λ i. frames_with (still_begun (sym dir_is i) (is i).ended begun) taken)
-    ∙ frames_by_side e.dir T e.line e.micros e.frame places begun taken whole few known (λ side. of_tester (sym dir_is ∙ side)) (λ side. of_unit (sym dir_is ∙ side))
+    ∙ frames_by_side e.dir T e.line e.micros e.frame extents begun taken whole few known (λ side. of_tester (sym dir_is ∙ side)) (λ side. of_unit (sym dir_is ∙ side))
     (λ side. taken_tester (sym dir_is ∙ side)) (λ side. taken_unit (sym dir_is ∙ side)) (sym (ap (λ (x : EventValue). x.verdict) is) ∙ completes)

@@ -6,7 +6,7 @@ use Rattle.std.proofs.lemmas.Bool.{cases_Bool, and_parts}
 use Rattle.std.proofs.lemmas.Bool.Decides.{nat_tests}
 use Rattle.can_log.specs.Digits.{digit, digits}
 use Rattle.can_log.proofs.Promises.{AllByRecursion-append}
-use Rattle.trace_report.specs.Front.{name_byte, name_text, plain_byte, numbered_byte}
+use Rattle.trace_report.specs.LogNames.{name_byte, name_text, plain_byte, numbered_byte}
 use Rattle.trace_report.specs.Laws.{is_escaped, is_harmless, LettersAreHarmless, NameIsHarmless}
 use Rattle.trace_report.specs.Letters.{is_mark, is_within, shown_byte}
 

@@ -6,7 +6,7 @@ use Rattle.uds_exchange.specs.declared.messages.Span.{Span}
 use Rattle.uds_exchange.proofs.Promises.{message_stays}
 use Rattle.trace_report.specs.Rows.{RowValue, message}
 use Rattle.trace_report.specs.Sorts.{counts_in, sort_of}
-use Rattle.trace_report.specs.declared.counts.SortCounts.{SortCounts}
+use Rattle.trace_report.specs.declared.tally.SortCounts.{SortCounts}
 use Rattle.trace_report.specs.declared.item_places.ItemPlace.{ItemPlace}
 use Rattle.trace_report.specs.declared.kept_rows.KeptRow.{KeptRow}
 use Rattle.trace_report.specs.declared.kept_rows.KeptRow.TheVariants as kept

@@ -3,12 +3,11 @@ mod Tallies
 mod Steps
 mod FrameCounting
 mod Meeting
-mod Holding
+mod HowKept
 mod BytesBehind
 mod WordPlaces
 mod ItemValues
 mod SessionItems
-mod ItemNumbers
 mod RowNumbers
 mod ItemParts
 mod Placing

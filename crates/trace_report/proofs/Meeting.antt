@@ -23,13 +23,13 @@ use Rattle.uds_message.specs.Message.{sid, is_final_for, is_pending_for, is_supp
 use Rattle.uds_exchange.specs.Meaning.{is_from_tester}
 use Rattle.trace_canon.specs.FirstFrames.{first_frame, place_of}
 use Rattle.trace_canon.specs.declared.reception_starts.FramePlace.{FramePlace}
-use Rattle.trace_canon.proofs.Promises.{messages_next}
+use Rattle.trace_run.proofs.Promises.{messages_next}
 use Rattle.trace_report.specs.Events.{asked_in, closing_before, completes_request, completes_request_by, ended_rows, event_rows, frame_rows, frames_by, is_request_step, ends_nothing, verdict_rows}
 use Rattle.trace_report.specs.Roles.{role_of_step}
 use Rattle.trace_report.specs.Rows.{RowValue}
 use Rattle.trace_report.specs.Rows.{message as tells_message}
 use Rattle.trace_report.specs.declared.follower.Follower.{Follower}
-use Rattle.trace_report.specs.declared.places.MessageExtent.{MessageExtent}
+use Rattle.trace_report.specs.declared.extents.MessageExtent.{MessageExtent}
 use Rattle.trace_report.specs.proving.Following.{IsSilent, KnowsMessages, dropped_by, dropped_rows}
 use Rattle.trace_report.proofs.Steps.{asked_next}
 

@@ -12,25 +12,25 @@ use Rattle.isotp_receive.specs.declared.event.Ended.{Ended}
 use Rattle.isotp_receive.specs.StandingReception.{StandingReception, receptions_after}
 use Rattle.isotp_receive.specs.Trace.{Entry}
 use Rattle.isotp_receive.specs.Verdict.{VerdictValue, message, began, stored, flowed, dropped, messages, told_message, verdict}
-use Rattle.uds_exchange.proofs.Promises.{decided_grows, decided_then_undecided, meaning_goes_on}
+use Rattle.uds_exchange.proofs.Promises.{at_front, begun_stays, decided_grows, decided_then_undecided, item_stays, items_become, meaning_goes_on, number_is_its_place, open_exchange_stands, open_number_is_its_place}
 use Rattle.uds_exchange.specs.Decided.{decided, decided_in, undecided}
 use Rattle.uds_exchange.specs.Judging.{step_after}
 use Rattle.uds_exchange.specs.Meaning.{ItemValue, exchange, stray, is_from_tester, is_tester_request, meaning}
+use Rattle.uds_exchange.specs.Numbers.{HasItem, HasPartBy}
 use Rattle.uds_exchange.specs.OneMessage.{step_if_open}
 use Rattle.uds_exchange.specs.Order.{has_exchange, open_request}
+use Rattle.uds_exchange.specs.proving.Becoming.{Becomes}
 use Rattle.uds_exchange.specs.declared.step.Step.{Step}
 use Rattle.uds_exchange.specs.declared.step.Step.TheVariants as becomes
 use Rattle.uds_message.specs.Message.{is_final_for, is_keep_alive, is_negative_response, is_pending_for, sid}
-use Rattle.trace_canon.proofs.Promises.{messages_next}
+use Rattle.trace_run.proofs.Promises.{messages_next}
 use Rattle.trace_report.specs.Events.{asked_in, closing_before, closing_rows, end_rows, ended_rows, ends_nothing, is_request_step, message_rows, rows_of, standing_row, verdict_rows, waiting_row}
 use Rattle.trace_report.specs.Roles.{role_of_step}
-use Rattle.trace_report.specs.Numbers.{HasItem, HasPart, HasPartBy, IsUnanswered, RowNumbersArePlaces, TellsItsItem}
+use Rattle.trace_report.specs.Numbers.{HasPart, IsUnanswered, RowNumbersArePlaces, TellsItsItem}
 use Rattle.trace_report.specs.Rows.{RowValue}
 use Rattle.trace_report.specs.Rows as row
 use Rattle.trace_report.specs.declared.roles.MessageRole.{MessageRole}
 use Rattle.trace_report.specs.declared.roles.MessageRole.TheVariants as role
-use Rattle.trace_report.proofs.Distinct.{at-front}
-use Rattle.trace_report.proofs.ItemNumbers.{Becomes, begun-still, item-still, one-grows, one-has, open-number, open-stands}
 use Rattle.trace_report.proofs.Steps.{rows_next}
 
 -- What a row tells behind these messages: that an item has no answer is so for good, since it is decided.
@@ -44,21 +44,21 @@ Tells M (row.unfinished d line len) = ⊤
 -- an item among these is one among these and more
 item-behind : (Holds : ItemValue → Type 0) (items more all : List ItemValue) → items ++ more ≡ all → (number : ℕ) → HasItem items number Holds → HasItem all number Holds
 item-behind Holds items more all is number has =
-    (has.0, has.1, has.2, ap (λ l. slice_get l has.0) (sym is) ∙ at-front items more has.0 has.1 has.3, has.4)
+    (has.0, has.1, has.2, ap (λ l. slice_get l has.0) (sym is) ∙ at_front items more has.0 has.1 has.3, has.4)
 
 -- One more message.
 
 part-still : (is : MessageRole) (sent : Message) (item now : ItemValue) → Becomes item now → HasPart is sent item → HasPart is sent now
-part-still role.Request sent item now become has = begun-still sent.1 item now become has
+part-still role.Request sent item now become has = begun_stays sent.1 item now become has
 part-still (role.Positive asked) sent item now become has = (has.0, subst (λ (it : ItemValue). Becomes it now) has.1 become)
 part-still (role.Negative asked) sent item now become has = (has.0, subst (λ (it : ItemValue). Becomes it now) has.1 become)
-part-still (role.Pending asked) sent item now become has = (has.0, begun-still has.0 item now become has.1, has.2)
+part-still (role.Pending asked) sent item now become has = (has.0, begun_stays has.0 item now become has.1, has.2)
 part-still role.KeepAlive sent item now become has = subst (λ (it : ItemValue). Becomes it now) has become
 part-still role.Stray sent item now become has = subst (λ (it : ItemValue). Becomes it now) has become
 
 row-still : (M : List Message) (x : Message) (one : RowValue) → Tells M one → Tells (M ++ x ∷ []) one
 row-still M x (row.message is d place bytes) tells =
-    item-still (HasPart is (d, bytes)) (part-still is (d, bytes)) (meaning M) (meaning (M ++ x ∷ [])) (one-grows M x) place.item tells
+    item_stays (HasPart is (d, bytes)) (part-still is (d, bytes)) (meaning M) (meaning (M ++ x ∷ [])) (items_become M x) place.item tells
 row-still M x (row.no_answer number silent) tells =
     let grown = decided_grows M (x ∷ []) in
     item-behind (IsUnanswered silent) (decided M) grown.0 (decided (M ++ x ∷ [])) (sym grown.1) number tells
@@ -115,8 +115,8 @@ module _ (M : List Message) (x : Message) where
     (
       length (decided M),
       exchange request None,
-      open-number M request waits_is,
-      ap (λ items. slice_get items (length (decided M))) (decided-before is) ∙ open-stands M request waits_is,
+      open_number_is_its_place M request waits_is,
+      ap (λ items. slice_get items (length (decided M))) (decided-before is) ∙ open_exchange_stands M request waits_is,
       (request, refl, refl),
     ),
     tt,
@@ -139,7 +139,7 @@ module _ (T : List Entry) (e : Entry) where
   sent-tells bytes =
       let x : Message = (e.dir, bytes) in
       let step = step_after M x in
-      let has = one-has M x in
+      let has = number_is_its_place M x in
       AllByRecursion-append (Tells (M ++ x ∷ [])) (closing_before M step) _ (before-tells M x step refl)
       ((has.0, has.1, has.2, has.3, part-by (asked_in MESSAGE_LIMIT T) step e.dir bytes has.1 has.4), tt)
 
@@ -196,7 +196,7 @@ standing-tells items d (Some begun) = (tt, tt)
 closing-tells : (M : List Message) (waits : Option (List ℕ)) → open_request M ≡ waits → AllByRecursion (TellsItsItem (meaning M)) (waiting_row M waits)
 closing-tells M None waits_is = tt
 closing-tells M (Some request) waits_is =
-    ((length (decided M), exchange request None, open-number M request waits_is, open-stands M request waits_is, (request, refl, refl)), tt)
+    ((length (decided M), exchange request None, open_number_is_its_place M request waits_is, open_exchange_stands M request waits_is, (request, refl, refl)), tt)
 
 end-tells : (T : List Entry) → AllByRecursion (TellsItsItem (meaning (messages MESSAGE_LIMIT T))) (end_rows MESSAGE_LIMIT T)
 end-tells T =

@@ -9,7 +9,7 @@ use Rattle.isotp_receive.specs.declared.event.Ended.{Ended}
 use Rattle.isotp_receive.specs.StandingReception.{StandingReception, receptions_after}
 use Rattle.isotp_receive.specs.Trace.{Entry}
 use Rattle.isotp_receive.specs.Verdict.{VerdictValue, message, began, stored, flowed, dropped, messages, told_message, verdict}
-use Rattle.trace_canon.proofs.Promises.{messages_next}
+use Rattle.trace_run.proofs.Promises.{messages_next}
 use Rattle.trace_canon.specs.FirstFrames.{place_of}
 use Rattle.uds_exchange.proofs.Promises.{held_are_fewer, items_grow}
 use Rattle.uds_exchange.specs.Meaning.{is_tester_request, meaning}

@@ -21,17 +21,17 @@ cause_of_place source line column =
 
 -- the cause of a log that passes this limit: the limit, where a larger one can be given
 abbrev pub cause_of_limit : ℕ → Option RefusalCause
-cause_of_limit most = if nat_lt most LARGEST_LIMIT then Some (cause.Limit most) else None
+cause_of_limit max_bytes = if nat_lt max_bytes LARGEST_LIMIT then Some (cause.Limit max_bytes) else None
 
 -- the cause of a fault over a log with this limit, by what is seen of its source
 abbrev pub cause_of : Fault → ℕ → GlimpseValue → Option RefusalCause
-cause_of (BadLine line column) most source = cause_of_place source line column
-cause_of LogLimit most source = cause_of_limit most
-cause_of OutputLimit most source = cause_of_limit most
-cause_of (Oversize line announced) most source = None
-cause_of Read most source = None
-cause_of Write most source = None
-cause_of Memory most source = None
+cause_of (BadLine line column) max_bytes source = cause_of_place source line column
+cause_of LogLimit max_bytes source = cause_of_limit max_bytes
+cause_of OutputLimit max_bytes source = cause_of_limit max_bytes
+cause_of (Oversize line announced) max_bytes source = None
+cause_of Read max_bytes source = None
+cause_of Write max_bytes source = None
+cause_of Memory max_bytes source = None
 
 -- What is said of a cause: words, a number if there is one, words, the name of the log where it is said, what it is, and
 -- what mends it.
@@ -74,9 +74,9 @@ row_of_cause (cause.NoStamp line) = record {
   words = codes "begins with no stamp";
   command = codes "if it is a notice of candump -d, grep -v ^DROPCOUNT leaves it out";
 }
-row_of_cause (cause.Limit most) = record {
+row_of_cause (cause.Limit max_bytes) = record {
   before = codes "the limit is ";
-  number = Some most;
+  number = Some max_bytes;
   between = codes " bytes";
   is_named = false;
   words = [];

@@ -6,7 +6,7 @@ use Rattle.trace_report.specs.declared.roles.MessageRole.{MessageRole}
 use Rattle.trace_report.specs.Rows.{RowValue, message, no_answer, dropped, ended, unfinished}
 use Rattle.trace_report.specs.MessageRows.{message_row}
 use Rattle.trace_report.specs.BriefRows.{brief_message}
-use Rattle.trace_report.specs.LostRows.{no_answer_row, dropped_row, ended_row, unfinished_row}
+use Rattle.trace_report.specs.MissingRows.{no_answer_row, dropped_row, ended_row, unfinished_row}
 use Rattle.trace_report.specs.declared.blocks.Blocks.{Blocks}
 use Rattle.trace_report.specs.Blocks.{begins_exchange, one_more_row, opening_text, is_brief}
 

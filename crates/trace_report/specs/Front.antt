@@ -1,32 +1,10 @@
 -- The front of a report: what stands before its rows. All of it is fixed but the style, the name of the log, which
 -- stands in it twice, and the two identifiers.
-use Prim.Native.Char.{code}
-use Rattle.std.specs.Prelude.{ℕ, ◌==◌, ◌++◌, List, [], ◌∷◌, codes, if◌then◌else◌}
-use Rattle.std.specs.List.{flat_map}
+use Rattle.std.specs.Prelude.{ℕ, ◌++◌, List, codes}
 use Rattle.can_log.specs.Canonical.{identifier_text}
-use Rattle.can_log.specs.Digits.{hexadecimal}
 use Rattle.can_log.specs.declared.frame.Id.{Id}
 use Rattle.trace_log.specs.Settings.{Settings}
-use Rattle.trace_report.specs.Letters.{is_within}
-
--- a byte by its number: % and two digits
-abbrev pub numbered_byte : ℕ → List ℕ
-numbered_byte b = codes "%" ++ hexadecimal 2 b
-
--- a byte of a name that has no name in HTML: printable ASCII as it is, and every other byte by its number
-abbrev pub plain_byte : ℕ → List ℕ
-plain_byte b = if is_within (code " ") (code "~") b then b ∷ [] else numbered_byte b
-
--- a byte of a name: each of the five signs that mean something in HTML by its name there
-abbrev pub name_byte : ℕ → List ℕ
-name_byte b =
-    if b == code "&" then codes "&amp;" else if b == code "<" then codes "&lt;" else if b == code ">" then codes "&gt;"
-    else if b == code "\"" then codes "&quot;" else if b == code "'" then codes "&#39;"
-    else plain_byte b
-
--- the name of a log, as a page may hold it
-abbrev pub name_text : List ℕ → List ℕ
-name_text name = flat_map name_byte name
+use Rattle.trace_report.specs.LogNames.{name_text}
 
 -- What a page is made for: its style, the name of the log, the identifiers, and the limit of the log.
 pub record PageTitleValue : Type 0 where
@@ -34,11 +12,11 @@ pub record PageTitleValue : Type 0 where
   pub name : List ℕ
   pub tester : Id
   pub unit : Id
-  pub most : ℕ
+  pub max_bytes : ℕ
 
 -- what the page of a log is made for that has this style, this name and this configuration
 abbrev pub page_title : List ℕ → List ℕ → Settings → PageTitleValue
-page_title style name settings = record { style = style; name = name; tester = settings.tester; unit = settings.unit; most = settings.max_bytes }
+page_title style name settings = record { style = style; name = name; tester = settings.tester; unit = settings.unit; max_bytes = settings.max_bytes }
 
 -- the start of each page, by which nothing may be fetched and nothing may run
 abbrev pub page_start : List ℕ

@@ -8,7 +8,7 @@ help_heading = codes "<footer id=\"help\">\n<h2>How to read this page</h2>\n"
 -- the words of the help on times
 abbrev pub times_words : List ℕ
 times_words =
-    codes "Times are in seconds from the first frame of the two identifiers, and those of a message are of its last frame; <i>after</i> is the time from the last frame of the request to the first frame of the reply.</p>\n"
+    codes "Times are in seconds from the first frame of the two identifiers, and those of a message are of its last frame; <i>after</i> is the time from the last frame of the request to the first frame of the reply, with a minus where the clock of the log went back.</p>\n"
 
 -- the words of the help on what the page of one log shows
 abbrev pub help_start : List ℕ
@@ -43,7 +43,7 @@ legend_text = codes "<dl class=\"legend\">\n" ++ exchange_legend ++ others_legen
 abbrev pub limits_text : List ℕ
 limits_text =
     codes "<p>Frames with other identifiers, padding, the interface, and flow control that is in its place mean nothing here. A message of which no frame was recorded leaves no trace, also in a clean recording. "
-    ++ codes "Grey letters after the bytes are those same bytes as text."
+    ++ codes "Grey letters after the bytes are those same bytes as text, with a dot for each that is no letter, digit or blank, nor one of <code>- . / : _</code>."
 
 -- the words of the help on blocks that are folded
 abbrev pub blocks_words : List ℕ

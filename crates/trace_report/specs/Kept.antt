@@ -4,7 +4,8 @@ use Rattle.can_log.specs.declared.frame.Stamped.{Stamped}
 use Rattle.trace_log.specs.Needing.{HasFrame}
 use Rattle.trace_log.specs.Settings.{Settings}
 use Rattle.trace_log.specs.Summing.{summary_of}
-use Rattle.trace_run.specs.Ran.{IsReadToEnd, IsUnreadFor, when_lenient}
+use Rattle.trace_run.specs.Ran.{CantBeRead}
+use Rattle.trace_log.specs.ReadAs.{IsReadAs}
 use Rattle.trace_log.specs.Trace.{trace}
 use Rattle.trace_log.specs.declared.fault.CompareFault.{CompareFault}
 use Rattle.trace_log.specs.declared.fault.CompareFault.TheVariants.{Left, Right}
@@ -12,7 +13,7 @@ use Rattle.trace_log.specs.declared.fault.Fault.{Fault}
 use Rattle.trace_report.specs.Session.{SessionValue, session_of}
 
 -- What two logs say, which are kept.
-pub record TwoValue : Type 0 where
+pub record KeptSessionsValue : Type 0 where
   pub left : SessionValue
   pub right : SessionValue
 
@@ -20,13 +21,13 @@ pub record TwoValue : Type 0 where
 -- announced and no canonical log refuses it.
 abbrev pub KeepsOne : ℕ → Settings → List ℕ → Result SessionValue Fault → Type 0
 KeepsOne limit settings log (Ok session) =
-    (meanings : List (Option Stamped)) × IsReadToEnd when_lenient limit settings log meanings
+    (meanings : List (Option Stamped)) × IsReadAs settings log (Ok meanings)
     × (session ≡ session_of limit (trace settings meanings) (summary_of limit settings log meanings))
-KeepsOne limit settings log (Err fault) = IsUnreadFor when_lenient limit settings log fault
+KeepsOne limit settings log (Err fault) = CantBeRead settings log fault
 
 -- What is answered of two logs: what both say; else why the first can't be read; or why the second can't, where the
 -- first can.
-abbrev pub KeepsTwo : ℕ → Settings → List ℕ → List ℕ → Result TwoValue CompareFault → Type 0
+abbrev pub KeepsTwo : ℕ → Settings → List ℕ → List ℕ → Result KeptSessionsValue CompareFault → Type 0
 KeepsTwo limit settings one other (Ok two) = KeepsOne limit settings one (Ok two.left) × KeepsOne limit settings other (Ok two.right)
 KeepsTwo limit settings one other (Err (Left fault)) = KeepsOne limit settings one (Err fault)
 KeepsTwo limit settings one other (Err (Right fault)) =

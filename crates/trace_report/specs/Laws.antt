@@ -1,6 +1,6 @@
 -- What holds of a page, whatever log it is of.
 use Prim.Native.Char.{code}
-use Rattle.std.specs.Prelude.{◌≡◌, ◌≢◌, ◌↔◌, ℕ, ◌==◌, ◌<◌, ◌^◌, ◌&&◌, not, ◌||◌, Bool, true, ⊤, List, [], ◌∷◌, codes, false, length, map, nat_le, ◌++◌, Option, None}
+use Rattle.std.specs.Prelude.{◌≡◌, ◌≢◌, ◌↔◌, ℕ, ◌==◌, ◌<◌, ◌^◌, ◌&&◌, not, ◌||◌, Bool, true, ⊤, List, [], ◌∷◌, codes, false, length, map, nat_le, ◌++◌, Option, Some, None}
 use Rattle.std.specs.List.{AllByRecursion, list_any}
 use Rattle.can_log.specs.declared.frame.Stamped.{Stamped}
 use Rattle.direction.specs.declared.Dir.{Dir}
@@ -14,10 +14,10 @@ use Rattle.trace_log.specs.Settings.{Settings}
 use Rattle.trace_log.specs.Trace.{trace}
 use Rattle.trace_report.specs.Events.{asked_in, completes_request, rows_of}
 use Rattle.trace_report.specs.Roles.{role_of_step, asked_at}
-use Rattle.trace_report.specs.Front.{name_text}
+use Rattle.trace_report.specs.LogNames.{name_text}
 use Rattle.trace_report.specs.Items.{item_value, items_in}
 use Rattle.trace_report.specs.Linked.{HasEachTarget, identifiers_in}
-use Rattle.trace_report.specs.Looks.{has_front}
+use Rattle.trace_report.specs.Looks.{has_front, look_told, signs}
 use Rattle.trace_report.specs.Page.{all_rows}
 use Rattle.trace_report.specs.MessageRows.{message_row, note_text}
 use Rattle.trace_report.specs.Style.{page_style}
@@ -105,3 +105,7 @@ abbrev pub AfterIsFromTheLastFrame : Type 0
 AfterIsFromTheLastFrame = (limit : ℕ) (T : List Entry) (e : Entry)
     → (completes_request limit T e ≡ true → asked_in limit (T ++ e ∷ []) ≡ e.micros)
     × (completes_request limit T e ≡ false → asked_in limit (T ++ e ∷ []) ≡ asked_in limit T)
+
+-- whatever follows the first bytes of a sign, they tell its look: no file that begins with them is taken for another one
+abbrev pub LooksAreTold : Type 0
+LooksAreTold = (rest : List ℕ) → map (λ sign. look_told (sign.0 ++ rest)) signs ≡ map (λ sign. Some sign.1) signs

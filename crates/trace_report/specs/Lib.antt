@@ -7,7 +7,7 @@ pub mod Rows
 pub mod Sorts
 pub mod MessageRows
 pub mod BriefRows
-pub mod LostRows
+pub mod MissingRows
 pub mod Blocks
 pub mod Chart
 pub mod Events
@@ -17,6 +17,7 @@ pub mod Looks
 pub mod Causes
 pub mod Verdict
 pub mod Style
+pub mod LogNames
 pub mod Front
 pub mod Help
 pub mod Page

@@ -2,20 +2,23 @@
 use Rattle.std.specs.Prelude.{ℕ, ◌-◌, ◌==◌, ◌&&◌, Bool, List, [], ◌∷◌, ◌++◌, codes, nat_lt, if◌then◌else◌}
 use Rattle.std.specs.Fmt.{decimal}
 use Rattle.std.specs.List.{flat_map}
-use Rattle.direction.specs.declared.Dir.TheVariants as dir
+use Rattle.trace_text.specs.Words.{direction_text}
 use Rattle.trace_report.specs.Sorts.{most_links}
 use Rattle.trace_report.specs.Targets.{identifier}
-use Rattle.trace_report.specs.declared.counts.SortCounts.{SortCounts}
+use Rattle.trace_report.specs.declared.tally.SortCounts.{SortCounts}
 use Rattle.trace_report.specs.declared.tally.Tally.{Tally}
 use Rattle.trace_report.specs.declared.targets.LinkTarget.{LinkTarget}
 use Rattle.trace_report.specs.declared.targets.LinkTarget.TheVariants as target
 
+-- how a link to a place is called
+abbrev pub link_words : LinkTarget → List ℕ
+link_words (target.Item number) = codes "item " ++ decimal number
+link_words (target.Line number) = codes "line " ++ decimal number
+link_words (target.Side d) = codes "of the " ++ direction_text d
+
 -- a link to a place: where it leads, and how it is called
 abbrev pub link_text : LinkTarget → List ℕ
-link_text (target.Item number) = codes "<a href=\"#" ++ identifier (target.Item number) ++ codes "\">item " ++ decimal number ++ codes "</a>"
-link_text (target.Line number) = codes "<a href=\"#" ++ identifier (target.Line number) ++ codes "\">line " ++ decimal number ++ codes "</a>"
-link_text (target.Side dir.Tester) = codes "<a href=\"#" ++ identifier (target.Side dir.Tester) ++ codes "\">of the tester</a>"
-link_text (target.Side dir.Unit) = codes "<a href=\"#" ++ identifier (target.Side dir.Unit) ++ codes "\">of the unit</a>"
+link_text place = codes "<a href=\"#" ++ identifier place ++ codes "\">" ++ link_words place ++ codes "</a>"
 
 -- a link to a place behind another link
 abbrev pub link_behind : LinkTarget → List ℕ

@@ -1,16 +1,16 @@
 -- The rows of messages: where a message stands, what it is to its item, its bytes, and a note.
-use Rattle.std.specs.Prelude.{ℕ, ◌==◌, Bool, true, false, List, [], ◌++◌, codes, length, nat_lt, Option, Some, None, if◌then◌else◌}
+use Rattle.std.specs.Prelude.{ℕ, ◌==◌, ◌&&◌, Bool, true, List, [], ◌++◌, codes, length, nat_lt, Option, Some, None, if◌then◌else◌}
 use Rattle.std.specs.Fmt.{decimal}
 use Rattle.direction.specs.declared.Dir.{Dir}
 use Rattle.uds_message.specs.Message.{sid, response_code}
 use Rattle.trace_report.specs.declared.row.MessagePlace.{MessagePlace}
 use Rattle.trace_report.specs.declared.roles.MessageRole.{MessageRole}
-use Rattle.trace_report.specs.Targets.{identifier}
-use Rattle.trace_report.specs.declared.targets.LinkTarget.TheVariants as target
+use Rattle.trace_report.specs.Targets.{target_if}
+use Rattle.trace_report.specs.declared.targets.LinkTarget.TheVariants.{Item}
 use Rattle.trace_report.specs.Data.{data_text}
 use Rattle.trace_report.specs.Durations.{milliseconds_between, seconds_between}
 use Rattle.trace_text.specs.Words.{direction_text, service_text, code_text}
-use Rattle.trace_report.specs.Rows.{cell_front, cell_end}
+use Rattle.trace_report.specs.Rows.{cell_front, cell_end, item_header, item_repeated, row_front}
 use Rattle.trace_report.specs.Roles.{begins_item, asked_at}
 use Rattle.trace_report.specs.declared.row.Arrow.TheVariants as arrow
 use Rattle.trace_report.specs.declared.roles.MessageRole.TheVariants as role
@@ -24,18 +24,9 @@ role_class (role.Pending asked) = codes "p"
 role_class role.KeepAlive = codes "p"
 role_class role.Stray = codes "s"
 
--- the number of an item as the header of its row, to which links lead or not
-abbrev pub item_header : Bool → ℕ → List ℕ
-item_header true number = codes "\" id=\"" ++ identifier (target.Item number) ++ codes "\"><th scope=\"row\">" ++ decimal number
-item_header false number = codes "\"><th scope=\"row\">" ++ decimal number
-
--- the number of an item in a row that does not begin it
-abbrev pub item_repeated : ℕ → List ℕ
-item_repeated number = codes "\"><td>" ++ decimal number
-
--- the number of its item in the row of a message of this role, to which links lead or not
-abbrev pub item_cell : Bool → MessageRole → ℕ → List ℕ
-item_cell linked is number = if begins_item is then item_header linked number else item_repeated number
+-- the cell of its item in the row of a message of this role: as the header of the row, where the item begins with it
+abbrev pub item_cell : MessageRole → ℕ → List ℕ
+item_cell is number = if begins_item is then item_header number else item_repeated number
 
 -- the lines of the log from one to a later one
 abbrev pub several_lines : ℕ → ℕ → List ℕ
@@ -49,11 +40,16 @@ lines_text first last = if first == last then decimal first else several_lines f
 abbrev pub named_lines : ℕ → ℕ → List ℕ
 named_lines first last = (if first == last then codes "line " else codes "lines ") ++ lines_text first last
 
--- where a message stands: its item, its lines, and the time of its last frame since the time `origin`
+-- where a message stands: its item, its lines, and the time of its last frame since the time `origin`. The first row of an
+-- item is its place, to which links lead or not.
 abbrev pub message_front : Bool → ℕ → MessageRole → MessagePlace → List ℕ
-message_front linked origin is place =
-    codes "<tr class=\"" ++ role_class is ++ item_cell linked is place.item ++ codes "<td>"
-    ++ lines_text place.first.line place.last.line ++ codes "<td>" ++ seconds_between origin place.last.micros
+message_front linked origin is place = row_front (record {
+  class = role_class is;
+  target = target_if (linked && begins_item is) (Item place.item);
+  item = item_cell is place.item;
+  lines = lines_text place.first.line place.last.line;
+  time = seconds_between origin place.last.micros;
+})
 
 -- a request, by the name of its service
 abbrev pub request_words : ℕ → List ℕ

@@ -1,37 +1,19 @@
 -- The numbers of items: what a row of a page, or a line of `messages`, tells of the item of a number is so of the item that stands
 -- in this place of the meaning, counted from 1, as in the lists of `list` and `compare`.
-use Rattle.std.specs.Prelude.{◌≡◌, ℕ, ◌+◌, ⊤, Bool, true, List, ◌∷◌, ◌++◌, slice_get, Option, Some, None}
+use Rattle.std.specs.Prelude.{◌≡◌, ℕ, ⊤, Bool, List, ◌∷◌, ◌++◌, None}
 use Rattle.std.specs.List.{AllByRecursion}
 use Rattle.direction.specs.Dir.{Message}
 use Rattle.isotp_receive.specs.declared.TheConstants.{MESSAGE_LIMIT}
 use Rattle.isotp_receive.specs.Trace.{Entry}
 use Rattle.isotp_receive.specs.Verdict.{messages}
-use Rattle.uds_exchange.specs.Meaning.{ItemValue, exchange, stray_of, is_pending_reply_to, meaning}
-use Rattle.uds_exchange.specs.declared.step.Step.{Step}
-use Rattle.uds_exchange.specs.declared.step.Step.TheVariants as becomes
+use Rattle.uds_exchange.specs.Meaning.{ItemValue, exchange, stray_of, meaning}
+use Rattle.uds_exchange.specs.Numbers.{HasItem, HasPartBy, IsAnsweredBy, IsBegunBy, IsPendingBy}
 use Rattle.uds_message.specs.Message.{is_suppressing}
 use Rattle.trace_canon.specs.MessagesScript.{placed_behind}
 use Rattle.trace_report.specs.Page.{all_rows}
 use Rattle.trace_report.specs.Rows.{RowValue, message, no_answer, dropped, ended, unfinished}
 use Rattle.trace_report.specs.declared.roles.MessageRole.{MessageRole}
 use Rattle.trace_report.specs.declared.roles.MessageRole.TheVariants as message_role
-
--- the item of this number, counted from 1, stands among these, and this holds of it
-abbrev pub HasItem : List ItemValue → ℕ → (ItemValue → Type 0) → Type 0
-HasItem items number Holds =
-    (place : ℕ) × (item : ItemValue) × (number ≡ place + 1) × (slice_get items place ≡ Some item) × Holds item
-
--- the item is an exchange that begins with this request
-abbrev pub IsBegunBy : List ℕ → ItemValue → Type 0
-IsBegunBy request item = (reply : Option (List ℕ)) × (item ≡ exchange request reply)
-
--- the item is an exchange that has this answer
-abbrev pub IsAnsweredBy : List ℕ → ItemValue → Type 0
-IsAnsweredBy reply item = (request : List ℕ) × (item ≡ exchange request (Some reply))
-
--- the item is an exchange for whose request this reply is pending
-abbrev pub IsPendingBy : Message → ItemValue → Type 0
-IsPendingBy sent item = (request : List ℕ) × IsBegunBy request item × (is_pending_reply_to request sent ≡ true)
 
 -- the item is an exchange without an answer, whose request asked for no positive one, or did not
 abbrev pub IsUnanswered : Bool → ItemValue → Type 0
@@ -57,14 +39,6 @@ TellsItsItem items (unfinished d line len) = ⊤
 -- The number that a row gives an item is the place of that item in the meaning.
 abbrev pub RowNumbersArePlaces : Type 0
 RowNumbersArePlaces = (T : List Entry) → AllByRecursion (TellsItsItem (meaning (messages MESSAGE_LIMIT T))) (all_rows MESSAGE_LIMIT T)
-
--- a message that becomes this has this part in the item
-abbrev pub HasPartBy : Step → Message → ItemValue → Type 0
-HasPartBy (becomes.Request service) sent item = IsBegunBy sent.1 item
-HasPartBy becomes.Answer sent item = IsAnsweredBy sent.1 item
-HasPartBy becomes.Removed sent item = IsPendingBy sent item
-HasPartBy becomes.Hold sent item = item ≡ stray_of sent
-HasPartBy becomes.Pass sent item = item ≡ stray_of sent
 
 -- And so is the number that `messages` gives it, in the line of a message behind the messages M: whatever follows.
 abbrev pub LineNumbersArePlaces : Type 0

@@ -4,7 +4,6 @@ use Rattle.std.specs.Prelude.{ℕ, false, List, [], ◌∷◌, ◌++◌, codes, 
 use Rattle.isotp_receive.specs.Trace.{Entry}
 use Rattle.trace_report.specs.declared.blocks.Blocks.{Blocks}
 use Rattle.trace_report.specs.declared.cause.RefusalCause.{RefusalCause}
-use Rattle.trace_report.specs.declared.tally.Tally.{Tally}
 use Rattle.trace_log.specs.declared.summary.Summary.{Summary}
 use Rattle.trace_report.specs.Blocks.{block_end, blocks_of}
 use Rattle.trace_report.specs.Chart.{rows_text}
@@ -14,7 +13,7 @@ use Rattle.trace_report.specs.Front.{PageTitleValue, front_text}
 use Rattle.trace_report.specs.Help.{help_text}
 use Rattle.trace_report.specs.Rows.{RowValue}
 use Rattle.trace_report.specs.Sorts.{tally_of}
-use Rattle.trace_report.specs.Verdict.{refused_verdict, stop_line, verdict_text}
+use Rattle.trace_report.specs.Verdict.{FindingsValue, refused_verdict, stop_line, verdict_text}
 use Rattle.trace_log.specs.declared.fault.Fault.{Fault}
 use Rattle.trace_run.specs.Script.{GlimpseValue, RefusalText, Script}
 
@@ -45,18 +44,21 @@ frame_text title limit T e = front_before title T ++ rows_after limit (first_tim
 abbrev pub all_rows : ℕ → List Entry → List RowValue
 all_rows limit T = rows_of limit T ++ end_rows limit T
 
--- the end of a page, behind rows that left these blocks and this tally
-abbrev pub page_end : Blocks → Tally → Summary → ℕ → ℕ → List ℕ
-page_end blocks tally summary first last = block_end blocks.count ++ codes "</main>\n" ++ verdict_text tally summary first last ++ help_text
+-- the end of a page, behind rows that left these blocks, of a log of which this was found
+abbrev pub page_end : Blocks → FindingsValue → List ℕ
+page_end blocks found = block_end blocks.count ++ codes "</main>\n" ++ verdict_text found ++ help_text
 
--- the end of the page of a log that is refused, behind rows that left these blocks and this tally
-abbrev pub refused_end : Fault → Option RefusalCause → Blocks → Tally → Summary → ℕ → ℕ → List ℕ
-refused_end why cause blocks tally summary first last =
-    block_end blocks.count ++ stop_line why ++ codes "</main>\n" ++ refused_verdict why cause tally summary first last ++ help_text
+-- the end of the page of a log that is refused, behind rows that left these blocks, by what was found of the lines before
+abbrev pub refused_end : Fault → Option RefusalCause → Blocks → FindingsValue → List ℕ
+refused_end why cause blocks found = block_end blocks.count ++ stop_line why ++ codes "</main>\n" ++ refused_verdict why cause found ++ help_text
+
+-- what was found of a log with these rows, this trace and these counts
+abbrev pub findings_of : List RowValue → List Entry → Summary → FindingsValue
+findings_of rows T summary = record { tally = tally_of rows; summary = summary; first = first_time T; last = last_time 0 T }
 
 -- the end of a page, behind these rows
 abbrev pub page_end_behind : List RowValue → List Entry → Summary → List ℕ
-page_end_behind rows T summary = page_end (blocks_of rows) (tally_of rows) summary (first_time T) (last_time 0 T)
+page_end_behind rows T summary = page_end (blocks_of rows) (findings_of rows T summary)
 
 -- what is told at the end of a log
 abbrev pub last_text : PageTitleValue → ℕ → List Entry → Summary → List ℕ
@@ -67,12 +69,8 @@ last_text title limit T summary =
 -- source. What is open there is neither unfinished nor without an answer: so no row is told of it.
 abbrev pub refused_text : PageTitleValue → ℕ → GlimpseValue → RefusalText
 refused_text title limit source T summary why =
-    front_before title T ++ refused_end why (cause_of why title.most source) (blocks_of (rows_of limit T)) (tally_of (rows_of limit T)) summary (first_time T) (last_time 0 T)
+    front_before title T ++ refused_end why (cause_of why title.max_bytes source) (blocks_of (rows_of limit T)) (findings_of (rows_of limit T) T summary)
 
 -- what a report tells: of each frame its text, and at the end of the log the last one
 abbrev pub report_script : PageTitleValue → ℕ → Script
 report_script title limit = record { strict = false; of_frame = frame_text title limit; at_the_end = last_text title limit }
-
--- a source of which nothing is seen
-abbrev pub nothing_seen : GlimpseValue
-nothing_seen = record { first = []; is_over = false }

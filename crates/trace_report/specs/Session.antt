@@ -1,4 +1,4 @@
--- What a log says, held as a whole.
+-- What a log says, kept as a whole.
 use Rattle.std.specs.Prelude.{ℕ, List}
 use Rattle.isotp_receive.specs.Trace.{Entry}
 use Rattle.trace_log.specs.declared.summary.Summary.{Summary}

@@ -3,7 +3,7 @@ use Rattle.std.specs.Prelude.{ℕ, ◌==◌, Bool, true, false, List, [], ◌∷
 use Rattle.std.specs.List.{flat_map}
 use Rattle.arrayvec.specs.ArrayVec.{ArrayVec}
 use Rattle.trace_report.specs.Rows.{RowValue, message, no_answer, dropped, ended, unfinished}
-use Rattle.trace_report.specs.declared.counts.SortCounts.{SortCounts}
+use Rattle.trace_report.specs.declared.tally.SortCounts.{SortCounts}
 use Rattle.trace_report.specs.declared.roles.MessageRole.{MessageRole}
 use Rattle.trace_report.specs.declared.roles.MessageRole.TheVariants as role
 use Rattle.trace_report.specs.declared.sorts.Sort.{Sort}

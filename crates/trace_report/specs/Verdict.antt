@@ -9,7 +9,7 @@ use Rattle.trace_report.specs.Links.{attention_text}
 use Rattle.trace_report.specs.Durations.{seconds_between}
 use Rattle.trace_log.specs.Summing.{is_clean, lacks_line_feed}
 use Rattle.trace_report.specs.declared.cause.RefusalCause.{RefusalCause}
-use Rattle.trace_report.specs.declared.counts.SortCounts.{SortCounts}
+use Rattle.trace_report.specs.declared.tally.SortCounts.{SortCounts}
 use Rattle.trace_report.specs.declared.tally.Tally.{Tally}
 use Rattle.trace_log.specs.declared.fault.Fault.{Fault}
 use Rattle.trace_log.specs.declared.fault.Fault.TheVariants as fault
@@ -96,12 +96,12 @@ start_words summary =
     else codes "The recording is not clean"
 
 -- that heading
-abbrev pub start_by : Summary → List ℕ
-start_by summary = verdict_head (codes "warn") (codes "!") ++ start_words summary ++ codes "</h2>\n<p>"
+abbrev pub unclean_heading : Summary → List ℕ
+unclean_heading summary = verdict_head (codes "warn") (codes "!") ++ start_words summary ++ codes "</h2>\n<p>"
 
 -- the heading of a recording that is not called clean, and each reason
 abbrev pub unclean_verdict : Summary → List ℕ
-unclean_verdict summary = start_by summary ++ unclean_reasons summary
+unclean_verdict summary = unclean_heading summary ++ unclean_reasons summary
 
 -- the heading of the verdict of a log that is read to its end, and its sentences
 abbrev pub heading_text : Summary → List ℕ
@@ -118,14 +118,22 @@ answers_text asked refused missing =
 abbrev pub answers_of : SortCounts → List ℕ
 answers_of counts = answers_text counts.requests counts.negatives counts.unanswered
 
--- what was found of a log with this tally, whose first frame and last one have these times
-abbrev pub findings_text : Tally → Summary → ℕ → ℕ → List ℕ
-findings_text tally summary first last =
-    attention_text tally ++ counts_text tally.counts summary ++ span_of summary.frames first last ++ codes "</section>\n"
+-- What was found of a log: the tally of its rows, its counts, and the times of its first frame and of its last one.
+pub record FindingsValue : Type 0 where
+  pub tally : Tally
+  pub summary : Summary
+  pub first : ℕ
+  pub last : ℕ
 
--- the verdict of a log with this tally, whose first frame and last one have these times
-abbrev pub verdict_text : Tally → Summary → ℕ → ℕ → List ℕ
-verdict_text tally summary first last = heading_text summary ++ answers_of tally.counts ++ codes "</p>\n" ++ findings_text tally summary first last
+-- what was found of a log, behind the heading of its verdict
+abbrev pub findings_text : FindingsValue → List ℕ
+findings_text found =
+    attention_text found.tally ++ counts_text found.tally.counts found.summary ++ span_of found.summary.frames found.first found.last
+    ++ codes "</section>\n"
+
+-- the verdict of a log of which this was found
+abbrev pub verdict_text : FindingsValue → List ℕ
+verdict_text found = heading_text found.summary ++ answers_of found.tally.counts ++ codes "</p>\n" ++ findings_text found
 
 -- A log that is refused.
 
@@ -155,6 +163,6 @@ refused_heading why cause =
     ++ codes ".</em> Below is what the lines before that say; what comes after it is not read, and the counts are of the lines before.</p>\n"
     ++ cause_line cause
 
--- the verdict of a log that is refused, by what the lines before say
-abbrev pub refused_verdict : Fault → Option RefusalCause → Tally → Summary → ℕ → ℕ → List ℕ
-refused_verdict why cause tally summary first last = refused_heading why cause ++ findings_text tally summary first last
+-- the verdict of a log that is refused, by what was found of the lines before
+abbrev pub refused_verdict : Fault → Option RefusalCause → FindingsValue → List ℕ
+refused_verdict why cause found = refused_heading why cause ++ findings_text found

@@ -99,7 +99,7 @@ impl Part for BlockEnd {
 
 /// The head of a table of rows: the names of its columns.
 #[derive(Clone, Copy)]
-pub struct ChartHead;
+struct ChartHead;
 
 impl Part for ChartHead {
     ghost use Rattle.trace_report.specs.Blocks.{chart_head};

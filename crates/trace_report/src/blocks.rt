@@ -3,6 +3,7 @@ ghost use Rattle.std.specs.Prelude.{◌≡◌, ◌^◌, ◌-◌, ◌<◌, ◌||�
 ghost use Rattle.trace_report.specs.Blocks as Spec;
 ghost use Rattle.trace_report.specs.Rows.{row_of};
 
+use crate::counting::one_more;
 use crate::roles::is_request_role;
 use crate::row::SessionRow;
 
@@ -30,7 +31,7 @@ pub(crate) fn no_blocks() -> Blocks
 }
 
 /// Whether a row begins an exchange.
-pub(crate) fn begins_exchange(row: SessionRow<'_>) -> bool
+pub fn begins_exchange(row: SessionRow<'_>) -> bool
     ensures { result ≡ Spec.begins_exchange (row_of row.entry) }
 {
     match row {
@@ -59,13 +60,13 @@ pub(crate) fn one_more_row(exchange: bool, blocks: Blocks) -> Blocks
 {
     if begins_block(exchange, blocks) {
         Blocks {
-            count: blocks.count.saturating_add(1),
+            count: one_more(blocks.count),
             rows: 1,
         }
     } else {
         Blocks {
             count: blocks.count,
-            rows: blocks.rows.saturating_add(1),
+            rows: one_more(blocks.rows),
         }
     }
 }

@@ -1,13 +1,13 @@
 //! The rows of messages in blocks that are folded at first: one line of words each, without a shape.
 ghost use Rattle.trace_report.specs.BriefRows.{brief_message};
 
-use crate::cells::Side;
 use crate::data::BriefData;
 use crate::message_rows::{MessageFront, say_message_row};
 use crate::message_words::After;
 use crate::roles::MessageRole;
 use crate::row::SentMessage;
 use crate::sorts::message_needs_attention;
+use crate::targets::Side;
 use text_parts::{Part, say};
 use trace_io::TextSink;
 use trace_text::ServiceName;

@@ -27,28 +27,28 @@ pub enum RefusalCause {
 
 /// What is said of a cause, a row of the table of causes.
 #[derive(Clone, Copy)]
-pub struct CauseRow {
+struct CauseRow {
     /// What stands in front.
-    pub before: &'static str,
+    before: &'static str,
     /// A number behind that, if there is one.
-    pub number: Option<u64>,
+    number: Option<u64>,
     /// What stands behind the number.
-    pub between: &'static str,
+    between: &'static str,
     /// Whether the name of the log is said there.
-    pub is_named: bool,
+    is_named: bool,
     /// What it is.
-    pub words: &'static str,
+    words: &'static str,
     /// What mends it.
-    pub command: &'static str,
+    command: &'static str,
 }
 
 /// The cause of a fault over a log with this limit, by what is seen of its source.
-pub fn cause_of(why: Fault, most: u64, source: Glimpse<'_>) -> Option<RefusalCause>
-    ensures { result ≡ Spec.cause_of why most (glimpse_value source.entry) }
+pub fn cause_of(why: Fault, max_bytes: u64, source: Glimpse<'_>) -> Option<RefusalCause>
+    ensures { result ≡ Spec.cause_of why max_bytes (glimpse_value source.entry) }
 {
     match why {
         Fault::BadLine { line, column } => cause_of_place(line, column, source),
-        Fault::LogLimit | Fault::OutputLimit => cause_of_limit(most),
+        Fault::LogLimit | Fault::OutputLimit => cause_of_limit(max_bytes),
         Fault::Oversize { .. } | Fault::Read | Fault::Write | Fault::Memory => None,
     }
 }
@@ -71,18 +71,18 @@ fn cause_of_place(line: u64, column: u32, source: Glimpse<'_>) -> Option<Refusal
 }
 
 /// The cause where this limit is passed: that, where a larger one can be given.
-fn cause_of_limit(most: u64) -> Option<RefusalCause>
-    ensures { result ≡ Spec.cause_of_limit most }
+fn cause_of_limit(max_bytes: u64) -> Option<RefusalCause>
+    ensures { result ≡ Spec.cause_of_limit max_bytes }
 {
-    if most < LARGEST_LIMIT {
-        Some(RefusalCause::Limit(most))
+    if max_bytes < LARGEST_LIMIT {
+        Some(RefusalCause::Limit(max_bytes))
     } else {
         None
     }
 }
 
 /// The table of causes.
-pub fn row_of_cause(cause: RefusalCause) -> CauseRow
+fn row_of_cause(cause: RefusalCause) -> CauseRow
     ensures { row_value result ≡ Spec.row_of_cause cause }
 {
     match cause {
@@ -103,9 +103,9 @@ pub fn row_of_cause(cause: RefusalCause) -> CauseRow
             words: "begins with no stamp",
             command: "if it is a notice of candump -d, grep -v ^DROPCOUNT leaves it out",
         },
-        RefusalCause::Limit(most) => CauseRow {
+        RefusalCause::Limit(max_bytes) => CauseRow {
             before: "the limit is ",
-            number: Some(most),
+            number: Some(max_bytes),
             between: " bytes",
             is_named: false,
             words: "",
@@ -142,7 +142,11 @@ impl Part for CauseLine {
         match self.0 {
             Some(cause) => say(
                 out,
-                ("<p><b>Cause:</b> ", CauseOf(cause, "this log"), ".</p>\n"),
+                (
+                    "<p><b>Cause:</b> ",
+                    RefusalCauseText(cause, "this log"),
+                    ".</p>\n",
+                ),
             ),
             None => {}
         }
@@ -151,30 +155,30 @@ impl Part for CauseLine {
 
 /// What is said of a cause, of a log with this name.
 #[derive(Clone, Copy)]
-pub struct CauseOf<N>(pub RefusalCause, pub N);
+pub struct RefusalCauseText<N>(pub RefusalCause, pub N);
 
-impl<N: Part> Part for CauseOf<N> {
+impl<N: Part> Part for RefusalCauseText<N> {
     ghost use Rattle.trace_report.specs.Causes.{refusal_cause_text};
 
     ghost text = { λ cause. refusal_cause_text cause.0 (N.text cause.1) };
 
     fn say<S: TextSink>(self, out: &mut S) {
-        let CauseOf(cause, name) = self;
-        say(out, RowOf(row_of_cause(cause), name));
+        let RefusalCauseText(cause, name) = self;
+        say(out, CauseRowText(row_of_cause(cause), name));
     }
 }
 
 /// What a row says of a log with this name.
 #[derive(Clone, Copy)]
-struct RowOf<N>(CauseRow, N);
+struct CauseRowText<N>(CauseRow, N);
 
-impl<N: Part> Part for RowOf<N> {
+impl<N: Part> Part for CauseRowText<N> {
     ghost use Rattle.trace_report.specs.Causes.{cause_row_text, row_value};
 
     ghost text = { λ row. cause_row_text (row_value row.0) (N.text row.1) };
 
     fn say<S: TextSink>(self, out: &mut S) {
-        let RowOf(row, name) = self;
+        let CauseRowText(row, name) = self;
         say(
             out,
             (

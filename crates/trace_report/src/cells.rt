@@ -1,8 +1,73 @@
-//! The cells of a report's chart, in which words stand at the sender's side and an arrow fills the rest.
+//! The cells of a row. In that of the chart words stand at the sender's side, and an arrow fills the rest.
 use crate::row::Arrow;
+use crate::targets::{LinkTarget, Side};
 use direction::Dir;
 use text_parts::{Part, say};
 use trace_io::TextSink;
+
+/// What stands in a row before its cell of the chart: the class of the style by which it is shown; the place that it is, if
+/// links lead to it; its first cell, that of its item; and what stands in the next two cells, its lines and its time.
+#[derive(Clone, Copy)]
+pub(crate) struct RowFront<C, I, L, T> {
+    pub class: C,
+    pub target: Option<LinkTarget>,
+    pub item: I,
+    pub lines: L,
+    pub time: T,
+}
+
+impl<C: Part, I: Part, L: Part, T: Part> Part for RowFront<C, I, L, T> {
+    ghost use Rattle.trace_report.specs.Rows.{row_front};
+
+    ghost text = { λ front. row_front (record {
+      class = C.text front.class;
+      target = front.target;
+      item = I.text front.item;
+      lines = L.text front.lines;
+      time = T.text front.time;
+    }) };
+
+    #[inline(always)]
+    fn say<S: TextSink>(self, out: &mut S) {
+        let RowFront {
+            class,
+            target,
+            item,
+            lines,
+            time,
+        } = self;
+        say(
+            out,
+            (
+                "<tr class=\"",
+                class,
+                TagEnd(target),
+                item,
+                "<td>",
+                lines,
+                "<td>",
+                time,
+            ),
+        );
+    }
+}
+
+/// The end of the tag of a row, behind its class: with the identifier of the row, if links lead to it.
+#[derive(Clone, Copy)]
+struct TagEnd(Option<LinkTarget>);
+
+impl Part for TagEnd {
+    ghost use Rattle.trace_report.specs.Rows.{tag_end};
+
+    ghost text = { λ end. tag_end end.0 };
+
+    fn say<S: TextSink>(self, out: &mut S) {
+        match self.0 {
+            Some(target) => say(out, ("\" id=\"", target, "\">")),
+            None => say(out, "\">"),
+        }
+    }
+}
 
 /// A cell of the chart, up to its words.
 #[derive(Clone, Copy)]
@@ -18,7 +83,7 @@ impl Part for CellFront {
     }
 }
 
-/// The arrow, and the end of the row.
+/// The arrow, which is no smaller than this, and the end of the row.
 #[derive(Clone, Copy)]
 pub struct CellEnd(pub Dir, pub Arrow);
 
@@ -31,29 +96,12 @@ impl Part for CellEnd {
         say(
             out,
             (
-                "</div><svg aria-hidden=\"true\"><use href=\"#",
+                "</div><svg aria-hidden=\"true\" width=\"32\" height=\"12\"><use href=\"#",
                 Side(self.0),
                 ArrowEnd(self.1),
                 "\"/></svg></div>\n",
             ),
         );
-    }
-}
-
-/// The lifeline of a side.
-#[derive(Clone, Copy)]
-pub(crate) struct Side(pub Dir);
-
-impl Part for Side {
-    ghost use Rattle.trace_report.specs.Targets.{side_text};
-
-    ghost text = { λ side. side_text side.0 };
-
-    fn say<S: TextSink>(self, out: &mut S) {
-        match self.0 {
-            Dir::Tester => say(out, "t"),
-            Dir::Unit => say(out, "u"),
-        }
     }
 }
 

@@ -1,7 +1,7 @@
 //! What a file looks like that is no log, by its first bytes.
-ghost use Rattle.std.specs.Prelude.{◌≡◌, ◌++◌, ℕ, List, Some, map};
+ghost use Rattle.std.specs.Prelude.{◌≡◌};
 ghost use Rattle.std.specs.List.{list_any};
-ghost use Rattle.trace_report.specs.Looks.{has_at, has_front, has_more_decimals, is_dated, is_table, is_told, lacks_stamp, look_of, look_told, signs, text_look};
+ghost use Rattle.trace_report.specs.Looks.{has_at, has_front, has_more_decimals, is_dated, is_table, is_told, lacks_stamp, look_of, look_told, text_look};
 
 use crate::looks::{Look, TOLD, look_row};
 
@@ -34,11 +34,9 @@ fn has_more_decimals(first: &[u8], column: u32) -> bool
     column >= 10 && has_at(first, column as usize - 8, b'.')
 }
 
-/// What first bytes tell. Whatever follows one of those of the table, they tell the look of its row: no file that begins with them
-/// is taken for another one.
-pub fn look_told(first: &[u8]) -> Option<Look>
-    ensures value { result ≡ look_told first.now }
-    ensures each { (rest : List ℕ) → map (λ sign. look_told (sign.0 ++ rest)) signs ≡ map (λ sign. Some sign.1) signs }
+/// What first bytes tell.
+fn look_told(first: &[u8]) -> Option<Look>
+    ensures { result ≡ look_told first.now }
 {
     TOLD.iter().copied().find(|look| is_told(*look, first))
 }

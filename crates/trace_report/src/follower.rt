@@ -14,7 +14,7 @@ ghost use Rattle.trace_report.specs.Roles.{role_of_step as role_by};
 ghost use Rattle.trace_report.specs.Rows.{message as tells_message, row_of};
 ghost use Rattle.trace_report.specs.proving.Following.{Follows, IsSilent, IsWaiting, MeetsMessage, dropped_rows, row_if, rows_in, unfinished_if};
 
-use crate::places::{MessageExtent, Places};
+use crate::extents::{MessageExtent, ReceptionExtents};
 use crate::roles::role_of_step;
 use crate::row::{MessagePlace, Missing, SentMessage, SessionRow};
 use direction::Dir;
@@ -37,7 +37,7 @@ pub(crate) struct NewRows<'a> {
 pub(crate) struct Follower {
     /// The number of the exchange that waits for its answer, if one does.
     pub waits: Option<u64>,
-    pub places: Places,
+    pub extents: ReceptionExtents,
     /// When the last request was complete.
     pub asked: u64,
     /// Whether the last request asked for no positive answer.
@@ -51,7 +51,7 @@ impl Follower {
     {
         Follower {
             waits: None,
-            places: Places::start(),
+            extents: ReceptionExtents::start(),
             asked: 0,
             silent: false,
         }
@@ -65,7 +65,7 @@ impl Follower {
         ensures rows { (T : List Entry) (e : Entry) → IsSeen T e seen.entry → Follows T self.old → rows_in result ≡ frame_rows MESSAGE_LIMIT T e }
     {
         let here = here_of(seen);
-        let extent = self.places.take(here, seen.dir, seen.event);
+        let extent = self.extents.take(here, seen.dir, seen.event);
         let first = ended_row_of(here, seen.event.ended);
         match seen.message {
             Some(message) => {
@@ -93,7 +93,7 @@ impl Follower {
         message: Judged<'a>,
         extent: MessageExtent,
     ) -> (Option<SessionRow<'a>>, SessionRow<'a>)
-        ensures places { self.new.places ≡ self.old.places }
+        ensures extents { self.new.extents ≡ self.old.extents }
         ensures next { (M : List Message) → IsJudgedAfter M message.entry → message.entry.item_number ≡ number_after M (sent message.entry)
             → IsWaiting M self.old.waits → IsSilent M self.old.silent
             → MeetsMessage M (sent message.entry) here self.old.asked self.new }

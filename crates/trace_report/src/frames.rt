@@ -4,6 +4,7 @@ ghost use Rattle.direction.specs.declared.Dir.TheVariants.{Tester, Unit};
 ghost use Rattle.isotp_receive.specs.EventSeen.{seen_verdict};
 ghost use Rattle.trace_report.specs.proving.Following.{counted_by, frames_with, taken_after};
 
+use crate::counting::one_more;
 use direction::Dir;
 use isotp_receive::Verdict;
 use trace_canon::reception_starts::FramePlace;
@@ -53,7 +54,7 @@ fn counted(verdict: Verdict<'_>, taken: u64) -> u64
 {
     match verdict {
         Verdict::Began => 0,
-        Verdict::Stored => taken.saturating_add(1),
+        Verdict::Stored => one_more(taken),
         Verdict::Message(_) | Verdict::Flow | Verdict::Dropped(_) => taken,
     }
 }
@@ -64,7 +65,7 @@ pub(crate) fn frames_carrying(begun: Option<FramePlace>, taken: u64) -> u64
     ensures { result ≡ frames_with begun taken }
 {
     match begun {
-        Some(_) => taken.saturating_add(2),
+        Some(_) => one_more(one_more(taken)),
         None => 1,
     }
 }

@@ -12,7 +12,7 @@ pub(crate) struct PageTitle<'a> {
     pub name: &'a [u8],
     pub tester: Id,
     pub unit: Id,
-    pub most: u64,
+    pub max_bytes: u64,
 }
 
 /// What stands before the rows of a report.
@@ -169,7 +169,7 @@ impl Part for Identifiers {
 /// The notice of a page that breaks off, which the style shows where the end of the page is missing; and the end of the
 /// header.
 #[derive(Clone, Copy)]
-pub struct CutNotice;
+struct CutNotice;
 
 impl Part for CutNotice {
     ghost use Rattle.trace_report.specs.Front.{cut_notice};

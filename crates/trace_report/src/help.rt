@@ -65,7 +65,7 @@ impl Part for HelpHeading {
 
 /// Which times are told.
 #[derive(Clone, Copy)]
-pub struct TimesWords;
+struct TimesWords;
 
 impl Part for TimesWords {
     ghost use Rattle.trace_report.specs.Help.{times_words};
@@ -75,7 +75,7 @@ impl Part for TimesWords {
     fn say<S: TextSink>(self, out: &mut S) {
         say(
             out,
-            "Times are in seconds from the first frame of the two identifiers, and those of a message are of its last frame; <i>after</i> is the time from the last frame of the request to the first frame of the reply.</p>\n",
+            "Times are in seconds from the first frame of the two identifiers, and those of a message are of its last frame; <i>after</i> is the time from the last frame of the request to the first frame of the reply, with a minus where the clock of the log went back.</p>\n",
         );
     }
 }
@@ -162,7 +162,7 @@ impl Part for Limits {
             out,
             (
                 "<p>Frames with other identifiers, padding, the interface, and flow control that is in its place mean nothing here. A message of which no frame was recorded leaves no trace, also in a clean recording. ",
-                "Grey letters after the bytes are those same bytes as text.",
+                "Grey letters after the bytes are those same bytes as text, with a dot for each that is no letter, digit or blank, nor one of <code>- . / : _</code>.",
             ),
         );
     }

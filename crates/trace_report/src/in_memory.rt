@@ -21,14 +21,14 @@ pub fn page(
 ) -> Result<CountedText, Fault>
     ensures { MatchResult result (λ counted. IsPageWith (page_title style.now name.now config.now) MESSAGE_LIMIT config.now log.now counted.text.items counted.summary) (IsUnread NeedsMemoryForPage MESSAGE_LIMIT config.now log.now) }
 {
-    let mut writer = Writing::new(Vec::new(alloc));
+    let mut target = Writing::new(Vec::new(alloc));
     let answer = report(
         alloc,
         config,
         style,
         name,
         &mut Bytes::new(log),
-        &mut writer,
+        &mut target,
     );
-    counted_text(answer, writer.into_inner())
+    counted_text(answer, target.into_inner())
 }

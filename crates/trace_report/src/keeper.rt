@@ -17,8 +17,8 @@ use crate::follower::{Follower, NewRows};
 use crate::kept_rows::KeptRows;
 use crate::row::SessionRow;
 use crate::session::KeptSession;
+use crate::sessions::KeptSessions;
 use crate::times::{Times, times_with};
-use crate::two::Two;
 use isotp_receive::Pair;
 use std::alloc::{AllocError, Global};
 use trace_io::{Source, TextSink};
@@ -32,7 +32,7 @@ pub fn keep_two<A: Source, B: Source>(
     config: &Config,
     left: &mut A,
     right: &mut B,
-) -> Result<Two, CompareFault>
+) -> Result<KeptSessions, CompareFault>
     requires left { HasLowCounts A.Source left.old }
     requires right { HasLowCounts B.Source right.old }
 
@@ -62,25 +62,29 @@ pub fn keep_two<A: Source, B: Source>(
     ensures right_read { ReadFrom B.Source (CompareFault.Right Fault.Read) config.now.max_bytes result right.old right.new }
     ensures never_write { IfErr result (λ fault. fault_in fault ≢ Fault.Write) }
 {
-    let left = match keep(alloc, config, left) {
+    let left = match keep_session(alloc, config, left) {
         Ok(session) => session,
         Err(fault) => return Err(CompareFault::Left(fault)),
     };
-    let right = match keep(alloc, config, right) {
+    let right = match keep_session(alloc, config, right) {
         Ok(session) => session,
         Err(fault) => return Err(CompareFault::Right(fault)),
     };
-    Ok(Two::of(left, right))
+    Ok(KeptSessions::of(left, right))
 }
 
 /// Reads a log, and answers what it says.
-fn keep<R: Source>(alloc: Global, config: &Config, reader: &mut R) -> Result<KeptSession, Fault>
-    requires reader { HasLowCounts R.Source reader.old }
-    ensures answer { (log : List ℕ) → AgreesWith R.Source reader.old reader.new log → KeepsOne MESSAGE_LIMIT config.now log result }
-    ensures near { (log : List ℕ) → AgreesWith R.Source reader.old reader.new log
-        → ReadsWhile (HasNoBadPlaceWithin log) (bytes_given R.Source reader.old reader.new) (R.failures reader.old) (R.failures reader.new) }
-    ensures memory { (log : List ℕ) → AgreesWith R.Source reader.old reader.new log → result ≡ Err Fault.Memory → HasOwnFrame config.now log }
-    ensures read { ReadFrom R.Source Fault.Read config.now.max_bytes result reader.old reader.new }
+fn keep_session<R: Source>(
+    alloc: Global,
+    config: &Config,
+    source: &mut R,
+) -> Result<KeptSession, Fault>
+    requires source { HasLowCounts R.Source source.old }
+    ensures answer { (log : List ℕ) → AgreesWith R.Source source.old source.new log → KeepsOne MESSAGE_LIMIT config.now log result }
+    ensures near { (log : List ℕ) → AgreesWith R.Source source.old source.new log
+        → ReadsWhile (HasNoBadPlaceWithin log) (bytes_given R.Source source.old source.new) (R.failures source.old) (R.failures source.new) }
+    ensures memory { (log : List ℕ) → AgreesWith R.Source source.old source.new log → result ≡ Err Fault.Memory → HasOwnFrame config.now log }
+    ensures read { ReadFrom R.Source Fault.Read config.now.max_bytes result source.old source.new }
     ensures never_write { IfErr result (λ fault. fault ≢ Fault.Write) }
 {
     let machine = Keeper {
@@ -88,7 +92,7 @@ fn keep<R: Source>(alloc: Global, config: &Config, reader: &mut R) -> Result<Kep
         follower: Follower::start(),
         rows: KeptRows::new(alloc),
     };
-    match run(alloc, config, machine, reader, &mut Nowhere::new()) {
+    match run(alloc, config, machine, source, &mut Nowhere::new()) {
         Ok(heard) => match finished(heard) {
             Ok(session) => Ok(session),
             Err(_refused) => Err(Fault::Memory),

@@ -7,11 +7,11 @@ ghost use Rattle.trace_report.specs.Sorts.{counts_in};
 ghost use Rattle.trace_report.specs.proving.Keeping.{IsLaid, rows_at};
 ghost use Rattle.trace_report.specs.proving.Keeping as Keeping;
 
-use crate::counts::SortCounts;
 use crate::item_places::{ItemPlace, note_row};
 use crate::items::{PlacedItem, item_at};
 use crate::row::{Missing, SentMessage, SessionRow};
 use crate::sorts::sort_of;
+use crate::tally::SortCounts;
 use std::alloc::{AllocError, Global};
 use std::fmt::{self, Debug, Formatter, Write};
 use std::marker::Model;
@@ -107,7 +107,7 @@ impl KeptRows {
     }
 
     /// How many items the rows tell.
-    pub fn items(&self) -> usize
+    pub fn item_count(&self) -> usize
         ensures value { result ≡ length (items_in self.now) }
         ensures small { result < 2 ^ 63 }
     {

@@ -1,6 +1,6 @@
 //! What holds of a page, whatever log it is of. A law is its contract; a call does nothing.
 
-ghost use Rattle.trace_report.specs.Laws.{AfterIsFromTheLastFrame, AfterIsToTheFirstFrame, IdentifiersStandOnce, ItemsAreTheMeaning, LettersAreHarmless, LinksHaveTargets, NameIsHarmless, NegativeIsNegative, StyleHoldsNoTag, TimeIsOfTheLastFrame};
+ghost use Rattle.trace_report.specs.Laws.{AfterIsFromTheLastFrame, AfterIsToTheFirstFrame, IdentifiersStandOnce, ItemsAreTheMeaning, LettersAreHarmless, LinksHaveTargets, LooksAreTold, NameIsHarmless, NegativeIsNegative, StyleHoldsNoTag, TimeIsOfTheLastFrame};
 ghost use Rattle.trace_report.specs.Numbers.{LineNumbersArePlaces, RowNumbersArePlaces};
 
 /// The name of a log opens and closes nothing on its page.
@@ -50,4 +50,10 @@ pub fn times_are_as_told()
     ensures time { TimeIsOfTheLastFrame }
     ensures after { AfterIsToTheFirstFrame }
     ensures asked { AfterIsFromTheLastFrame }
+{}
+
+/// A file of another kind that its first bytes tell is told as that kind, whatever follows them: none is taken for another
+/// one.
+pub fn looks_are_told()
+    ensures { LooksAreTold }
 {}

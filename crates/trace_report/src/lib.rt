@@ -11,23 +11,23 @@
 //! [`keep_two`] keeps the rows of both, for `trace_pair`, which sets them side by side and writes their page.
 //!
 //! ```text
-//! event -> Follower -> rows -> Keeper -> Session -> Two
+//! event -> Follower -> rows -> Keeper -> KeptSession -> KeptSessions
 //! ```
 //!
 //! | Part | Files | Definitions |
 //! |---|---|---|
 //! | times and bytes, as rows show them | `durations`, `letters`, `data` | `Durations`, `Letters`, `Data` |
 //! | what a row tells | `targets`, `roles`, `row` | `Targets`, `Roles`, `Rows` |
-//! | what is counted, and where links lead | `sorts`, `tally` | `Sorts`, `Linked` |
-//! | the text of a row | `cells`, `message_rows`, `message_words`, `brief_rows`, `lost_rows`, `loss_words` | `Rows`, `MessageRows`, `BriefRows`, `LostRows` |
+//! | what is counted, and where links lead | `counting`, `sorts`, `tally` | `Sorts`, `Linked` |
+//! | the text of a row | `cells`, `message_rows`, `message_words`, `brief_rows`, `missing_rows`, `missing_words` | `Rows`, `MessageRows`, `BriefRows`, `MissingRows` |
 //! | the chart: rows one after another, in blocks that fold | `blocks`, `block_fronts`, `chart` | `Blocks`, `Chart` |
-//! | the rows of a frame, by what the frames before it were | `follower`, `places`, `frames`, `times` | `Events` |
+//! | the rows of a frame, by what the frames before it were | `follower`, `extents`, `frames`, `times` | `Events` |
 //! | the verdict of a log | `verdict_head`, `verdict`, `links`, `counts`, `reasons` | `Links`, `Counts`, `Verdict` |
 //! | why a log is refused | `looks`, `first_bytes`, `cause`, `refusal` | `Looks`, `Causes`, `Verdict` |
-//! | what stands before the rows and behind them | `style`, `front`, `log_names`, `help` | `Style`, `Front`, `Help` |
+//! | what stands before the rows and behind them | `style`, `log_names`, `front`, `help` | `Style`, `LogNames`, `Front`, `Help` |
 //! | [`report`] | `reporter` | `Page` |
 //! | the items of a session, by its rows | `kept_rows`, `item_places`, `items` | `Items` |
-//! | [`keep_two`], [`KeptSession`], [`Two`] | `keeper`, `session`, `two` | `Session`, `Kept` |
+//! | [`keep_two`], [`KeptSession`], [`KeptSessions`] | `keeper`, `session`, `sessions` | `Session`, `Kept` |
 //! | the page of a log in memory, with the counts | [`in_memory`] | `InMemory` |
 //! | what holds of each page | [`laws`] | `Numbers`, `Laws` |
 #![tactic(auto)]
@@ -38,9 +38,11 @@ mod brief_rows;
 mod cause;
 mod cells;
 mod chart;
+mod counting;
 mod counts;
 mod data;
 mod durations;
+mod extents;
 mod first_bytes;
 mod follower;
 mod frames;
@@ -56,52 +58,51 @@ mod letters;
 mod links;
 mod log_names;
 mod looks;
-mod loss_words;
-mod lost_rows;
 mod message_rows;
 mod message_words;
-mod places;
+mod missing_rows;
+mod missing_words;
 mod reasons;
 mod refusal;
 mod reporter;
 mod roles;
 mod row;
 mod session;
+mod sessions;
 mod sorts;
 mod style;
 mod tally;
 mod targets;
 mod times;
-mod two;
 mod verdict;
 mod verdict_head;
 
-pub use block_fronts::ChartHead;
-pub use cause::{CauseLine, CauseOf, CauseRow, RefusalCause, cause_of, row_of_cause};
+pub use blocks::begins_exchange;
+pub use cause::{CauseLine, RefusalCause, RefusalCauseText, cause_of};
 pub use cells::{CellEnd, CellFront};
-pub use counts::{Counts, SortCounts};
+pub use counts::Counts;
 pub use data::{BytesApart, Data, MoreWords};
 pub use durations::Seconds;
-pub use first_bytes::look_told;
-pub use front::{CutNotice, Identifiers, PageStart, Shapes};
-pub use help::{HelpHeading, Legend, Limits, Tail, TimesWords};
+pub use front::{Identifiers, PageStart, Shapes};
+pub use help::{HelpHeading, Legend, Limits, Tail};
 pub use items::{PlacedItem, RowMessage};
 pub use keeper::keep_two;
 pub use kept_rows::KeptRows;
 pub use letters::{has_word, shown_byte};
 pub use log_names::Name;
 pub use looks::Look;
-pub use loss_words::{DroppedWords, EndedWords, UnfinishedWords};
-pub use lost_rows::say_missing_row;
 pub use message_rows::{MessageFront, NamedLines};
 pub use message_words::{FurtherNote, Note, RoleWords};
+pub use missing_rows::say_missing_row;
+pub use missing_words::{DroppedWords, EndedWords, UnfinishedWords};
 pub use reasons::UncleanReasons;
 pub use refusal::Refusal;
 pub use reporter::report;
 pub use roles::{MessageRole, asked_at, begins_item, is_answer_role, is_request_role};
 pub use row::{Arrow, MessagePlace, Missing, SentMessage, SessionRow};
 pub use session::KeptSession;
+pub use sessions::KeptSessions;
 pub use style::report_style;
-pub use two::Two;
+pub use tally::SortCounts;
 pub use verdict::{SpanOf, is_called_clean};
 pub use verdict_head::VerdictHead;

@@ -2,13 +2,11 @@
 ghost use Rattle.std.specs.Prelude.{◌≡◌};
 ghost use Rattle.trace_report.specs.Links as Spec;
 
-use crate::counts::SortCounts;
-use crate::tally::{MOST_LINKS, Tally, Targets};
+use crate::tally::{MOST_LINKS, SortCounts, Tally, Targets};
 use crate::targets::LinkTarget;
-use direction::Dir;
 use text_parts::{Part, say};
 use trace_io::TextSink;
-use trace_text::Number;
+use trace_text::{Number, Sender};
 
 /// What needs attention, where something does, by its sort.
 #[derive(Clone, Copy)]
@@ -127,17 +125,25 @@ impl Part for LinkTo {
     ghost text = { λ link. link_text link.0 };
 
     fn say<S: TextSink>(self, out: &mut S) {
+        let place = self.0;
+        say(out, ("<a href=\"#", place, "\">", LinkWords(place), "</a>"));
+    }
+}
+
+/// How a link to a place is called.
+#[derive(Clone, Copy)]
+struct LinkWords(LinkTarget);
+
+impl Part for LinkWords {
+    ghost use Rattle.trace_report.specs.Links.{link_words};
+
+    ghost text = { λ words. link_words words.0 };
+
+    fn say<S: TextSink>(self, out: &mut S) {
         match self.0 {
-            LinkTarget::Item(number) => {
-                let number = Number(number);
-                say(out, ("<a href=\"#i", number, "\">item ", number, "</a>"));
-            }
-            LinkTarget::Line(number) => {
-                let number = Number(number);
-                say(out, ("<a href=\"#l", number, "\">line ", number, "</a>"));
-            }
-            LinkTarget::Side(Dir::Tester) => say(out, "<a href=\"#et\">of the tester</a>"),
-            LinkTarget::Side(Dir::Unit) => say(out, "<a href=\"#eu\">of the unit</a>"),
+            LinkTarget::Item(number) => say(out, ("item ", Number(number))),
+            LinkTarget::Line(number) => say(out, ("line ", Number(number))),
+            LinkTarget::Side(dir) => say(out, ("of the ", Sender(dir))),
         }
     }
 }

@@ -8,7 +8,7 @@ use trace_text::Byte;
 pub struct Name<'a>(pub &'a [u8]);
 
 impl<'a> Part for Name<'a> {
-    ghost use Rattle.trace_report.specs.Front.{name_text};
+    ghost use Rattle.trace_report.specs.LogNames.{name_text};
 
     ghost text = { λ name. name_text name.0.now };
 
@@ -24,7 +24,7 @@ impl<'a> Part for Name<'a> {
 struct NameByte(u8);
 
 impl Part for NameByte {
-    ghost use Rattle.trace_report.specs.Front.{name_byte};
+    ghost use Rattle.trace_report.specs.LogNames.{name_byte};
 
     ghost text = { λ byte. name_byte byte.0 };
 
@@ -45,7 +45,7 @@ impl Part for NameByte {
 struct PlainByte(u8);
 
 impl Part for PlainByte {
-    ghost use Rattle.trace_report.specs.Front.{plain_byte};
+    ghost use Rattle.trace_report.specs.LogNames.{plain_byte};
 
     ghost text = { λ byte. plain_byte byte.0 };
 

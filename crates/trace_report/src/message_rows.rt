@@ -1,12 +1,15 @@
 //! The rows of a report that tell messages.
+ghost use Rattle.std.specs.Prelude.{◌≡◌, ◌&&◌};
 ghost use Rattle.trace_report.specs.MessageRows.{message_row};
+ghost use Rattle.trace_report.specs.Roles.{begins_item};
 
-use crate::cells::{CellEnd, CellFront};
+use crate::cells::{CellEnd, CellFront, RowFront};
 use crate::data::Data;
 use crate::durations::Seconds;
 use crate::message_words::{Note, RoleWords};
 use crate::roles::{MessageRole, begins_item};
 use crate::row::{Arrow, MessagePlace, SentMessage};
+use crate::targets::{LinkTarget, target_if};
 use text_parts::{Either, Part, say};
 use trace_io::TextSink;
 use trace_text::Number;
@@ -60,24 +63,27 @@ impl Part for MessageFront {
             role,
             place,
         } = self;
-        let item = ItemCell {
-            linked,
-            role,
-            number: place.item,
-        };
+        let begins = begins_item(role);
+        let is_place = is_item_place(linked, role);
+        let number = Number(place.item);
         say(
             out,
-            (
-                "<tr class=\"",
-                RoleClass(role),
-                item,
-                "<td>",
-                Lines(place.first.line, place.last.line),
-                "<td>",
-                Seconds(origin, place.last.micros),
-            ),
+            RowFront {
+                class: RoleClass(role),
+                target: target_if(is_place, LinkTarget::Item(place.item)),
+                item: Either(begins, ("<th scope=\"row\">", number), ("<td>", number)),
+                lines: Lines(place.first.line, place.last.line),
+                time: Seconds(origin, place.last.micros),
+            },
         );
     }
+}
+
+/// Whether links lead to the row of a message of this role as to its item.
+fn is_item_place(linked: bool, role: MessageRole) -> bool
+    ensures { result ≡ (linked && begins_item role) }
+{
+    linked && begins_item(role)
 }
 
 /// The class of the style by which a message is shown. The other rows have some, too:
@@ -106,31 +112,6 @@ impl Part for RoleClass {
             MessageRole::Pending { .. } => say(out, "p"),
             MessageRole::KeepAlive => say(out, "p"),
             MessageRole::Stray => say(out, "s"),
-        }
-    }
-}
-
-/// The number of an item: the header of its row, to which links lead or not, or repeated.
-#[derive(Clone, Copy)]
-struct ItemCell {
-    linked: bool,
-    role: MessageRole,
-    number: u64,
-}
-
-impl Part for ItemCell {
-    ghost use Rattle.trace_report.specs.MessageRows.{item_cell};
-
-    ghost text = { λ cell. item_cell cell.linked cell.role cell.number };
-
-    fn say<S: TextSink>(self, out: &mut S) {
-        let number = Number(self.number);
-        if !begins_item(self.role) {
-            say(out, ("\"><td>", number));
-        } else if self.linked {
-            say(out, ("\" id=\"i", number, "\"><th scope=\"row\">", number));
-        } else {
-            say(out, ("\"><th scope=\"row\">", number));
         }
     }
 }

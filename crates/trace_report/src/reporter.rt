@@ -37,18 +37,18 @@ pub fn report<R: Source, W: Target>(
     config: &Config,
     style: &str,
     name: &[u8],
-    reader: &mut R,
-    writer: &mut W,
+    source: &mut R,
+    target: &mut W,
 ) -> Result<Summary, Fault>
-    requires reader { HasLowCounts R.Source reader.old }
-    requires writer { IsLowCount (W.failures writer.old) }
+    requires source { HasLowCounts R.Source source.old }
+    requires target { IsLowCount (W.failures target.old) }
 
     // What is answered and written; that it is written before more is read; and what was done with the devices.
     ensures ran { RanLenient R.Source W.Target
         (command (report_script (page_title style.now name.now config.now) MESSAGE_LIMIT)
-        (refused_text (page_title style.now name.now config.now) MESSAGE_LIMIT (glimpse_of R.Source reader.new))
+        (refused_text (page_title style.now name.now config.now) MESSAGE_LIMIT (glimpse_of R.Source source.new))
         answers_counts needs_none)
-        config.now reader.old writer.old result reader.new writer.new }
+        config.now source.old target.old result source.new target.new }
 {
     let machine = Reporter {
         title: PageTitle {
@@ -56,13 +56,13 @@ pub fn report<R: Source, W: Target>(
             name,
             tester: config.tester(),
             unit: config.unit(),
-            most: config.max_bytes(),
+            max_bytes: config.max_bytes(),
         },
         times: None,
         follower: Follower::start(),
         chart: Chart::start(),
     };
-    run_lenient(alloc, config, machine, reader, writer)
+    run_lenient(alloc, config, machine, source, target)
 }
 
 /// Says a page. It keeps no message, and no row.
@@ -151,7 +151,7 @@ impl<'a> Machine for Reporter<'a> {
         say_front_before(&title, times, out);
         let closing = RefusedEnd {
             why,
-            cause: cause_of(why, title.most, glimpse),
+            cause: cause_of(why, title.max_bytes, glimpse),
             blocks: chart.blocks,
             found: Findings {
                 tally: &chart.tally,
@@ -181,9 +181,9 @@ struct PageEnd<'a> {
 
 impl<'a> Part for PageEnd<'a> {
     ghost use Rattle.trace_report.specs.Page.{page_end};
-    ghost use Rattle.trace_report.specs.proving.Lending.{first_of_times, last_of_times};
+    ghost use Rattle.trace_report.specs.proving.Lending.{findings_value};
 
-    ghost text = { λ end. page_end end.blocks end.found.tally.now end.found.summary.now (first_of_times end.found.times) (last_of_times end.found.times) };
+    ghost text = { λ end. page_end end.blocks (findings_value end.found) };
 
     fn say<S: TextSink>(self, out: &mut S) {
         say(
@@ -209,9 +209,9 @@ struct RefusedEnd<'a> {
 
 impl<'a> Part for RefusedEnd<'a> {
     ghost use Rattle.trace_report.specs.Page.{refused_end};
-    ghost use Rattle.trace_report.specs.proving.Lending.{first_of_times, last_of_times};
+    ghost use Rattle.trace_report.specs.proving.Lending.{findings_value};
 
-    ghost text = { λ end. refused_end end.why end.cause end.blocks end.found.tally.now end.found.summary.now (first_of_times end.found.times) (last_of_times end.found.times) };
+    ghost text = { λ end. refused_end end.why end.cause end.blocks (findings_value end.found) };
 
     fn say<S: TextSink>(self, out: &mut S) {
         let verdict = RefusedVerdict {

@@ -54,14 +54,14 @@ impl KeptSession {
     }
 
     /// The time of its first frame; 0 where it has none.
-    pub fn first(&self) -> u64
+    pub fn first_time(&self) -> u64
         ensures { result ≡ self.now.first }
     {
         first_of(self.times)
     }
 
     /// The time of its last frame; 0 where it has none.
-    pub fn last(&self) -> u64
+    pub fn last_time(&self) -> u64
         ensures { result ≡ self.now.last }
     {
         last_of(self.times)

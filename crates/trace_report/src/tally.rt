@@ -1,14 +1,70 @@
 //! What a report keeps of its rows for the verdict.
 ghost use Rattle.std.specs.Prelude.{◌≡◌, ◌<◌, ◌^◌, ◌-◌, List, [], ◌∷◌, ◌++◌, length, take};
 ghost use Rattle.trace_report.specs.Rows.{RowValue, row_of};
-ghost use Rattle.trace_report.specs.Sorts.{first_targets, most_links, tally_of};
-ghost use Rattle.trace_report.specs.proving.Tallying.{first_with};
+ghost use Rattle.trace_report.specs.Sorts.{counts_in, first_targets, most_links, tally_of};
+ghost use Rattle.trace_report.specs.proving.Tallying.{counts_with, first_with};
 
-use crate::counts::SortCounts;
+use crate::counting::one_more;
 use crate::row::SessionRow;
 use crate::sorts::{Sort, sort_of, target_of};
 use crate::targets::LinkTarget;
 use arrayvec::ArrayVec;
+
+/// How many rows there are of each sort.
+#[derive(Clone, Copy, Debug)]
+pub struct SortCounts {
+    pub requests: u64,
+    pub positives: u64,
+    pub negatives: u64,
+    pub unanswered: u64,
+    pub silent: u64,
+    pub pendings: u64,
+    pub keep_alives: u64,
+    pub strays: u64,
+    pub dropped: u64,
+    pub ended: u64,
+    pub unfinished: u64,
+}
+
+impl SortCounts {
+    /// Before the first row.
+    pub(crate) fn start() -> SortCounts
+        ensures { result ≡ counts_in [] }
+    {
+        SortCounts {
+            requests: 0,
+            positives: 0,
+            negatives: 0,
+            unanswered: 0,
+            silent: 0,
+            pendings: 0,
+            keep_alives: 0,
+            strays: 0,
+            dropped: 0,
+            ended: 0,
+            unfinished: 0,
+        }
+    }
+
+    /// Takes a row of this sort.
+    pub(crate) fn take(&mut self, sort: Sort)
+        ensures { self.new ≡ counts_with sort self.old }
+    {
+        match sort {
+            Sort::Requests => self.requests = one_more(self.requests),
+            Sort::Positives => self.positives = one_more(self.positives),
+            Sort::Negatives => self.negatives = one_more(self.negatives),
+            Sort::Pendings => self.pendings = one_more(self.pendings),
+            Sort::KeepAlives => self.keep_alives = one_more(self.keep_alives),
+            Sort::Strays => self.strays = one_more(self.strays),
+            Sort::Unanswered => self.unanswered = one_more(self.unanswered),
+            Sort::Silent => self.silent = one_more(self.silent),
+            Sort::Dropped => self.dropped = one_more(self.dropped),
+            Sort::Ended => self.ended = one_more(self.ended),
+            Sort::Unfinished => self.unfinished = one_more(self.unfinished),
+        }
+    }
+}
 
 /// So many rows of a sort are linked to at the most.
 pub(crate) const MOST_LINKS: u64 = 10;
@@ -47,20 +103,20 @@ impl FirstTargets {
         ensures { self.new ≡ first_with sort target self.old }
     {
         match sort {
-            Sort::Dropped => keep(&mut self.dropped, target),
-            Sort::Ended => keep(&mut self.ended, target),
-            Sort::Unfinished => keep(&mut self.unfinished, target),
-            Sort::Negatives => keep(&mut self.negatives, target),
-            Sort::Unanswered => keep(&mut self.unanswered, target),
-            Sort::Strays => keep(&mut self.strays, target),
+            Sort::Dropped => push_if_room(&mut self.dropped, target),
+            Sort::Ended => push_if_room(&mut self.ended, target),
+            Sort::Unfinished => push_if_room(&mut self.unfinished, target),
+            Sort::Negatives => push_if_room(&mut self.negatives, target),
+            Sort::Unanswered => push_if_room(&mut self.unanswered, target),
+            Sort::Strays => push_if_room(&mut self.strays, target),
             Sort::Requests | Sort::Positives | Sort::Pendings | Sort::KeepAlives | Sort::Silent =>
                 {}
         }
     }
 }
 
-/// Keeps a target behind those before it, if there is room.
-fn keep(first: &mut Targets, target: LinkTarget)
+/// Puts a target behind those before it, if there is room.
+fn push_if_room(first: &mut Targets, target: LinkTarget)
     ensures { first.new.items ≡ take most_links (first.old.items ++ target ∷ []) }
 {
     if !first.is_full() {

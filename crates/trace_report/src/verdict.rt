@@ -4,12 +4,12 @@ ghost use Rattle.std.specs.Prelude.{◌≡◌};
 ghost use Rattle.trace_report.specs.Verdict as Spec;
 
 use crate::cause::RefusalCause;
-use crate::counts::{AnswersOf, Counts};
+use crate::counts::Counts;
 use crate::durations::Seconds;
 use crate::links::Attention;
 use crate::reasons::UncleanReasons;
 use crate::refusal::RefusedHeading;
-use crate::tally::Tally;
+use crate::tally::{SortCounts, Tally};
 use crate::times::{Times, first_of, last_of};
 use crate::verdict_head::VerdictHead;
 use text_parts::{Either, Part, say};
@@ -31,9 +31,9 @@ pub(crate) struct VerdictSection<'a>(pub Findings<'a>);
 
 impl<'a> Part for VerdictSection<'a> {
     ghost use Rattle.trace_report.specs.Verdict.{verdict_text};
-    ghost use Rattle.trace_report.specs.proving.Lending.{first_of_times, last_of_times};
+    ghost use Rattle.trace_report.specs.proving.Lending.{findings_value};
 
-    ghost text = { λ verdict. verdict_text verdict.0.tally.now verdict.0.summary.now (first_of_times verdict.0.times) (last_of_times verdict.0.times) };
+    ghost text = { λ verdict. verdict_text (findings_value verdict.0) };
 
     fn say<S: TextSink>(self, out: &mut S) {
         let found = self.0;
@@ -59,9 +59,9 @@ pub(crate) struct RefusedVerdict<'a> {
 
 impl<'a> Part for RefusedVerdict<'a> {
     ghost use Rattle.trace_report.specs.Verdict.{refused_verdict};
-    ghost use Rattle.trace_report.specs.proving.Lending.{first_of_times, last_of_times};
+    ghost use Rattle.trace_report.specs.proving.Lending.{findings_value};
 
-    ghost text = { λ verdict. refused_verdict verdict.why verdict.cause verdict.found.tally.now verdict.found.summary.now (first_of_times verdict.found.times) (last_of_times verdict.found.times) };
+    ghost text = { λ verdict. refused_verdict verdict.why verdict.cause (findings_value verdict.found) };
 
     fn say<S: TextSink>(self, out: &mut S) {
         say(out, (RefusedHeading(self.why, self.cause), self.found));
@@ -70,9 +70,9 @@ impl<'a> Part for RefusedVerdict<'a> {
 
 impl<'a> Part for Findings<'a> {
     ghost use Rattle.trace_report.specs.Verdict.{findings_text};
-    ghost use Rattle.trace_report.specs.proving.Lending.{first_of_times, last_of_times};
+    ghost use Rattle.trace_report.specs.proving.Lending.{findings_value};
 
-    ghost text = { λ found. findings_text found.tally.now found.summary.now (first_of_times found.times) (last_of_times found.times) };
+    ghost text = { λ found. findings_text (findings_value found) };
 
     fn say<S: TextSink>(self, out: &mut S) {
         let Findings {
@@ -117,7 +117,7 @@ impl<'a> Part for Heading<'a> {
                 ),
             );
         } else {
-            say(out, (StartOf(summary), UncleanReasons(summary)));
+            say(out, (UncleanHeading(summary), UncleanReasons(summary)));
         }
     }
 }
@@ -131,12 +131,12 @@ pub fn is_called_clean(summary: &Summary) -> bool
 
 /// The heading of a log that has no frame of the two sides, or whose sides look exchanged, or that is not clean.
 #[derive(Clone, Copy)]
-struct StartOf<'a>(&'a Summary);
+struct UncleanHeading<'a>(&'a Summary);
 
-impl<'a> Part for StartOf<'a> {
-    ghost use Rattle.trace_report.specs.Verdict.{start_by};
+impl<'a> Part for UncleanHeading<'a> {
+    ghost use Rattle.trace_report.specs.Verdict.{unclean_heading};
 
-    ghost text = { λ start. start_by start.0.now };
+    ghost text = { λ heading. unclean_heading heading.0.now };
 
     fn say<S: TextSink>(self, out: &mut S) {
         let summary = self.0;
@@ -174,6 +174,28 @@ impl<'a> Part for StartWords<'a> {
                 ),
             ),
         );
+    }
+}
+
+/// Whether each answer is positive, where something was asked.
+#[derive(Clone, Copy)]
+struct AnswersOf<'a>(&'a SortCounts);
+
+impl<'a> Part for AnswersOf<'a> {
+    ghost use Rattle.trace_report.specs.Verdict.{answers_of};
+
+    ghost text = { λ answers. answers_of answers.0.now };
+
+    fn say<S: TextSink>(self, out: &mut S) {
+        let counts = self.0;
+        if counts.requests == 0 {
+            return;
+        }
+        if counts.negatives == 0 && counts.unanswered == 0 {
+            say(out, " No answer is negative, and none is missing.");
+        } else {
+            say(out, " Not every request has a positive answer.");
+        }
     }
 }
 

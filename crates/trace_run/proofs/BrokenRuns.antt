@@ -6,10 +6,10 @@ use Rattle.trace_io.specs.declared.device.Target.{Ghosts as TargetGhosts}
 use Rattle.trace_log.specs.declared.fault.Fault.{Fault}
 use Rattle.trace_log.specs.declared.fault.Fault.TheVariants as fault
 use Rattle.trace_log.proofs.Promises.{writes_to_failed_read}
+use Rattle.trace_run.specs.Ran.{command_of}
 use Rattle.trace_run.specs.Script.{GlimpseValue}
 use Rattle.trace_run.specs.declared.machine.Machine.{Ghosts as MachineGhosts}
 use Rattle.trace_run.specs.proving.Carrying.{Carries, blank_page}
-use Rattle.trace_run.specs.proving.Ending.{command_of}
 use Rattle.trace_run.specs.proving.Receiving.{RunState}
 use Rattle.trace_run.proofs.Carryings.{wrote_all, wrote_front}
 use Rattle.trace_run.proofs.Runs.{Begun, Fed, Answers, text, passes, old, each_passes}
@@ -23,7 +23,7 @@ module _ {A M W : Type 0} {machine : MachineGhosts M A} {target : TargetGhosts W
       → answer ≡ fault.Read → new ≡ now.target → Answers begun glimpse log given new answer
   answers_failed_read (meanings, taken, few, inside, (standing, stood)) is same =
       let settings = begun.settings in
-      let so_far = (taken settings begun.first begun.is).1 in
+      let so_far = (taken settings begun.machine_start begun.is).1 in
       let carries =
       subst (λ w. Carries target begun.state.target (text begun meanings) (blank_page false) w) (sym same) so_far.carried in
       subst (Answers begun glimpse log given new) (sym is)
@@ -36,11 +36,11 @@ module _ {A M W : Type 0} {machine : MachineGhosts M A} {target : TargetGhosts W
       → answer ≡ fault.Write → new ≡ now.target → Answers begun glimpse log given new answer
   answers_failed_write (meanings, taken, few, inside, (standing, stood)) is same =
       let settings = begun.settings in
-      let so_far = (taken settings begun.first begun.is).1 in
+      let so_far = (taken settings begun.machine_start begun.is).1 in
       let carries =
       subst (λ w. Carries target begun.state.target (text begun meanings) (blank_page true) w) (sym same) so_far.carried in
       subst (Answers begun glimpse log given new) (sym is)
-      (front_of_read (command_of machine glimpse begun.first) MESSAGE_LIMIT settings log given fault.Read meanings
+      (front_of_read (command_of machine glimpse begun.machine_start) MESSAGE_LIMIT settings log given fault.Read meanings
       (old begun) (target.taken new)
       (writes_to_failed_read (passes begun) (text begun) settings log given meanings [] (text begun meanings)
       (take given log) (drop given log) standing stood (sym (take-append-drop given log)) (each_passes begun meanings so_far.within)

@@ -1,5 +1,6 @@
 -- What is carried since a start: nothing at first, then a text more, and all of it once nothing is left on the page.
-use Rattle.std.proofs.Common.{◌≡◌, ◌<◌, ◌≤◌, ◌^◌, Bool, true, false, List, [], ◌∷◌, ◌++◌, ℕ, length, arith, refl, ap, sym, subst, ◌∙◌, append-nil, append_assoc, length-append}
+use Rattle.std.proofs.Common.{◌≡◌, ◌<◌, ◌≤◌, ◌^◌, Bool, true, false, List, [], ◌∷◌, ◌++◌, ℕ, length, arith, refl, ap, sym}
+use Rattle.std.proofs.Common.{subst, ◌∙◌, append-nil, append_assoc, length-append}
 use Rattle.trace_io.proofs.Promises.{took_no_byte}
 use Rattle.trace_io.specs.Written.{HasFront}
 use Rattle.trace_io.specs.declared.device.Target.{Ghosts}
@@ -7,34 +8,34 @@ use Rattle.trace_run.specs.declared.page.Page.{Page}
 use Rattle.trace_run.specs.proving.Carrying.{Carries, HasCarried, blank_page}
 use Rattle.trace_run.proofs.WrittenFronts.{written_all, front_longer}
 
--- a text that was said, and found room behind what is held
-carried_more : (failed : Bool) (old said text held new : List ℕ) → HasCarried failed old said held new
-    → HasCarried failed old (said ++ text) (held ++ text) new
-carried_more false old said text held new is = record {
+-- a text that was said, and found room behind what is gathered
+carried_more : (failed : Bool) (old said text gathered new : List ℕ) → HasCarried failed old said gathered new
+    → HasCarried failed old (said ++ text) (gathered ++ text) new
+carried_more false old said text gathered new is = record {
   front = is.front;
-  parts = ap (λ x. x ++ text) is.parts ∙ append_assoc is.front held text;
+  parts = ap (λ x. x ++ text) is.parts ∙ append_assoc is.front gathered text;
   wrote = is.wrote;
 }
-carried_more true old said text held new is = front_longer old said text new is
+carried_more true old said text gathered new is = front_longer old said text new is
 
--- where something is held with it, all that was said is something
-some_more : (said text held : List ℕ) → (0 < length held → 0 < length said) → 0 < length (held ++ text)
+-- where something is gathered with it, all that was said is something
+some_more : (said text gathered : List ℕ) → (0 < length gathered → 0 < length said) → 0 < length (gathered ++ text)
     → 0 < length (said ++ text)
 some_more said text [] is some = omega (arith, length-append said text)
-some_more said text (byte ∷ held) is some = omega (arith, is (omega arith), length-append said text)
+some_more said text (byte ∷ gathered) is some = omega (arith, is (omega arith), length-append said text)
 
 -- a page with nothing on it is blank
-pub is_blank : (page : Page) → page.failed ≡ false → page.held ≡ [] → blank_page false ≡ page
-is_blank page well blank = λ i. record { held = sym blank i; failed = sym well i }
+pub is_blank : (page : Page) → page.failed ≡ false → page.gathered ≡ [] → blank_page false ≡ page
+is_blank page well blank = λ i. record { gathered = sym blank i; failed = sym well i }
 
 module _ {W : Type 0} (target : Ghosts W) where
   -- nothing was said to a page with nothing on it
-  pub carries_at_start : (start : W) (page : Page) → target.failures start ≤ 2 ^ 62 → page.failed ≡ false → page.held ≡ []
+  pub carries_at_start : (start : W) (page : Page) → target.failures start ≤ 2 ^ 62 → page.failed ≡ false → page.gathered ≡ []
       → Carries target start [] page start
   carries_at_start start page low well blank =
       subst (λ p. Carries target start [] p start) (is_blank page well blank) (record {
         low = low;
-        held_some = λ some. absurd (omega arith);
+        gathered_some = λ some. absurd (omega arith);
         failed_some = λ is. absurd (cc is);
         still = λ none. refl;
         failures = refl;
@@ -56,24 +57,24 @@ module _ {W : Type 0} (target : Ghosts W) where
   wrote_front start now said false carries =
       record { front = said; rest = []; parts = sym (append-nil said); wrote = wrote_all start now said carries }
 
-  -- a text more was said, and is held behind what was
-  pub held_more : (start now : W) (said text : List ℕ) (page : Page) (held_now : List ℕ) → held_now ≡ page.held ++ text
+  -- a text more was said, and is gathered behind what was
+  pub gathered_more : (start now : W) (said text : List ℕ) (page : Page) (gathered_now : List ℕ) → gathered_now ≡ page.gathered ++ text
       → Carries target start said page now
-      → Carries target start (said ++ text) (record page { held = held_now }) now
-  held_more start now said text page held_now is so_far =
-      subst (λ held. Carries target start (said ++ text) (record page { held = held }) now) (sym is) (record {
+      → Carries target start (said ++ text) (record page { gathered = gathered_now }) now
+  gathered_more start now said text page gathered_now is so_far =
+      subst (λ gathered. Carries target start (said ++ text) (record page { gathered = gathered }) now) (sym is) (record {
         low = so_far.low;
-        held_some = some_more said text page.held so_far.held_some;
+        gathered_some = some_more said text page.gathered so_far.gathered_some;
         failed_some = λ has. omega (arith, so_far.failed_some has, length-append said text);
         still = λ none. so_far.still (omega (arith, none, length-append said text));
         failures = so_far.failures;
         no_empty_write = so_far.no_empty_write;
         flushes = so_far.flushes;
         took = so_far.took;
-        written = carried_more page.failed (target.taken start) said text page.held (target.taken now) so_far.written;
+        written = carried_more page.failed (target.taken start) said text page.gathered (target.taken now) so_far.written;
       })
 
-  -- a text more was said, and nothing of it is held, where writing had failed
+  -- a text more was said, and nothing of it is gathered, where writing had failed
   pub said_in_vain : (start now : W) (said text : List ℕ) (page : Page) → page.failed ≡ true
       → Carries target start said page now
       → Carries target start (said ++ text) page now
@@ -82,7 +83,7 @@ module _ {W : Type 0} (target : Ghosts W) where
       subst (λ b. Carries target start said (record page { failed = b }) now) wrong carries in
       subst (λ b. Carries target start (said ++ text) (record page { failed = b }) now) (sym wrong) (record {
         low = so_far.low;
-        held_some = λ some. omega (arith, so_far.held_some some, length-append said text);
+        gathered_some = λ some. omega (arith, so_far.gathered_some some, length-append said text);
         failed_some = λ is. omega (arith, so_far.failed_some refl, length-append said text);
         still = λ none. so_far.still (omega (arith, none, length-append said text));
         failures = so_far.failures;
@@ -92,7 +93,7 @@ module _ {W : Type 0} (target : Ghosts W) where
         written = front_longer (target.taken start) said text (target.taken now) so_far.written;
       })
 
-  -- what is held is let go, where writing had failed
+  -- what is gathered is let go, where writing had failed
   pub let_go : (start now : W) (said : List ℕ) (page : Page) → page.failed ≡ true → Carries target start said page now
       → Carries target start said (blank_page true) now
   let_go start now said page wrong carries =
@@ -100,7 +101,7 @@ module _ {W : Type 0} (target : Ghosts W) where
       subst (λ b. Carries target start said (record page { failed = b }) now) wrong carries in
       record {
         low = so_far.low;
-        held_some = λ some. absurd (omega arith);
+        gathered_some = λ some. absurd (omega arith);
         failed_some = so_far.failed_some;
         still = so_far.still;
         failures = so_far.failures;

@@ -15,7 +15,7 @@ use Rattle.trace_log.specs.declared.fault.Fault.{Fault}
 use Rattle.trace_log.specs.declared.fault.Fault.TheVariants as fault
 use Rattle.trace_log.specs.declared.summary.Summary.{Summary}
 use Rattle.trace_log.proofs.Promises.{writes_front_of_all}
-use Rattle.trace_run.specs.Ran.{AnswersAndWrites, EndsWith, passing}
+use Rattle.trace_run.specs.Ran.{AnswersAndWrites, EndsWith, command_of, passing}
 use Rattle.trace_run.specs.Script.{GlimpseValue, Script}
 use Rattle.trace_run.specs.declared.machine.Machine.{Ghosts as MachineGhosts}
 use Rattle.trace_run.specs.declared.machine.NoAnswer.{NoAnswer}
@@ -23,7 +23,7 @@ use Rattle.trace_run.specs.declared.machine.NoAnswer.TheVariants as no_answer
 use Rattle.trace_run.specs.declared.page.Page.{Page}
 use Rattle.trace_run.specs.declared.telling.Telling.{Telling}
 use Rattle.trace_run.specs.proving.Carrying.{Carries, Says, Settles, blank_page}
-use Rattle.trace_run.specs.proving.Ending.{EndsAnswering, EndsSaying, command_of, whole_since}
+use Rattle.trace_run.specs.proving.Ending.{EndsAnswering, EndsSaying, whole_since}
 use Rattle.trace_run.specs.proving.Telling.{AreWithin, HasTold, Start, said_since}
 use Rattle.trace_run.proofs.Carryings.{wrote_all, wrote_front}
 use Rattle.trace_run.proofs.DeviceFaults.{wrote_to}

@@ -10,7 +10,7 @@ use Rattle.trace_log.proofs.Promises.{Begins}
 use Rattle.trace_run.specs.Ran.{WritesSaidEagerly}
 use Rattle.trace_run.specs.Script.{GlimpseValue}
 use Rattle.trace_run.specs.declared.machine.Machine.{Ghosts as MachineGhosts}
-use Rattle.trace_run.specs.proving.Carrying.{Carries, blank_page}
+use Rattle.trace_run.specs.proving.Carrying.{Carries, WritesOn, blank_page}
 use Rattle.trace_run.specs.proving.Ending.{EndsAs, GivesUp}
 use Rattle.trace_run.specs.proving.Receiving.{RunState, of_pairs, IsSureOf}
 use Rattle.trace_run.proofs.BrokenRuns.{answers_failed_read, answers_failed_write}
@@ -35,12 +35,10 @@ module _ {A M W : Type 0} {machine : MachineGhosts M A} {target : TargetGhosts W
   pub eagerly : (log : List ℕ) (given : ℕ)
       → WroteBefore (of_pairs (IsSureOf machine target)) (begun.state.receiver, begun.state.target) log given
       (now.receiver, now.target)
-      → (new : W)
-      → ((mid : W) (said : List ℕ) → Carries target mid said now.receiver.telling.page now.target
-      → Begins (target.taken mid) (target.taken new))
+      → (new : W) → WritesOn target now.receiver.telling.page now.target new
       → WritesSaidEagerly (script begun) MESSAGE_LIMIT begun.settings log given (old begun) (target.taken new)
   eagerly log given before new more =
-      let wrote = before.written begun.settings begun.first begun.is in
+      let wrote = before.written begun.settings begun.machine_start begun.is in
       writes_said_eagerly (script begun) begun.settings log given before.front before.rest before.meanings before.standing
       (old begun) (target.taken wrote.mid) (target.taken new)
       before.stands before.parts before.near wrote.within wrote.wrote (more wrote.mid wrote.said wrote.carried)
@@ -49,8 +47,7 @@ module _ {A M W : Type 0} {machine : MachineGhosts M A} {target : TargetGhosts W
     -- only more is written
     pub ends_behind : (why : Fault) → FedSome machine target begun.state (Err why) now
         → GivesUp machine target glimpse why now.receiver now.target answer new
-        → (mid : W) (said : List ℕ) → Carries target mid said now.receiver.telling.page now.target
-        → Begins (target.taken mid) (target.taken new)
+        → WritesOn target now.receiver.telling.page now.target new
     ends_behind (fault.BadLine line column) (meanings, taken) up mid said carries =
         more_at_fault (fault.BadLine line column) answer mid _ new
         (settles_refusal begun now glimpse answer new (fault.BadLine line column) meanings taken up mid said carries)
@@ -96,19 +93,19 @@ module _ {A M W : Type 0} {machine : MachineGhosts M A} {target : TargetGhosts W
     ends_carrying fault.LogLimit (meanings, taken) up =
         ends_written fault.LogLimit _ (λ is. absurd (cc is)) (λ is. absurd (cc is)) (λ apart. apart)
         (refuses_all begun now glimpse answer new fault.LogLimit meanings taken up)
-    ends_carrying (fault.Oversize line announced) (meanings, what, halted) up =
+    ends_carrying (fault.Oversize line announced) (meanings, what, stops) up =
         ends_written (fault.Oversize line announced) (text begun meanings) (λ is. absurd (cc is)) (λ is. absurd (cc is)) (λ apart. apart)
-        (up begun.state.target _ (halted begun.settings begun.first begun.is).stopped.carried)
+        (up begun.state.target _ (stops begun.settings begun.machine_start begun.is).stopped.carried)
     ends_carrying fault.OutputLimit takes up = absurd takes
-    ends_carrying fault.Memory (meanings, what, halted) up =
+    ends_carrying fault.Memory (meanings, what, stops) up =
         ends_written fault.Memory (text begun meanings) (λ is. absurd (cc is)) (λ is. absurd (cc is)) (λ apart. apart)
-        (up begun.state.target _ (halted begun.settings begun.first begun.is).stopped.carried)
+        (up begun.state.target _ (stops begun.settings begun.machine_start begun.is).stopped.carried)
     ends_carrying fault.Read (meanings, taken) up = record {
       said = text begun meanings;
       failed = false;
       carried =
           subst (λ w. Carries target begun.state.target (text begun meanings) (blank_page false) w) (sym up.1)
-          (taken begun.settings begun.first begun.is).1.carried;
+          (taken begun.settings begun.machine_start begun.is).1.carried;
       writing = subst (λ f. f ≢ fault.Write) (sym up.0) (λ is. absurd (cc is));
       reading = up.0;
     }
@@ -117,7 +114,7 @@ module _ {A M W : Type 0} {machine : MachineGhosts M A} {target : TargetGhosts W
       failed = true;
       carried =
           subst (λ w. Carries target begun.state.target (text begun meanings) (blank_page true) w) (sym up.1)
-          (taken begun.settings begun.first begun.is).1.carried;
+          (taken begun.settings begun.machine_start begun.is).1.carried;
       writing = up.0;
       reading = subst (λ f. f ≢ fault.Read) (sym up.0) (λ is. absurd (cc is));
     }
@@ -148,16 +145,16 @@ module _ {A M W : Type 0} {machine : MachineGhosts M A} {target : TargetGhosts W
       pub memory_was_needed : (why : Fault)
           → Fed machine target begun.state begun.settings.max_bytes log given (Err why) now
           → GivesUp machine target glimpse why now.receiver now.target answer new → answer ≡ fault.Memory
-          → HasFrame (λ T e. IsKeptForMessage MESSAGE_LIMIT T e ⊎ machine.needs begun.first T e) begun.settings log
+          → HasFrame (λ T e. IsKeptForMessage MESSAGE_LIMIT T e ⊎ machine.needs begun.machine_start T e) begun.settings log
       memory_was_needed (fault.BadLine line column) (meanings, taken, place) up refused =
           absurd (apart_from_memory (fault.BadLine line column) _ (λ same. absurd (cc same))
           (refuses_all begun now glimpse answer new (fault.BadLine line column) meanings taken up) refused)
       memory_was_needed fault.LogLimit (meanings, taken, long, come, stood) up refused =
           absurd (apart_from_memory fault.LogLimit _ (λ same. absurd (cc same))
           (refuses_all begun now glimpse answer new fault.LogLimit meanings taken up) refused)
-      memory_was_needed (fault.Oversize line announced) (meanings, what, halted, place) up refused =
+      memory_was_needed (fault.Oversize line announced) (meanings, what, stops, place) up refused =
           absurd (apart_from_memory (fault.Oversize line announced) (text begun meanings) (λ same. absurd (cc same))
-          (up begun.state.target _ (halted begun.settings begun.first begun.is).stopped.carried) refused)
+          (up begun.state.target _ (stops begun.settings begun.machine_start begun.is).stopped.carried) refused)
       memory_was_needed fault.OutputLimit read up refused = absurd read
       memory_was_needed fault.Memory read up refused = frame_needed begun now log given read
       memory_was_needed fault.Read read up refused = absurd (cc (up.0, refused))

@@ -8,7 +8,8 @@ use Rattle.trace_log.specs.Needing.{HasFrame, IsKeptForMessage, NeedsMemoryToRec
 use Rattle.trace_log.specs.Settings.{Settings}
 use Rattle.trace_log.specs.Summing.{summary_of}
 use Rattle.trace_run.specs.Script.{Command}
-use Rattle.trace_run.specs.Ran.{AnswersAndWrites, IsReadToEnd, IsUnreadFor, StopsNothingWithin, when_lenient}
+use Rattle.trace_run.specs.Ran.{AnswersAndWrites, CantBeRead, IsReadToEnd, IsUnreadFor, StopsNothingWithin}
+use Rattle.trace_log.specs.ReadAs.{IsReadAs}
 use Rattle.trace_log.specs.Answers.{ReadsWhile}
 use Rattle.trace_log.specs.Refusal.{HasNoBadPlaceWithin}
 use Rattle.trace_log.specs.declared.fault.Fault.{Fault}
@@ -23,7 +24,7 @@ module _ {A : Type 0} (of : Command A) (is_lenient : of.script.strict ≡ false)
     (has_answer : (T : List Entry) (summary : Summary) → of.answers T summary (Err no_answer.OutputLimit) → ⊥) where
   -- where a fault tells why the log can't be read, that is so
   pub unread_for : (limit : ℕ) (settings : Settings) (log : List ℕ) (given : ℕ) (fault : Fault) (old new : List ℕ)
-      → AnswersAndWrites of limit settings log given (Err fault) old new → IsUnreadFor when_lenient limit settings log fault
+      → AnswersAndWrites of limit settings log given (Err fault) old new → CantBeRead settings log fault
   unread_for limit settings log given (BadLine line column) old new (is, wrote) =
       subst (λ strict. IsUnreadFor strict limit settings log (BadLine line column)) is_lenient is
   unread_for limit settings log given (Oversize line announced) old new (is, wrote) =
@@ -42,14 +43,14 @@ module _ {A : Type 0} (of : Command A) (is_lenient : of.script.strict ≡ false)
       → IfErr result (λ why. (line announced : ℕ) → why ≢ Oversize line announced)
   no_oversize settings log given (Ok value) old new answered = tt
   no_oversize settings log given (Err why) old new answered = λ line announced is.
-      subst (IsUnreadFor when_lenient MESSAGE_LIMIT settings log) is (unread_for MESSAGE_LIMIT settings log given why old new answered)
+      subst (CantBeRead settings log) is (unread_for MESSAGE_LIMIT settings log given why old new answered)
 
   -- nor is it the length of the output
   pub no_output_limit : (settings : Settings) (log : List ℕ) (given : ℕ) (result : Result A Fault) (old new : List ℕ)
       → AnswersAndWrites of MESSAGE_LIMIT settings log given result old new → IfErr result (λ why. why ≢ OutputLimit)
   no_output_limit settings log given (Ok value) old new answered = tt
   no_output_limit settings log given (Err why) old new answered = λ is.
-      subst (IsUnreadFor when_lenient MESSAGE_LIMIT settings log) is (unread_for MESSAGE_LIMIT settings log given why old new answered)
+      subst (CantBeRead settings log) is (unread_for MESSAGE_LIMIT settings log given why old new answered)
 
 -- the counts that are answered certify what those of the lines do
 pub certifies : (of : Command Summary) → of.script.strict ≡ false
@@ -60,7 +61,7 @@ pub certifies : (of : Command Summary) → of.script.strict ≡ false
 certifies of is_lenient counts settings log given (Ok summary) old new (all, meanings, is, answered, wrote) =
     let same : summary_of MESSAGE_LIMIT settings log meanings ≡ summary =
     cc (counts (trace settings meanings) (summary_of MESSAGE_LIMIT settings log meanings) (Ok summary) answered) in
-    let read : IsReadToEnd when_lenient MESSAGE_LIMIT settings log meanings =
+    let read : IsReadAs settings log (Ok meanings) =
     subst (λ strict. IsReadToEnd strict MESSAGE_LIMIT settings log meanings) is_lenient is in
     subst (Certifies MESSAGE_LIMIT settings log) same (lines_certify MESSAGE_LIMIT settings log meanings (omega arith) read.1)
 certifies of is_lenient counts settings log given (Err why) old new answered = tt

@@ -1,5 +1,6 @@
 -- What a run answers where memory is refused, and the frame that needed it.
-use Rattle.std.proofs.Common.{◌≡◌, ◌⊎◌, ℕ, ◌<◌, Bool, true, false, List, [], ◌∷◌, ◌++◌, length, arith, refl, ap, sym, subst, ◌∙◌, Option, Err, inl, inr, length-append}
+use Rattle.std.proofs.Common.{◌≡◌, ◌⊎◌, ℕ, ◌<◌, Bool, true, false, List, [], ◌∷◌, ◌++◌, length, arith, refl, ap, sym, subst}
+use Rattle.std.proofs.Common.{◌∙◌, Option, Err, inl, inr, length-append}
 use Rattle.std.specs.List.{AllByRecursion}
 use Rattle.std.specs.Prelude.{min}
 use Rattle.can_log.specs.declared.frame.Stamped.{Stamped}
@@ -31,14 +32,14 @@ module _ {A M W : Type 0} {machine : MachineGhosts M A} {target : TargetGhosts W
     (begun : Begun machine target) (now : RunState M W) (log : List ℕ) (given : ℕ) where
   -- A run stopped on the line that means `what`, behind those that mean this.
   module _ (meanings : List (Option Stamped)) (what : Option Stamped)
-      (halted : HasStoppedAt machine target begun.state meanings what fault.Memory now)
+      (stops : HasStoppedAt machine target begun.state meanings what fault.Memory now)
       (place : StopsWithin begun.settings.max_bytes log given meanings what) where
     -- what is said of the lines before goes on with that line
     goes_on : (more : List ℕ) × (text begun (meanings ++ what ∷ []) ≡ text begun meanings ++ more)
     goes_on =
         let settings = begun.settings in
         let of_frame = (script begun).of_frame in
-        let at = halted settings begun.first begun.is in
+        let at = stops settings begun.machine_start begun.is in
         let T = trace settings meanings in
         let e = entry_in meanings at.stamped at.dir in (
           of_frame T e,
@@ -50,7 +51,7 @@ module _ {A M W : Type 0} {machine : MachineGhosts M A} {target : TargetGhosts W
     had_come : HaveCome (passes begun) true (min given begun.settings.max_bytes) log (meanings ++ what ∷ [])
     had_come =
         let settings = begun.settings in
-        let at = halted settings begun.first begun.is in
+        let at = stops settings begun.machine_start begun.is in
         let next = trace_next settings meanings what at.stamped at.dir at.means at.direction in
         have_come (passes begun) settings log given meanings what place
         (each_passes begun (meanings ++ what ∷ []) (λ strict. subst (AllByRecursion AnnouncesWithin) (sym next)
@@ -81,22 +82,22 @@ module _ {A M W : Type 0} {machine : MachineGhosts M A} {target : TargetGhosts W
       → Fed machine target begun.state begun.settings.max_bytes log given (Err fault.Memory) now
       → SettlesAs target fault.Memory now.receiver.telling.page now.target answer new
       → Answers begun glimpse log given new answer
-  answers_memory glimpse answer new (meanings, what, halted, place) settles =
-      let carried = (halted begun.settings begun.first begun.is).stopped.carried in
+  answers_memory glimpse answer new (meanings, what, stops, place) settles =
+      let carried = (stops begun.settings begun.machine_start begun.is).stopped.carried in
       elim (settles begun.state.target (text begun meanings) carried) [
         | inl well ↦ subst (Answers begun glimpse log given new) (sym well.0)
-            (writes_front meanings what halted place false fault.Memory new refl well.1)
+            (writes_front meanings what stops place false fault.Memory new refl well.1)
         | inr wrong ↦ subst (Answers begun glimpse log given new) (sym wrong.0) (inl (
           front_of_whole (script begun) MESSAGE_LIMIT begun.settings log given fault.Write (old begun) (target.taken new)
-              (writes_front meanings what halted place true fault.Write new refl wrong.1),
-          inl (has_some meanings what halted place (wrong.1.failed_some refl)),
+              (writes_front meanings what stops place true fault.Write new refl wrong.1),
+          inl (has_some meanings what stops place (wrong.1.failed_some refl)),
         ))
       ]
 
   -- the frame at which it was refused needed it
   pub frame_needed : Fed machine target begun.state begun.settings.max_bytes log given (Err fault.Memory) now
-      → HasFrame (λ T e. IsKeptForMessage MESSAGE_LIMIT T e ⊎ machine.needs begun.first T e) begun.settings log
-  frame_needed (meanings, what, halted, place) =
-      let at = halted begun.settings begun.first begun.is in
-      has_frame (λ T e. IsKeptForMessage MESSAGE_LIMIT T e ⊎ machine.needs begun.first T e) begun.settings log given
+      → HasFrame (λ T e. IsKeptForMessage MESSAGE_LIMIT T e ⊎ machine.needs begun.machine_start T e) begun.settings log
+  frame_needed (meanings, what, stops, place) =
+      let at = stops begun.settings begun.machine_start begun.is in
+      has_frame (λ T e. IsKeptForMessage MESSAGE_LIMIT T e ⊎ machine.needs begun.machine_start T e) begun.settings log given
       meanings what at.stamped at.dir place at.means at.direction at.stopped.reason.1

@@ -12,7 +12,7 @@ use Rattle.trace_run.proofs.DeviceFaults.{wrote_to}
 module _ {W : Type 0} (target : Ghosts W) (text : List ℕ) (old new : W) where
   -- said to a page that was blank, and settled
   pub settled_text : (mid : W) (page page_then : Page) (settled : Bool) → target.failures old ≤ 2 ^ 62 → page.failed ≡ false
-      → page.held ≡ []
+      → page.gathered ≡ []
       → Says target page old text page_then mid → Settles target page_then mid settled new
       → Carries target old text (blank_page (not settled)) new
   settled_text mid page page_then settled low well blank speaks settles =

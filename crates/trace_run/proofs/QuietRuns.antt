@@ -3,13 +3,18 @@ use Rattle.std.proofs.Common.{◌≡◌, ◌≢◌, ℕ, List, [], ◌∷◌, �
 use Rattle.std.specs.Result.{IfErr}
 use Rattle.isotp_receive.specs.Trace.{Entry}
 use Rattle.trace_log.specs.declared.fault.Fault.{Fault}
+use Rattle.trace_log.specs.declared.summary.Summary.{Summary}
 use Rattle.trace_log.specs.declared.fault.Fault.TheVariants.{BadLine, Oversize, LogLimit, OutputLimit, Read, Write, Memory}
 use Rattle.trace_log.specs.Settings.{Settings}
 use Rattle.trace_log.specs.Summing.{summary_of}
 use Rattle.trace_run.specs.Script.{Script, Answering, Needing, command, says_no_refusal, said_after}
-use Rattle.trace_run.specs.proving.Scripts.{SaysNothing}
 use Rattle.trace_run.specs.Ran.{AnswersAndWrites}
 use Rattle.trace_log.specs.Trace.{trace}
+
+-- A script that says nothing.
+pub record SaysNothing (script : Script) : Type 0 where
+  pub of_frame : (T : List Entry) (e : Entry) → script.of_frame T e ≡ []
+  pub at_the_end : (T : List Entry) (summary : Summary) → script.at_the_end T summary ≡ []
 
 -- where nothing is said of any frame, nothing is of many
 said_of_silent_frames : (of_frame : List Entry → Entry → List ℕ) → ((T : List Entry) (e : Entry) → of_frame T e ≡ [])

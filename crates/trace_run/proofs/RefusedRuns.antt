@@ -8,10 +8,10 @@ use Rattle.trace_log.specs.LinesRead.{AreReadBefore}
 use Rattle.trace_log.specs.declared.fault.Fault.{Fault}
 use Rattle.trace_log.specs.declared.fault.Fault.TheVariants as fault
 use Rattle.trace_log.proofs.Promises.{IsBadBehind, bad_in_front, bad_at_end, read_to_bad, read_to_limit}
-use Rattle.trace_run.specs.Ran.{IsUnreadFor, WritesSaidAndRefusal, is_told}
+use Rattle.trace_run.specs.Ran.{IsUnreadFor, WritesSaidAndRefusal, command_of, is_told}
 use Rattle.trace_run.specs.Script.{GlimpseValue, refusal_of_lines, said_and_refusal_of_lines}
 use Rattle.trace_run.specs.declared.machine.Machine.{Ghosts as MachineGhosts}
-use Rattle.trace_run.specs.proving.Ending.{EndsAs, RefusesSaying, SettlesWith, command_of}
+use Rattle.trace_run.specs.proving.Ending.{EndsAs, RefusesSaying, SettlesWith}
 use Rattle.trace_run.specs.proving.Receiving.{RunState, HasTaken}
 use Rattle.trace_run.proofs.Carryings.{wrote_all, wrote_front}
 use Rattle.trace_run.proofs.Runs.{Begun, Fed, Answers, script, text, passes, old, each_passes}
@@ -23,34 +23,34 @@ module _ {A M W : Type 0} {machine : MachineGhosts M A} {target : TargetGhosts W
   -- what is said of the refusal is written behind what was said before, or that failed
   pub settles_refusal : (why : Fault) (meanings : List (Option Stamped)) → HasTaken machine target begun.state meanings now
       → RefusesSaying machine target glimpse why now.receiver now.target answer new
-      → SettlesWith target (refusal_of_lines (machine.refusal begun.first glimpse) MESSAGE_LIMIT begun.settings why meanings)
+      → SettlesWith target (refusal_of_lines (machine.refusal begun.machine_start glimpse) MESSAGE_LIMIT begun.settings why meanings)
       why now.receiver.telling.page now.target answer new
   settles_refusal why meanings taken up =
-      let so_far = taken begun.settings begun.first begun.is in
-      up begun.first begun.settings meanings so_far.0.lines so_far.1.judged so_far.1.machine_stands
+      let so_far = taken begun.settings begun.machine_start begun.is in
+      up begun.machine_start begun.settings meanings so_far.0.lines so_far.1.judged so_far.1.machine_stands
 
   -- so what is said of all lines and of the refusal is written, or that failed
   pub refuses_all : (why : Fault) (meanings : List (Option Stamped)) → HasTaken machine target begun.state meanings now
       → RefusesSaying machine target glimpse why now.receiver now.target answer new
       → EndsAs target why begun.state.target
-      (said_and_refusal_of_lines (machine.script begun.first) (machine.refusal begun.first glimpse) MESSAGE_LIMIT
+      (said_and_refusal_of_lines (machine.script begun.machine_start) (machine.refusal begun.machine_start glimpse) MESSAGE_LIMIT
       begun.settings why meanings) answer new
   refuses_all why meanings taken up =
       settles_refusal why meanings taken up begun.state.target (text begun meanings)
-      (taken begun.settings begun.first begun.is).1.carried
+      (taken begun.settings begun.machine_start begun.is).1.carried
 
   module _ (log : List ℕ) (given : ℕ) where
     -- the log is refused for this reason, behind these lines
     answers_refusal : (why : Fault) (meanings : List (Option Stamped)) → is_told why ≡ true
         → HasTaken machine target begun.state meanings now
-        → IsUnreadFor (machine.script begun.first).strict MESSAGE_LIMIT begun.settings log why
+        → IsUnreadFor (machine.script begun.machine_start).strict MESSAGE_LIMIT begun.settings log why
         → AreReadBefore (passes begun) begun.settings log given why meanings
         → RefusesSaying machine target glimpse why now.receiver now.target answer new
-        → (WritesSaidAndRefusal (command_of machine glimpse begun.first) MESSAGE_LIMIT begun.settings log given why
+        → (WritesSaidAndRefusal (command_of machine glimpse begun.machine_start) MESSAGE_LIMIT begun.settings log given why
         (old begun) (target.taken new) → Answers begun glimpse log given new why)
         → Answers begun glimpse log given new answer
     answers_refusal why meanings told taken unread read up answers =
-        let of = command_of machine glimpse begun.first in
+        let of = command_of machine glimpse begun.machine_start in
         let all = said_and_refusal_of_lines of.script of.refusal MESSAGE_LIMIT begun.settings why meanings in
         elim (refuses_all why meanings taken up) [
           | inl well ↦ subst (Answers begun glimpse log given new) (sym well.0)
@@ -67,7 +67,7 @@ module _ {A M W : Type 0} {machine : MachineGhosts M A} {target : TargetGhosts W
         → Answers begun glimpse log given new answer
     answers_bad line column bytes meanings bad few come taken up =
         let settings = begun.settings in
-        let passed = each_passes begun meanings (taken settings begun.first begun.is).1.within in
+        let passed = each_passes begun meanings (taken settings begun.machine_start begun.is).1.within in
         let unread = unread_for_place settings log (script begun).strict line column meanings bytes bad few passed in
         answers_refusal (fault.BadLine line column) meanings refl taken unread
         (read_to_bad (passes begun) settings log given meanings passed line column bytes bad few come) up (λ wrote. (unread, wrote))
@@ -92,7 +92,7 @@ module _ {A M W : Type 0} {machine : MachineGhosts M A} {target : TargetGhosts W
         let rest = drop settings.max_bytes log in
         let parts = sym (take-append-drop settings.max_bytes log) in
         let full = length-take-le settings.max_bytes log (omega arith) in
-        let passed = each_passes begun meanings (taken settings begun.first begun.is).1.within in
+        let passed = each_passes begun meanings (taken settings begun.machine_start begun.is).1.within in
         let unread = unread_for_limit settings log (script begun).strict front rest meanings standing stood parts full long passed in
         answers_refusal fault.LogLimit meanings refl taken unread
         (read_to_limit (passes begun) settings log given meanings passed front rest standing stood parts full long come) up

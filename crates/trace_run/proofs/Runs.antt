@@ -11,12 +11,11 @@ use Rattle.trace_log.specs.Settings.{Settings}
 use Rattle.trace_log.specs.Trace.{trace, trace_from}
 use Rattle.trace_log.specs.declared.fault.Fault.{Fault}
 use Rattle.trace_log.specs.proving.Receiving.{IsReceiverStart}
-use Rattle.trace_run.specs.Ran.{AnswersAndWrites, passing}
+use Rattle.trace_run.specs.Ran.{AnswersAndWrites, command_of, passing}
 use Rattle.trace_run.specs.Script.{GlimpseValue, Script, said_of_lines}
 use Rattle.trace_run.specs.declared.machine.Machine.{Ghosts as MachineGhosts}
 use Rattle.trace_run.specs.declared.receiver.Receiver.{Receiver}
 use Rattle.trace_run.specs.declared.telling.Telling.{Telling}
-use Rattle.trace_run.specs.proving.Ending.{command_of}
 use Rattle.trace_run.specs.proving.Receiving.{RunState, of_pairs, stop_of_pairs, IsRunStart}
 use Rattle.trace_run.specs.proving.Receiving.{HasTaken, HasSettled, HasStoppedAt, IsSureOf}
 use Rattle.trace_run.specs.proving.Telling.{AreWithin, HasToldNothing}
@@ -27,26 +26,26 @@ module _ {A M W : Type 0} (machine : MachineGhosts M A) (target : TargetGhosts W
   -- A run that began in this state, with these settings and this machine.
   pub record Begun : Type 0 where
     pub settings : Settings
-    pub first : M
+    pub machine_start : M
     pub state : RunState M W
-    pub is : IsRunStart machine target settings first state
+    pub is : IsRunStart machine target settings machine_start state
 
   -- a run begins with a receiver of the settings, over a telling that has told nothing
-  pub begins_with : (settings : Settings) (first : M) (telling : Telling M) (receiver : Receiver M W) (now : W)
+  pub begins_with : (settings : Settings) (machine_start : M) (telling : Telling M) (receiver : Receiver M W) (now : W)
       → IsReceiverStart settings telling receiver.config receiver.pair receiver.lines receiver.counts receiver.telling
-      → HasToldNothing machine first telling → target.failures now ≤ 2 ^ 62
-      → IsRunStart machine target settings first (record { receiver = receiver; target = now })
-  begins_with settings first telling receiver now starts fresh low = record {
+      → HasToldNothing machine machine_start telling → target.failures now ≤ 2 ^ 62
+      → IsRunStart machine target settings machine_start (record { receiver = receiver; target = now })
+  begins_with settings machine_start telling receiver now starts fresh low = record {
     config = starts.config_is;
     nothing = starts.nothing;
-    fresh = subst (HasToldNothing machine first) (sym starts.taker_is) fresh;
+    fresh = subst (HasToldNothing machine machine_start) (sym starts.taker_is) fresh;
     low = low;
   }
 
   -- it has then taken no line
   pub takes_no_line : (start : RunState M W) → HasTaken machine target start [] start
   unfolding trace_from
-  takes_no_line start settings first begun = (
+  takes_no_line start settings machine_start begun = (
     record {
       config = begun.config;
       lines = record {
@@ -58,7 +57,7 @@ module _ {A M W : Type 0} (machine : MachineGhosts M A) (target : TargetGhosts W
     },
     record {
       judged = begun.fresh.judged;
-      machine_stands = subst (machine.stands first []) (sym begun.fresh.machine_is) begun.fresh.stands_at_start;
+      machine_stands = subst (machine.stands machine_start []) (sym begun.fresh.machine_is) begun.fresh.stands_at_start;
       within = λ strict. tt;
       carried = carries_at_start target start.target start.receiver.telling.page begun.low begun.fresh.well begun.fresh.blank;
     },
@@ -67,7 +66,7 @@ module _ {A M W : Type 0} (machine : MachineGhosts M A) (target : TargetGhosts W
   -- and what is said of none is written
   pub is_sure_of_no_line : (start : RunState M W) → IsSureOf machine target start [] start
   unfolding trace_from
-  is_sure_of_no_line start settings first begun = record {
+  is_sure_of_no_line start settings machine_start begun = record {
     within = λ strict. tt;
     mid = start.target;
     said = [];
@@ -93,15 +92,15 @@ module _ {A M W : Type 0} (machine : MachineGhosts M A) (target : TargetGhosts W
 module _ {A M W : Type 0} {machine : MachineGhosts M A} {target : TargetGhosts W} (begun : Begun machine target) where
   -- what its machine says
   abbrev pub script : Script
-  script = machine.script begun.first
+  script = machine.script begun.machine_start
 
   -- what is said of the frames of lines
   abbrev pub text : List (Option Stamped) → List ℕ
-  text = said_of_lines (machine.script begun.first) begun.settings
+  text = said_of_lines (machine.script begun.machine_start) begun.settings
 
   -- the test that each line passes that does not stop it
   abbrev pub passes : Option Stamped → Bool
-  passes = passing (machine.script begun.first).strict MESSAGE_LIMIT begun.settings
+  passes = passing (machine.script begun.machine_start).strict MESSAGE_LIMIT begun.settings
 
   -- what was written before it
   abbrev pub old : List ℕ
@@ -110,10 +109,10 @@ module _ {A M W : Type 0} {machine : MachineGhosts M A} {target : TargetGhosts W
   -- it answers this fault, and has written what it then writes, where this is seen of its source
   abbrev pub Answers : GlimpseValue → List ℕ → ℕ → W → Fault → Type 0
   Answers glimpse log given new answer =
-      AnswersAndWrites (command_of machine glimpse begun.first) MESSAGE_LIMIT begun.settings log given (Err answer)
+      AnswersAndWrites (command_of machine glimpse begun.machine_start) MESSAGE_LIMIT begun.settings log given (Err answer)
       old (target.taken new)
 
   -- lines pass of which no frame announces a message above the limit
-  pub each_passes : (meanings : List (Option Stamped)) → AreWithin machine begun.first (trace begun.settings meanings)
+  pub each_passes : (meanings : List (Option Stamped)) → AreWithin machine begun.machine_start (trace begun.settings meanings)
       → EachPasses passes meanings
-  each_passes meanings within = all_pass (machine.script begun.first).strict begun.settings meanings within
+  each_passes meanings within = all_pass (machine.script begun.machine_start).strict begun.settings meanings within

@@ -1,5 +1,6 @@
 -- A front of what is said of the lines that were read, or more than was said before.
-use Rattle.std.proofs.Common.{◌-◌, ◌≡◌, ℕ, ◌+◌, ◌<◌, ◌≤◌, Bool, true, false, List, [], ◌∷◌, ◌++◌, length, arith, refl, ap, sym, subst, ◌∙◌, Option, inl, inr, append-nil, append_assoc, length-append}
+use Rattle.std.proofs.Common.{◌-◌, ◌≡◌, ℕ, ◌+◌, ◌<◌, ◌≤◌, Bool, true, false, List, [], ◌∷◌, ◌++◌, length, arith, refl, ap}
+use Rattle.std.proofs.Common.{sym, subst, ◌∙◌, Option, inl, inr, append-nil, append_assoc, length-append}
 use Rattle.std.specs.Prelude.{min}
 use Rattle.std.proofs.Math.Nat.{min-le_left}
 use Rattle.can_log.specs.declared.frame.Stamped.{Stamped}
@@ -22,7 +23,8 @@ use Rattle.can_log.specs.Scanning.{Standing}
 use Rattle.can_log.specs.WholeLog.{StandsAfter}
 use Rattle.trace_log.specs.Answers.{piece_length}
 use Rattle.trace_log.specs.proving.Announcing.{AnnouncesWithin}
-use Rattle.trace_log.proofs.Promises.{read_begins, lines_read_are_there, stands_read, read_more, HaveCome, writes_front, Begins, begins_again, trace_from-append}
+use Rattle.trace_log.proofs.Promises.{read_begins, lines_read_are_there, stands_read, read_more, HaveCome, writes_front}
+use Rattle.trace_log.proofs.Promises.{Begins, begins_again, trace_from-append}
 use Rattle.trace_run.proofs.ToldFrames.{said-append}
 use Rattle.trace_run.proofs.StoppedLines.{all_pass}
 

@@ -19,7 +19,8 @@ use Rattle.isotp_receive.specs.Events.{oversize_in, too_long_in}
 use Rattle.isotp_receive.proofs.Promises.{too_long_is_announced}
 use Rattle.trace_log.specs.Answers.{ReadsWhile}
 use Rattle.trace_log.specs.proving.Announcing.{AnnouncesWithin}
-use Rattle.trace_log.proofs.Promises.{each_within, reads_legal, reads_unrefused, all_taken, IsBadBehind, bad_line, not_refused_at_limit, bad_counts, no_place_counts}
+use Rattle.trace_log.proofs.Promises.{each_within, reads_legal, reads_unrefused, all_taken, IsBadBehind, bad_line}
+use Rattle.trace_log.proofs.Promises.{not_refused_at_limit, bad_counts, no_place_counts}
 use Rattle.trace_log.specs.Refusal.{EachPasses}
 
 -- a frame for which a run stops announces so much, and the run is strict

@@ -17,7 +17,8 @@ use Rattle.trace_run.specs.proving.Telling.{Start, said_since, HasStopped, HasTo
 use Rattle.uds_exchange.specs.Judging.{IsJudgeOf}
 use Rattle.trace_run.specs.Script.{said_after, said_of_frames}
 use Rattle.trace_log.specs.proving.Announcing.{AnnouncesWithin}
-use Rattle.trace_log.proofs.Promises.{each_more, messages_more}
+use Rattle.trace_log.proofs.Promises.{each_more}
+use Rattle.trace_run.proofs.SeenMessages.{messages_next}
 
 -- ---- what is said of one more frame
 
@@ -42,9 +43,7 @@ pub counts_next : (T : List Entry) (e : Entry) (d : Dir) (event : EventValue) (j
     → IsJudgeOf (messages MESSAGE_LIMIT T ++ told_message d event.verdict) judge
     → IsJudgeOf (messages MESSAGE_LIMIT (T ++ e ∷ [])) judge
 counts_next T e d event judge dir_is is counts =
-    subst (λ M. IsJudgeOf M judge)
-    (ap (λ v. messages MESSAGE_LIMIT T ++ told_message d v) (ap (λ (x : EventValue). x.verdict) is)
-    ∙ ap (λ x. messages MESSAGE_LIMIT T ++ told_message x (verdict MESSAGE_LIMIT T e).verdict) (sym dir_is) ∙ sym (messages_more MESSAGE_LIMIT T e)) counts
+    subst (λ M. IsJudgeOf M judge) (sym (messages_next T e d event dir_is is)) counts
 
 -- ---- one more event
 
@@ -93,6 +92,6 @@ module _ {A M W : Type 0} (machine : MachineGhosts M A) (target : TargetGhosts W
 
   -- so it is of a telling with any such page
   pub same_page : (telling : Telling M) (page : Page) (now : W) → HasToldAndWritten machine target start T telling false now
-      → page.failed ≡ false → page.held ≡ [] → HasTold machine target start T (record telling { page = page }) now
+      → page.failed ≡ false → page.gathered ≡ [] → HasTold machine target start T (record telling { page = page }) now
   same_page telling page now tells well blank =
       subst (λ p. HasTold machine target start T (record telling { page = p }) now) (is_blank page well blank) tells

@@ -23,8 +23,9 @@ use Rattle.trace_log.specs.ReadAs.{no_line, too_long, takes_all, IsReadAs}
 use Rattle.trace_log.specs.Devices.{AgreesWith, bytes_given, ReadFrom, WroteTo}
 use Rattle.trace_log.specs.Needing.{HasFrame, IsKeptForMessage, NeedsMemoryToReceive}
 use Rattle.trace_log.specs.Refusal.{announces_within, HasNoBadPlaceWithin, IsNotRefusedWithin}
-use Rattle.trace_run.specs.Script.{Command, Script}
+use Rattle.trace_run.specs.Script.{Command, GlimpseValue, Script, command}
 use Rattle.trace_run.specs.Script.{refusal_of_lines, said_and_refusal_of_lines, said_of_lines, whole_of_lines}
+use Rattle.trace_run.specs.declared.machine.Machine.{Ghosts as MachineGhosts}
 use Rattle.trace_run.specs.declared.machine.NoAnswer.{NoAnswer}
 use Rattle.trace_run.specs.declared.machine.NoAnswer.TheVariants as no_answer
 
@@ -38,10 +39,23 @@ is_told Read = false
 is_told Write = false
 is_told Memory = false
 
--- Whether a command is strict is the first argument of the next four definitions: `when_lenient` where a statement is
--- about commands that are not.
-abbrev pub when_lenient : Bool
-when_lenient = false
+-- the command of a machine that was `machine_start` at the start, where this is seen of the source
+abbrev pub command_of : {A M : Type 0} → MachineGhosts M A → GlimpseValue → M → Command A
+command_of machine glimpse machine_start =
+    command (machine.script machine_start) (machine.refusal machine_start glimpse)
+    (machine.answers machine_start) (machine.needs machine_start)
+
+-- where the fault tells why a log can't be read, that is so: no length that is announced is a reason
+abbrev pub CantBeRead : Settings → List ℕ → Fault → Type 0
+CantBeRead settings log (BadLine line column) = IsReadAs settings log (Err (no_line line column))
+CantBeRead settings log LogLimit = IsReadAs settings log (Err too_long)
+CantBeRead settings log (Oversize line announced) = ⊥
+CantBeRead settings log OutputLimit = ⊥
+CantBeRead settings log Read = ⊤
+CantBeRead settings log Write = ⊤
+CantBeRead settings log Memory = ⊤
+
+-- Whether a command is strict is the first argument of the next four definitions.
 
 -- the test that each line passes that does not stop a run
 abbrev pub passing : Bool → ℕ → Settings → Option Stamped → Bool
@@ -53,16 +67,10 @@ abbrev pub IsReadToEnd : Bool → ℕ → Settings → List ℕ → List (Option
 IsReadToEnd true limit settings log meanings = IsReadWhole limit settings log meanings
 IsReadToEnd false limit settings log meanings = IsReadAs settings log (Ok meanings)
 
--- where the fault tells why the log can't be read to its end, that is so
+-- where the fault tells why a run can't read the log to its end, that is so
 abbrev pub IsUnreadFor : Bool → ℕ → Settings → List ℕ → Fault → Type 0
 IsUnreadFor true limit settings log why = TellsOutcome limit settings log why
-IsUnreadFor false limit settings log (BadLine line column) = IsReadAs settings log (Err (no_line line column))
-IsUnreadFor false limit settings log LogLimit = IsReadAs settings log (Err too_long)
-IsUnreadFor false limit settings log (Oversize line announced) = ⊥
-IsUnreadFor false limit settings log OutputLimit = ⊥
-IsUnreadFor false limit settings log Read = ⊤
-IsUnreadFor false limit settings log Write = ⊤
-IsUnreadFor false limit settings log Memory = ⊤
+IsUnreadFor false limit settings log why = CantBeRead settings log why
 
 -- nothing among the first `count` bytes of the log stops a run
 abbrev pub StopsNothingWithin : Bool → ℕ → Settings → List ℕ → ℕ → Type 0
@@ -107,7 +115,7 @@ module _ (script : Script) (limit : ℕ) (settings : Settings) (log : List ℕ) 
 
 -- What is answered on a log of which so many bytes were given, and written of it, by a command.
 module _ {A : Type 0} (of : Command A) (limit : ℕ) (settings : Settings) (log : List ℕ) (given : ℕ) where
-  -- the fault tells why the log can't be read to its end
+  -- where the fault tells why the run can't read the log to its end, that is so
   abbrev IsUnread : Fault → Type 0
   IsUnread = IsUnreadFor of.script.strict limit settings log
 

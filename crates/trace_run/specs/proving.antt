@@ -5,5 +5,3 @@ pub mod PageSinks
 pub mod Telling
 pub mod Receiving
 pub mod Ending
-pub mod Scripts
-pub mod Completing

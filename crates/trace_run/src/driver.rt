@@ -4,8 +4,8 @@ ghost use Rattle.isotp_receive.specs.Trace.{Entry};
 ghost use Rattle.trace_io.specs.Counted.{IsLowCount};
 ghost use Rattle.trace_log.specs.Devices.{HasLowCounts};
 ghost use Rattle.trace_log.specs.declared.summary.Summary.{Summary as SummaryValue};
-ghost use Rattle.trace_run.specs.Ran.{Ran, RanLenient};
-ghost use Rattle.trace_run.specs.Script.{command, glimpse_of, glimpse_value};
+ghost use Rattle.trace_run.specs.Ran.{Ran, RanLenient, command_of};
+ghost use Rattle.trace_run.specs.Script.{glimpse_of, glimpse_value};
 ghost use Rattle.trace_run.specs.declared.machine.NoAnswer.TheVariants.{OutputLimit};
 ghost use Rattle.trace_run.specs.proving.Ending.{EndsBehind, EndsRun, GivesUp, RefusesSaying, SettlesAs};
 
@@ -32,8 +32,7 @@ pub fn run<M: Machine + Drop, R: Source, W: Target>(
     requires source { HasLowCounts R.Source source.old }
     requires target { IsLowCount (W.failures target.old) }
     ensures ran { Ran R.Source W.Target
-        (command (M.script machine) (M.refusal machine (glimpse_of R.Source source.new))
-        (M.answers machine) (M.needs machine))
+        (command_of M.Machine (glimpse_of R.Source source.new) machine)
         config.now source.old target.old result source.new target.new }
 {
     let pair = Pair::new(alloc);
@@ -58,8 +57,7 @@ pub fn run_lenient<M: Machine + Drop, R: Source, W: Target>(
     requires source { HasLowCounts R.Source source.old }
     requires target { IsLowCount (W.failures target.old) }
     ensures ran { RanLenient R.Source W.Target
-        (command (M.script machine) (M.refusal machine (glimpse_of R.Source source.new))
-        (M.answers machine) (M.needs machine))
+        (command_of M.Machine (glimpse_of R.Source source.new) machine)
         config.now source.old target.old result source.new target.new }
 {
     run(alloc, config, machine, source, target)

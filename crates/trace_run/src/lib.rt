@@ -50,13 +50,13 @@
 //! | a run of one over a log: [`run`], [`run_lenient`] | `driver` | `Ran` |
 //! | the frames received and counted | `receiver` | `Trace`, `Summing` of `trace_log` |
 //! | the messages judged, and the machine told | `telling` | `Seen` |
-//! | its text gathered for few writes | `page`, `held_text` | |
+//! | its text gathered for few writes | `page`, `gathered_text` | |
 //! | a text that is known as a whole, written by such a page: [`print`] | `printer` | `Printed` |
 //! | the target of a machine that says nothing: [`Nowhere`] | `nowhere` | |
 #![tactic(auto)]
 
 mod driver;
-mod held_text;
+mod gathered_text;
 mod machine;
 mod nowhere;
 mod page;

@@ -4,14 +4,14 @@ ghost use Rattle.trace_io.specs.Stream.{Took};
 ghost use Rattle.trace_io.specs.Written.{HasWritten};
 ghost use Rattle.trace_run.specs.proving.Gathering.{HasGathered};
 
-use crate::held_text::{HeldText, PAGE_LENGTH};
+use crate::gathered_text::{GatheredText, PAGE_LENGTH};
 use trace_io::{DeviceFault, MOST_FAILURES, Target, TextSink, write_all};
 
 /// Text that is still to be written, and whether writing has failed: nothing is written from then on. It is a block of
 /// memory, whatever text stands on it, and no page of HTML.
 #[derive(Drop)]
 pub(crate) struct Page {
-    pub held: HeldText,
+    pub gathered: GatheredText,
     pub failed: bool,
 }
 
@@ -22,10 +22,10 @@ impl Page {
     /// A page with nothing on it.
     pub(crate) fn new() -> Page
         ensures well { result.failed ≡ false }
-        ensures blank { result.held ≡ [] }
+        ensures blank { result.gathered ≡ [] }
     {
         Page {
-            held: HeldText::new(),
+            gathered: GatheredText::new(),
             failed: false,
         }
     }
@@ -36,7 +36,7 @@ impl Page {
     fn put<W: Target>(&mut self, target: &mut W, text: &[u8])
         ensures { Says W.Target self.old target.old text.now self.new target.new }
     {
-        if !self.held.try_append(text) {
+        if !self.gathered.try_append(text) {
             self.put_where_full(target, text);
         }
     }
@@ -51,7 +51,7 @@ impl Page {
         if !self.may_write(target) {
             return;
         }
-        if let Err(_fault) = gather(target, &mut self.held, text) {
+        if let Err(_fault) = gather(target, &mut self.gathered, text) {
             self.failed = true;
         }
     }
@@ -61,7 +61,7 @@ impl Page {
     fn put_whole<W: Target>(&mut self, target: &mut W, text: &[u8])
         ensures { Says W.Target self.old target.old text.now self.new target.new }
     {
-        if !self.held.try_append(text) {
+        if !self.gathered.try_append(text) {
             self.put_whole_where_full(target, text);
         }
     }
@@ -82,7 +82,7 @@ impl Page {
     fn put_three<W: Target>(&mut self, target: &mut W, first: &[u8], second: &[u8], third: &[u8])
         ensures { Says W.Target self.old target.old (first.now ++ second.now ++ third.now) self.new target.new }
     {
-        if !self.held.try_append_three(first, second, third) {
+        if !self.gathered.try_append_three(first, second, third) {
             self.put_three_where_full(target, first, second, third);
         }
     }
@@ -101,7 +101,7 @@ impl Page {
     {
         // Where this fails, the page knows that, and writes no text.
         let _ = self.settle(target);
-        if self.held.try_append_three(first, second, third) {
+        if self.gathered.try_append_three(first, second, third) {
             return;
         }
         self.put(target, first);
@@ -113,16 +113,16 @@ impl Page {
     pub(crate) fn settle<W: Target>(&mut self, target: &mut W) -> bool
         ensures settled { Settles W.Target self.old target.old result target.new }
         ensures well { result ≡ true → self.new.failed ≡ false }
-        ensures blank { result ≡ true → self.new.held ≡ [] }
+        ensures blank { result ≡ true → self.new.gathered ≡ [] }
         ensures no_more { SaysNoMore W.Target self.old target.old self.new target.new }
     {
         if !self.may_write(target) {
             return false;
         }
-        if self.held.is_empty() {
+        if self.gathered.is_empty() {
             return true;
         }
-        if let Err(_fault) = write_out(target, &mut self.held) {
+        if let Err(_fault) = write_out(target, &mut self.gathered) {
             self.failed = true;
             return false;
         }
@@ -144,39 +144,43 @@ impl Page {
 
 /// Fills a page, which has no room for the text, with the front of it, writes that, and begins the next one with what
 /// is left. A text that no page has room for is written at once, behind what the page holds.
-fn gather<W: Target>(target: &mut W, held: &mut HeldText, text: &[u8]) -> Result<(), DeviceFault>
+fn gather<W: Target>(
+    target: &mut W,
+    gathered: &mut GatheredText,
+    text: &[u8],
+) -> Result<(), DeviceFault>
     requires { W.failures target.old ≤ 2 ^ 62 }
     ensures failures { MatchResult result
         (λ _. W.failures target.new ≡ W.failures target.old) (λ _. W.failures target.new ≡ W.failures target.old + 1) }
     ensures no_empty_write { W.had_empty_write target.new ≡ W.had_empty_write target.old }
     ensures flushes { W.flushes target.new ≡ W.flushes target.old }
     ensures took { Took (W.taken target.old) (W.taken target.new) (W.contents target.old) (W.contents target.new) }
-    ensures taken { HasGathered result (W.taken target.old) (held.old ++ text.now) (W.taken target.new) held.new }
+    ensures taken { HasGathered result (W.taken target.old) (gathered.old ++ text.now) (W.taken target.new) gathered.new }
 {
     if text.len() > PAGE_LENGTH {
-        write_out(target, held)?;
+        write_out(target, gathered)?;
         return write_all(target, text);
     }
-    let (front, rest) = text.split_at(text.len().min(held.room()));
-    held.append(front);
-    write_out(target, held)?;
-    held.append(rest);
+    let (front, rest) = text.split_at(text.len().min(gathered.room()));
+    gathered.append(front);
+    write_out(target, gathered)?;
+    gathered.append(rest);
     Ok(())
 }
 
-/// Writes the text that is held, and lets it go, whether it was written or not.
-fn write_out<W: Target>(target: &mut W, held: &mut HeldText) -> Result<(), DeviceFault>
+/// Writes the text that is gathered, and lets it go, whether it was written or not.
+fn write_out<W: Target>(target: &mut W, gathered: &mut GatheredText) -> Result<(), DeviceFault>
     requires { W.failures target.old ≤ 2 ^ 62 }
     ensures failures { MatchResult result
         (λ _. W.failures target.new ≡ W.failures target.old) (λ _. W.failures target.new ≡ W.failures target.old + 1) }
     ensures no_empty_write { W.had_empty_write target.new ≡ W.had_empty_write target.old }
     ensures flushes { W.flushes target.new ≡ W.flushes target.old }
     ensures took { Took (W.taken target.old) (W.taken target.new) (W.contents target.old) (W.contents target.new) }
-    ensures taken { HasWritten result (W.taken target.old) held.old (W.taken target.new) }
-    ensures blank { held.new ≡ [] }
+    ensures taken { HasWritten result (W.taken target.old) gathered.old (W.taken target.new) }
+    ensures blank { gathered.new ≡ [] }
 {
-    let result = write_all(target, held.as_slice());
-    held.clear();
+    let result = write_all(target, gathered.as_slice());
+    gathered.clear();
     result
 }
 

@@ -49,7 +49,7 @@ impl<M> Telling<M> {
         ensures machine { result.machine ≡ machine }
         ensures judged { IsJudgeOf [] result.judge }
         ensures well { result.page.failed ≡ false }
-        ensures blank { result.page.held ≡ [] }
+        ensures blank { result.page.gathered ≡ [] }
     {
         Telling {
             machine,

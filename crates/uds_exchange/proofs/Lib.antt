@@ -28,6 +28,8 @@ pub mod PuttingMessages
 pub mod OrdererSteps
 pub mod OwnJudges
 pub mod DecidedOfMore
+pub mod ListPlaces
+pub mod ItemNumbers
 pub mod DeciderSteps
 pub mod PuttingItems
 pub mod InBlocks

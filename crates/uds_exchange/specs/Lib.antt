@@ -10,6 +10,7 @@ pub mod Decider
 pub mod Exchanged
 pub mod OneMessage
 pub mod Judging
+pub mod Numbers
 pub mod Blocks
 pub mod Roles
 pub mod Laws

@@ -3,6 +3,7 @@ pub mod OpenExchange
 pub mod Steps
 pub mod Judging
 pub mod ItemNumbers
+pub mod Becoming
 pub mod Pairing
 pub mod Ordering
 pub mod Deciding

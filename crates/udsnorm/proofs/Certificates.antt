@@ -88,7 +88,7 @@ pub is_certified : (settings : Settings) (log : List ℕ) (session : Session) �
 is_certified settings log session gives clean =
     clean_log_is_recording MESSAGE_LIMIT settings log session.summary (of_accepted settings log gives.accepted session.summary gives.outcome gives.counted) clean
 
--- a log that is held is clean
+-- a log that is kept is clean
 of_held : (settings : Settings) (log : List ℕ) (session : SessionValue) → Keeps.KeepsOne MESSAGE_LIMIT settings log (Ok session) → is_clean session.summary ≡ true → IsCertified MESSAGE_LIMIT settings log
 of_held settings log session (meanings, read, is) = of_told settings log meanings session.summary read.1 (ap (λ (s : SessionValue). Ok s.summary) is)
 

@@ -11,10 +11,9 @@ use Rattle.trace_log.specs.declared.summary.Summary.{Summary}
 use Rattle.trace_io.specs.declared.device.Source.{Ghosts as SourceGhosts}
 use Rattle.trace_io.specs.declared.device.Target.{Ghosts as TargetGhosts}
 use Rattle.trace_io.specs.Counted.{CountedReader}
-use Rattle.udsnorm.specs.Asked.{Did, DidAsked, DidWords, IsDone, IsDoneBy, ToldWords}
+use Rattle.udsnorm.specs.Asked.{Did, DidAsked, DidWords, IsDone, IsDoneBy, ToldWords, nothing_seen}
 use Rattle.udsnorm.specs.Opening.{Saying, opened, two_files}
 use Rattle.udsnorm.specs.Ending.{flushes, has_unclean, is_unclean, status_of_run_of_two}
-use Rattle.trace_report.specs.Page.{nothing_seen}
 use Rattle.trace_run.specs.Script.{GlimpseValue, glimpse_of}
 use Rattle.udsnorm.specs.Commands.{EngineAnswers, PairEngineAnswers}
 use Rattle.udsnorm.specs.declared.commands.Job.TheVariants as job

@@ -12,9 +12,23 @@ pub ran_any : {R W : Type 0} (source : SourceGhosts R) (target : TargetGhosts W)
     → RanBy source target engine settings before old result after new → RanAny source target engine MESSAGE_LIMIT settings before old result after new
 ran_any source target normalises settings before old result after new ran = ran
 ran_any source target (writes text) settings before old result after new ran =
-    record { answer = ran.answer; eager = λ log agrees. tt; memory = ran.memory; near = ran.near; read = ran.read; wrote = ran.wrote }
+    record {
+      answer = ran.answer;
+      eager = λ log agrees. tt;
+      memory = ran.way.memory;
+      near = ran.way.near;
+      read = ran.way.read;
+      wrote = ran.wrote;
+    }
 ran_any source target (finds notation) settings before old result after new ran =
-    record { answer = ran.answer; eager = λ log agrees. tt; memory = ran.memory; near = ran.near; read = ran.read; wrote = ran.wrote }
+    record {
+      answer = ran.answer;
+      eager = λ log agrees. tt;
+      memory = ran.way.memory;
+      near = ran.way.near;
+      read = ran.way.read;
+      wrote = ran.wrote;
+    }
 ran_any source target (runs script needs) settings before old result after new ran =
     record { answer = ran.run.answer; eager = ran.run.eager; memory = ran.run.memory; near = ran.near; read = ran.run.read; wrote = ran.run.wrote }
 ran_any source target (runs_in_style script refusal) settings before old result after new ran = ran

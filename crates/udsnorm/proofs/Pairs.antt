@@ -22,7 +22,7 @@ use Rattle.trace_log.specs.declared.fault.Fault.TheVariants as fault
 use Rattle.trace_io.specs.Written.{HasFront}
 use Rattle.trace_io.specs.declared.device.Source.{Ghosts as SourceGhosts}
 use Rattle.trace_io.specs.declared.device.Target.{Ghosts as TargetGhosts}
-use Rattle.trace_report.specs.Kept.{KeepsTwo, TwoValue}
+use Rattle.trace_report.specs.Kept.{KeepsTwo, KeptSessionsValue}
 use Rattle.trace_pair.specs.Page.{pair_page}
 use Rattle.trace_pair.specs.Titles.{title_for}
 use Rattle.udsnorm.specs.Commands.{ComparesPair, NeedsMemoryForDifference, PagesPair, TextOfCompared, has_text, pair_of}
@@ -31,7 +31,7 @@ use Rattle.udsnorm.specs.Status.{status_of}
 use Rattle.udsnorm.specs.Telling.{WroteText}
 use Rattle.udsnorm.specs.proving.Flushed.{FlushedIf}
 use Rattle.trace_run.specs.Script.{GlimpseValue}
-use Rattle.udsnorm.specs.proving.Pairs.{HasItems, answer_held, answer_of, cause_in, text_of_answer}
+use Rattle.udsnorm.specs.proving.Pairs.{HasItems, answer_kept, answer_of, cause_in, text_of_answer}
 use Rattle.udsnorm.specs.declared.pair_jobs.PairAnswer.{PairAnswer}
 use Rattle.udsnorm.specs.declared.pair_jobs.PairJob.{PairJob}
 use Rattle.udsnorm.specs.declared.pair_jobs.PairJob.TheVariants as pair_job
@@ -61,18 +61,18 @@ needed_for_difference limit settings one other (Err why) some compares = absurd 
 fault_told : (one other : CompareFault) → ◌≡◌ {A = Result PairAnswer CompareFault} (Err one) (Err other) → one ≡ other
 fault_told one other is = cc
 
-fault_kept : (one other : CompareFault) → ◌≡◌ {A = Result TwoValue CompareFault} (Err one) (Err other) → one ≡ other
+fault_kept : (one other : CompareFault) → ◌≡◌ {A = Result KeptSessionsValue CompareFault} (Err one) (Err other) → one ≡ other
 fault_kept one other is = cc
 
 none_told : (pair : PairAnswer) (why : CompareFault) → ◌≡◌ {A = Result PairAnswer CompareFault} (Ok pair) (Err why) → ⊥
 none_told pair why is = cc
 
-none_kept : (held : TwoValue) (why : CompareFault) → ◌≡◌ {A = Result TwoValue CompareFault} (Ok held) (Err why) → ⊥
+none_kept : (held : KeptSessionsValue) (why : CompareFault) → ◌≡◌ {A = Result KeptSessionsValue CompareFault} (Ok held) (Err why) → ⊥
 none_kept held why is = cc
 
--- what was read of logs that are held is told of their answer, too
-read_held : {R : Type 0} (source : SourceGhosts R) (why : CompareFault) (max_bytes : ℕ) (answer : Result TwoValue CompareFault) (before after : R)
-    → ReadFrom source why max_bytes answer before after → ReadFrom source why max_bytes (answer_held answer) before after
+-- what was read of logs that are kept is told of their answer, too
+read_held : {R : Type 0} (source : SourceGhosts R) (why : CompareFault) (max_bytes : ℕ) (answer : Result KeptSessionsValue CompareFault) (before after : R)
+    → ReadFrom source why max_bytes answer before after → ReadFrom source why max_bytes (answer_kept answer) before after
 read_held source why max_bytes (Ok held) before after read = record {
   over = read.over;
   gave = read.gave;
@@ -95,14 +95,14 @@ read_held source why max_bytes (Err fault) before after read = record {
   };
 }
 
-pub read_told : {R : Type 0} (source : SourceGhosts R) (why : CompareFault) (max_bytes : ℕ) (answer : Result TwoValue CompareFault) (told : Result PairAnswer CompareFault) (before after : R)
-    → told ≡ answer_held answer → ReadFrom source why max_bytes answer before after → ReadFrom source why max_bytes told before after
+pub read_told : {R : Type 0} (source : SourceGhosts R) (why : CompareFault) (max_bytes : ℕ) (answer : Result KeptSessionsValue CompareFault) (told : Result PairAnswer CompareFault) (before after : R)
+    → told ≡ answer_kept answer → ReadFrom source why max_bytes answer before after → ReadFrom source why max_bytes told before after
 read_told source why max_bytes answer told before after is read =
     subst (λ (a : Result PairAnswer CompareFault). ReadFrom source why max_bytes a before after) (sym is) (read_held source why max_bytes answer before after read)
 
--- two logs that are held, without what they say, and their page
-pub pages_pair : (style left_name right_name : List ℕ) (left_seen right_seen : GlimpseValue) (strict : Bool) (limit : ℕ) (settings : Settings) (one other : List ℕ) (answer : Result TwoValue CompareFault) → KeepsTwo limit settings one other answer
-    → PagesPair left_name right_name left_seen right_seen strict limit settings one other (answer_held answer)
+-- two logs that are kept, without what they say, and their page
+pub pages_pair : (style left_name right_name : List ℕ) (left_seen right_seen : GlimpseValue) (strict : Bool) (limit : ℕ) (settings : Settings) (one other : List ℕ) (answer : Result KeptSessionsValue CompareFault) → KeepsTwo limit settings one other answer
+    → PagesPair left_name right_name left_seen right_seen strict limit settings one other (answer_kept answer)
     (pair_page (title_for style left_name right_name settings) answer (cause_in answer settings.max_bytes left_seen right_seen))
 pages_pair style left_name right_name left_seen right_seen strict limit settings one other (Ok held) holds = (style, held, holds, refl, refl)
 pages_pair style left_name right_name left_seen right_seen strict limit settings one other (Err why) holds = (style, holds, refl)
@@ -112,7 +112,7 @@ pub fault_compared : (answer : Result Compared CompareFault) (why : CompareFault
 fault_compared (Ok compared) why is = cc
 fault_compared (Err other) why is = cc
 
-pub fault_held : (answer : Result TwoValue CompareFault) (why : CompareFault) → answer_held answer ≡ Err why → answer ≡ Err why
+pub fault_held : (answer : Result KeptSessionsValue CompareFault) (why : CompareFault) → answer_kept answer ≡ Err why → answer ≡ Err why
 fault_held (Ok held) why is = cc
 fault_held (Err other) why is = cc
 
@@ -182,7 +182,7 @@ same_right why is = cc
 four_of_pair : (unclean : Bool) (comparison : Comparison) → ◌≡◌ {A = ℕ} (if unclean then 6 else status_of_comparison comparison) 4 → ⊥
 four_of_pair true comparison four = absurd (omega (arith, four))
 four_of_pair false Same four = absurd (omega (arith, four))
-four_of_pair false (Different item) four = absurd (omega (arith, four))
+four_of_pair false (Different place) four = absurd (omega (arith, four))
 
 -- where the text was written, none of the devices failed but by this answer
 none_failed : (a a_now b b_now w w_now : ℕ) → a_now ≡ a → b_now ≡ b → w_now ≡ w → (a < a_now) ⊎ ((b < b_now) ⊎ (w < w_now)) → ⊥
@@ -221,7 +221,7 @@ device_of_pair strict true (Err (Right why)) status a a_now b b_now w w_now left
 -- 0 is the status of logs that are the same
 pub same_of_zero : (comparison : Comparison) → 0 ≡ status_of_comparison comparison → comparison ≡ Same
 same_of_zero Same zero = refl
-same_of_zero (Different item) zero = absurd (omega (arith, zero))
+same_of_zero (Different place) zero = absurd (omega (arith, zero))
 
 -- such an answer has a text
 has_text_of_pair : (job : PairJob) (strict : Bool) (pair : PairAnswer) → has_unclean strict pair ≡ false → has_text job strict (Ok pair) ≡ true

@@ -13,7 +13,7 @@ use Rattle.trace_io.specs.Counted.{CountedReader}
 use Rattle.trace_io.specs.Written.{HasFront}
 use Rattle.trace_io.specs.declared.device.Source.{Ghosts as SourceGhosts}
 use Rattle.trace_io.specs.declared.device.Target.{Ghosts as TargetGhosts}
-use Rattle.trace_report.specs.Page.{nothing_seen}
+use Rattle.trace_run.specs.Script.{GlimpseValue}
 use Rattle.udsnorm.specs.Commands.{EngineAnswers, PairEngineAnswers}
 use Rattle.udsnorm.specs.FaultLines.{fault_line, one_stream_line, side_line, words_text}
 use Rattle.udsnorm.specs.Ending.{has_unclean, is_unclean}
@@ -152,6 +152,10 @@ pub record IsLogOf {F : Type 0} (says : Saying F → Type 0) (file : SourceGhost
   pub read : CountedReader F
   pub gave : file.given read ≡ log
   pub over : file.is_over read ≡ true
+
+-- a source of which nothing is seen
+abbrev pub nothing_seen : GlimpseValue
+nothing_seen = record { first = []; is_over = false }
 
 -- The output took all that the job writes of this log: the input's where the plan names no file, else that of the file,
 -- or those of both files. Each log is clean where it has to be.

@@ -36,7 +36,7 @@ use Rattle.trace_io.specs.declared.device.Source.{Ghosts as SourceGhosts}
 use Rattle.trace_io.specs.declared.device.Target.{Ghosts as TargetGhosts}
 use Rattle.trace_difference.specs.Written.{difference_text}
 use Rattle.trace_report.specs.Front.{page_title}
-use Rattle.trace_report.specs.Kept.{HasOwnFrame, KeepsTwo, TwoValue}
+use Rattle.trace_report.specs.Kept.{HasOwnFrame, KeepsTwo, KeptSessionsValue}
 use Rattle.trace_report.specs.Page.{refused_text, report_script}
 use Rattle.trace_pair.specs.Compared.{comparison_in}
 use Rattle.trace_pair.specs.MemoryNeeded.{MeansItem, NeedsMemoryToAlign}
@@ -288,15 +288,15 @@ ComparesPair text strict limit settings one other (Ok pair) written =
     (compared : Compared) × Compares limit settings one other (Ok compared) × (pair ≡ pair_of compared) × (written ≡ text_of_compared strict text compared)
 ComparesPair text strict limit settings one other (Err fault) written = Compares limit settings one other (Err fault) × (written ≡ [])
 
--- what two logs that are held are to each other, without what they say
-abbrev pub pair_held : TwoValue → PairAnswer
-pair_held held = record { comparison = comparison_in held; left = held.left.summary; right = held.right.summary }
+-- what two logs that are kept are to each other, without what they say
+abbrev pub pair_kept : KeptSessionsValue → PairAnswer
+pair_kept held = record { comparison = comparison_in held; left = held.left.summary; right = held.right.summary }
 
 -- what both logs say, and the page of that, in some style, or of a log that is refused, with its cause by what is seen of
 -- both sources
 abbrev pub PagesPair : List ℕ → List ℕ → GlimpseValue → GlimpseValue → Bool → ℕ → Settings → List ℕ → List ℕ → Result PairAnswer CompareFault → List ℕ → Type 0
 PagesPair left_name right_name left_seen right_seen strict limit settings one other (Ok pair) text =
-    (style : List ℕ) × (held : TwoValue) × KeepsTwo limit settings one other (Ok held) × (pair ≡ pair_held held)
+    (style : List ℕ) × (held : KeptSessionsValue) × KeepsTwo limit settings one other (Ok held) × (pair ≡ pair_kept held)
     × (text ≡ page_of (title_for style left_name right_name settings) held.left held.right)
 PagesPair left_name right_name left_seen right_seen strict limit settings one other (Err fault) text =
     (style : List ℕ) × KeepsTwo limit settings one other (Err fault)

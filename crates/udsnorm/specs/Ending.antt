@@ -41,7 +41,7 @@ status_of_run strict (Err fault) = status_of fault
 -- 0 for logs that mean the same, and 1 for others
 abbrev pub status_of_comparison : Comparison → ℕ
 status_of_comparison Same = 0
-status_of_comparison (Different item) = 1
+status_of_comparison (Different place) = 1
 
 -- one of two logs has to be clean, and is not
 abbrev pub has_unclean : Bool → PairAnswer → Bool

@@ -8,7 +8,7 @@ use crate::names::{Behind, LogName};
 use can_log::Id;
 use text_parts::{Part, say};
 use trace_io::TextSink;
-use trace_report::CauseOf;
+use trace_report::RefusalCauseText;
 use trace_text::{Identifier, Number};
 
 /// What is said of a log in which `find` finds no pair, behind its name.
@@ -38,7 +38,7 @@ impl<'a> Part for HintLine<'a> {
             Matter::Foreign { tester, unit } => say(out, ForeignLine(tester, unit, name)),
             Matter::Exchanged { tester, unit } => say(out, ExchangedLine(tester, unit, name)),
             Matter::Empty => say(out, ("hint: ", log, " is empty\n")),
-            Matter::Refused(cause) => say(out, ("hint: ", CauseOf(cause, log), "\n")),
+            Matter::Refused(cause) => say(out, ("hint: ", RefusalCauseText(cause, log), "\n")),
             Matter::Dropped(count) => say(out, DroppedLine(count, name)),
         }
     }

@@ -9,10 +9,10 @@ ghost use Rattle.trace_log.specs.declared.fault.Fault.{Fault as FaultValue};
 ghost use Rattle.trace_io.specs.Counted.{IsLowCount};
 ghost use Rattle.trace_pair.specs.Page.{pair_page};
 ghost use Rattle.trace_pair.specs.Titles.{title_for};
-ghost use Rattle.udsnorm.specs.Commands.{PairEngineAnswers, PairEngineNeedsForLeft, PairEngineNeedsForRight, PairEngineReads, has_text, left_file, pair_held, pair_of, right_file, text_of_difference};
+ghost use Rattle.udsnorm.specs.Commands.{PairEngineAnswers, PairEngineNeedsForLeft, PairEngineNeedsForRight, PairEngineReads, has_text, left_file, pair_kept, pair_of, right_file, text_of_difference};
 ghost use Rattle.udsnorm.specs.Ending.{has_unclean};
 ghost use Rattle.udsnorm.specs.Telling.{WroteText};
-ghost use Rattle.udsnorm.specs.proving.Pairs.{HasItems, answer_held, answer_of, cause_in, text_of_answer};
+ghost use Rattle.udsnorm.specs.proving.Pairs.{HasItems, answer_kept, answer_of, cause_in, text_of_answer};
 ghost use Rattle.trace_report.specs.Causes as Causes;
 ghost use Rattle.trace_run.specs.Script.{glimpse_of};
 
@@ -183,7 +183,7 @@ pub(crate) fn do_pair_job<A: Source, B: Source, W: Target>(
             let answer = align_two(alloc, config, left, right);
             let cause = cause_in(&answer, config.max_bytes(), left, right);
             PairDone {
-                answer: answer_held(&answer),
+                answer: answer_kept(&answer),
                 wrote: write_page(left_name, right_name, config, &answer, cause, out),
             }
         }
@@ -286,19 +286,19 @@ fn write_differing<W: Target>(
     Ok(write_difference(&difference, left, right, notation, out).is_ok())
 }
 
-/// An answer about two logs that are held, without what they say.
-fn answer_held(answer: &Result<Aligned, CompareFault>) -> Result<PairAnswer, CompareFault>
-    ensures { result ≡ answer_held answer.now }
+/// An answer about two logs that are kept, without what they say.
+fn answer_kept(answer: &Result<Aligned, CompareFault>) -> Result<PairAnswer, CompareFault>
+    ensures { result ≡ answer_kept answer.now }
 {
     match answer {
-        Ok(aligned) => Ok(pair_held(aligned)),
+        Ok(aligned) => Ok(pair_kept(aligned)),
         Err(fault) => Err(*fault),
     }
 }
 
-/// What two logs that are held are to each other, without what they say.
-fn pair_held(aligned: &Aligned) -> PairAnswer
-    ensures { result ≡ pair_held aligned.now }
+/// What two logs that are kept are to each other, without what they say.
+fn pair_kept(aligned: &Aligned) -> PairAnswer
+    ensures { result ≡ pair_kept aligned.now }
 {
     let two = aligned.two();
     PairAnswer {
@@ -311,28 +311,28 @@ fn pair_held(aligned: &Aligned) -> PairAnswer
 /// The cause of a refusal of one of two logs with this limit, by what is seen of both sources.
 fn cause_in<A: Source, B: Source>(
     answer: &Result<Aligned, CompareFault>,
-    most: u64,
+    max_bytes: u64,
     left: &A,
     right: &B,
 ) -> Option<RefusalCause>
-    ensures { result ≡ cause_in answer.now most (glimpse_of A.Source left.now) (glimpse_of B.Source right.now) }
+    ensures { result ≡ cause_in answer.now max_bytes (glimpse_of A.Source left.now) (glimpse_of B.Source right.now) }
 {
     match answer {
         Ok(_) => None,
-        Err(CompareFault::Left(why)) => cause_by(*why, most, left),
-        Err(CompareFault::Right(why)) => cause_by(*why, most, right),
+        Err(CompareFault::Left(why)) => cause_by(*why, max_bytes, left),
+        Err(CompareFault::Right(why)) => cause_by(*why, max_bytes, right),
     }
 }
 
 /// The cause of a fault over a log with this limit, by what is seen of its source.
-fn cause_by<R: Source>(why: Fault, most: u64, source: &R) -> Option<RefusalCause>
-    ensures { result ≡ Causes.cause_of why most (glimpse_of R.Source source.now) }
+fn cause_by<R: Source>(why: Fault, max_bytes: u64, source: &R) -> Option<RefusalCause>
+    ensures { result ≡ Causes.cause_of why max_bytes (glimpse_of R.Source source.now) }
 {
     let seen = Glimpse {
         first: source.first(),
         is_over: source.has_ended(),
     };
-    cause_of(why, most, seen)
+    cause_of(why, max_bytes, seen)
 }
 
 /// Writes the page of two logs, which have these names there, where there is one. Answers whether that did not fail.
@@ -346,7 +346,7 @@ fn write_page<W: Target>(
 ) -> bool
     requires { IsLowCount (W.failures out.old) }
     ensures text { (style : List ℕ) × WroteText W.Target (pair_page (title_for style left_name.now right_name.now config.now) answer.now cause) result out.old out.new }
-    ensures left_alone { has_text PairJob.Report false (answer_held answer.now) ≡ false → (result ≡ true) × (out.new ≡ out.old) }
+    ensures left_alone { has_text PairJob.Report false (answer_kept answer.now) ≡ false → (result ≡ true) × (out.new ≡ out.old) }
     ensures flushes { W.flushes out.new ≡ W.flushes out.old }
 {
     let title = Title {

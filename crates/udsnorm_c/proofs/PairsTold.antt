@@ -15,7 +15,7 @@ use Rattle.trace_log.specs.Summing.{is_clean, summary_of}
 use Rattle.trace_log.specs.Trace.{trace}
 use Rattle.trace_log.specs.declared.fault.CompareFault.{CompareFault}
 use Rattle.trace_log.specs.declared.summary.Summary.{Summary}
-use Rattle.trace_report.specs.Kept.{KeepsOne, KeepsTwo, TwoValue}
+use Rattle.trace_report.specs.Kept.{KeepsOne, KeepsTwo, KeptSessionsValue}
 use Rattle.trace_report.specs.Session.{SessionValue, session_of}
 use Rattle.trace_pair.specs.Compared.{comparison_in}
 use Rattle.trace_pair.specs.Laws.{AgreesWithCompare}
@@ -43,10 +43,10 @@ abbrev ComparedSo : Settings → List ℕ → List ℕ → UdsnormAnswer → Typ
 ComparedSo settings left right answer =
     (compared : Compared) × Compares MESSAGE_LIMIT settings left right (Ok compared) × SaysOfTwo settings left right compared.comparison answer
 
--- what is said of two logs that are held
+-- what is said of two logs that are kept
 abbrev HeldSo : Settings → List ℕ → List ℕ → UdsnormAnswer → Type 0
 HeldSo settings left right answer =
-    (held : TwoValue) × KeepsTwo MESSAGE_LIMIT settings left right (Ok held) × SaysOfTwo settings left right (comparison_in held) answer
+    (held : KeptSessionsValue) × KeepsTwo MESSAGE_LIMIT settings left right (Ok held) × SaysOfTwo settings left right (comparison_in held) answer
 
 compared_under : (settings : Settings) (left right : List ℕ) (answer : UdsnormAnswer) (result : Result CountedComparison CompareFault)
     → ComparesWithCounts MESSAGE_LIMIT settings left right result → answer ≡ comparison_answer result
@@ -204,7 +204,7 @@ one_comparison : AgreesWithCompare → (settings : Settings) (left right : List 
 one_comparison agrees settings left right one other is too =
     let of_left = held_log settings left one.left.meaning one.left.summary is.0 in
     let of_right = held_log settings right one.right.meaning one.right.summary is.1 in
-    let held : TwoValue = record { left = of_left.0; right = of_right.0 } in
+    let held : KeptSessionsValue = record { left = of_left.0; right = of_right.0 } in
     sym (agrees settings left right held one (of_left.1, of_right.1) is) ∙ agrees settings left right held other (of_left.1, of_right.1) too
 
 pub diff_agrees : AgreesWithCompare → DiffAgreesWithCompare

@@ -11,7 +11,7 @@ use Rattle.trace_log.specs.declared.fault.Fault.TheVariants.{BadLine, Oversize, 
 use Rattle.trace_log.specs.declared.fault.ConfigFault.{ConfigFault}
 use Rattle.trace_log.specs.declared.fault.ConfigFault.TheVariants.{IdRange, SameId, LimitRange}
 use Rattle.trace_log.specs.declared.summary.Summary.{Summary}
-use Rattle.trace_canon.specs.InMemory.{IsCanonicalLogWith, IsListWith, AreMessageLinesWith, IsExplanationWith, IsFindingWith, IsRefused, IsUnread, NeedsMemoryForCanonicalLog, NeedsMemoryForList, NeedsMemoryForMessageLines, NeedsMemoryForExplanation, NeedsMemoryForCreditLines, ComparesWithCounts}
+use Rattle.trace_canon.specs.InMemory.{IsCanonicalLogWith, IsListWith, AreMessageLinesWith, IsExplanationWith, AreCreditLinesWith, IsRefused, IsUnread, NeedsMemoryForCanonicalLog, NeedsMemoryForList, NeedsMemoryForMessageLines, NeedsMemoryForExplanation, NeedsMemoryForCreditLines, ComparesWithCounts}
 use Rattle.trace_difference.specs.InMemory.{HasNoDifferenceText, IsDifferenceWith}
 use Rattle.trace_difference.specs.declared.in_memory.CountedDifference.{CountedDifference}
 use Rattle.trace_log.specs.Settings.{Settings, Configures}
@@ -194,7 +194,7 @@ ExplainAnswers limit tester unit max_bytes style log old new answer = UnderSetti
 -- the pairs of a log that can be read, or why it can't be; no identifier is asked for
 abbrev pub FindAnswers : ℕ → ℕ → ℕ → List ℕ → List ℕ → List ℕ → UdsnormAnswer → Type 0
 FindAnswers limit max_bytes style log old new answer = UnderSettings 0x7E0 0x7E8 max_bytes
-    (λ settings. Styled (notation_of style) (λ notation. TextAnswers (IsFindingWith notation settings log) (IsUnread (NeedsMemoryForCreditLines notation) limit settings log) old new answer) old new answer)
+    (λ settings. Styled (notation_of style) (λ notation. TextAnswers (AreCreditLinesWith notation settings log) (IsUnread (NeedsMemoryForCreditLines notation) limit settings log) old new answer) old new answer)
     (AnswersRefusal old new answer)
 
 -- how two logs compare, or why one has no meaning

@@ -1,5 +1,5 @@
--- Devices of proof: what is said of a log by its canonical lines, and what holds of it.
-use Rattle.std.specs.Prelude.{◌≡◌, Result, Ok, Err, if◌then◌else◌, ℕ, true, List, [], ◌∷◌, ◌++◌, length, drop}
+-- Devices of proof: what is said of a log by its canonical lines.
+use Rattle.std.specs.Prelude.{◌≡◌, Ok, Err, if◌then◌else◌, ℕ, true, List, [], ◌∷◌, ◌++◌, length, drop}
 use Rattle.direction.specs.Dir.{Message}
 use Rattle.isotp_receive.specs.declared.TheConstants.{MESSAGE_LIMIT}
 use Rattle.isotp_receive.specs.Trace.{Entry}
@@ -8,11 +8,7 @@ use Rattle.isotp_segment.specs.Timed.{all_frames}
 use Rattle.uds_exchange.specs.Order.{early, held}
 use Rattle.uds_exchange.specs.Orderer.{JudgedOrdererValue, judged_orderer_after}
 use Rattle.trace_log.specs.Settings.{Settings}
-use Rattle.trace_run.specs.Script.{Script, Command, Answering, command, says_no_refusal, said_of_frames}
-use Rattle.trace_run.specs.Ran.{AnswersAndWrites, WritesSaidEagerly}
-use Rattle.trace_log.specs.Answers.{Answers}
-use Rattle.trace_canon.specs.MemoryNeeded.{CompletesHeld}
-use Rattle.trace_log.specs.declared.fault.Fault.{Fault}
+use Rattle.trace_run.specs.Script.{Script, Answering}
 use Rattle.trace_run.specs.declared.machine.NoAnswer.TheVariants as no_answer
 use Rattle.trace_log.specs.declared.summary.Summary.{Summary}
 use Rattle.uds_exchange.specs.Meaning.{meaning}
@@ -48,29 +44,7 @@ pub record StandsCanonical (settings : Settings) (T : List Entry) (orderer : Jud
   pub same : config ≡ settings
   pub at : progress ≡ progress_behind settings (early (messages MESSAGE_LIMIT T))
 
--- the lines of the messages of a trace that are early, as far as there is room
-abbrev pub text_of_early : Settings → List Entry → List ℕ
-text_of_early settings T =
-    text_from settings (start_of settings.max_bytes) (all_frames MESSAGE_LIMIT (early (messages MESSAGE_LIMIT T)))
-
--- what this script says of a trace are the lines of its early messages
-abbrev pub CanonicalSaysEarly : Type 0
-CanonicalSaysEarly = (settings : Settings) (T : List Entry)
-    → said_of_frames ((canonical_script settings).of_frame) T ≡ text_of_early settings T
-
 -- the counts are answered where the canonical log is within the limit, and else that it is longer
 abbrev pub answers_canonical : Settings → Answering Summary
 answers_canonical settings T summary result =
     result ≡ (if fits_within settings (meaning (messages MESSAGE_LIMIT T)) then Ok summary else Err no_answer.OutputLimit)
-
--- the command of this script and these answers, which says nothing of a refusal, and keeps held messages
-abbrev pub canonical_command : Settings → Command Summary
-canonical_command settings =
-    command (canonical_script settings) says_no_refusal (answers_canonical settings) (CompletesHeld MESSAGE_LIMIT)
-
--- what a run of this command answers and writes is the canonical log
-abbrev pub CanonicalIsTheSame : Type 0
-CanonicalIsTheSame = (settings : Settings) (log : List ℕ) (given : ℕ) (result : Result Summary Fault) (old new : List ℕ)
-    → AnswersAndWrites (canonical_command settings) MESSAGE_LIMIT settings log given result old new
-    → WritesSaidEagerly (canonical_script settings) MESSAGE_LIMIT settings log given old new
-    → Answers MESSAGE_LIMIT settings log given result old new

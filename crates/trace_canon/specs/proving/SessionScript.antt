@@ -1,17 +1,14 @@
 -- Devices of proof: what is answered with a log's meaning and its counts, where nothing is said of it.
-use Rattle.std.specs.Prelude.{◌≡◌, ℕ, ◌<◌, ◌≤◌, Bool, true, false, List, [], Result, Ok, Err}
+use Rattle.std.specs.Prelude.{◌≡◌, ℕ, ◌<◌, ◌≤◌, Bool, true, false, List, [], Ok, Err}
 use Rattle.isotp_receive.specs.declared.TheConstants.{MESSAGE_LIMIT}
 use Rattle.direction.specs.Dir.{Message}
 use Rattle.uds_exchange.specs.Meaning.{ItemValue, meaning, flattened}
 use Rattle.uds_exchange.specs.declared.step.Step.{Step}
 use Rattle.uds_exchange.specs.declared.step.Step.TheVariants as step
-use Rattle.trace_canon.specs.FirstFrames.{CompletesMessage}
-use Rattle.trace_canon.specs.Sessions.{GivesSession, items_of_trace}
+use Rattle.trace_canon.specs.Sessions.{items_of_trace}
 use Rattle.trace_log.specs.Settings.{Settings}
-use Rattle.trace_run.specs.Script.{Script, Command, Answering, command, says_no_refusal}
-use Rattle.trace_run.specs.Ran.{AnswersAndWrites}
+use Rattle.trace_run.specs.Script.{Script, Answering}
 use Rattle.trace_canon.specs.declared.collector.Session.{Session}
-use Rattle.trace_log.specs.declared.fault.Fault.{Fault}
 use Rattle.trace_run.specs.declared.machine.NoAnswer.TheVariants.{OutputLimit}
 use Rattle.trace_canon.specs.proving.Measuring.{HaveLengths, fits_within}
 
@@ -44,14 +41,3 @@ answers_session settings T summary (Ok session) =
     (session.meaning ≡ items_of_trace MESSAGE_LIMIT T) × (session.summary ≡ summary)
     × (fits_within settings (items_of_trace MESSAGE_LIMIT T) ≡ true)
 answers_session settings T summary (Err OutputLimit) = fits_within settings (items_of_trace MESSAGE_LIMIT T) ≡ false
-
--- the command of this script and these answers, which says nothing of a refusal either, and keeps each message
-abbrev pub silent_command : Settings → Command Session
-silent_command settings =
-    command silent_script says_no_refusal (answers_session settings) (CompletesMessage MESSAGE_LIMIT)
-
--- a run of this command gives the session, or why there is none
-abbrev pub SessionIsTheSame : Type 0
-SessionIsTheSame = (settings : Settings) (log : List ℕ) (given : ℕ) (result : Result Session Fault) (old new : List ℕ)
-    → AnswersAndWrites (silent_command settings) MESSAGE_LIMIT settings log given result old new
-    → GivesSession MESSAGE_LIMIT settings log result

@@ -64,12 +64,12 @@ pub record IsRoomy (at : Standing) (more : ℕ) : Type 0 where
 
 -- what stands before the first row
 abbrev pub at_start : Standing
-at_start = record { folded = 0; context = 0; front = Same; left = 0; right = 0; changes = 0; table = Closed; blocks = 0 }
+at_start = record { folded = 0; still_shown = 0; front = Same; left = 0; right = 0; changes = 0; table = Closed; blocks = 0 }
 
 -- what stands behind a row, but for the table and the fold
 abbrev pub with_row : Row → Standing → Standing
 with_row row at =
-    record at { context = context_behind at.context row; front = row; left = at.left + left_in row; right = at.right + right_in row; changes = changes_with at.front at.changes row }
+    record at { still_shown = context_behind at.still_shown row; front = row; left = at.left + left_in row; right = at.right + right_in row; changes = changes_with at.front at.changes row }
 
 -- what stands behind a row that is seen, in a table
 abbrev pub with_shown : Row → Standing → Standing
@@ -94,7 +94,7 @@ fold_at at count = record { left = at.left; right = at.right; count = count }
 abbrev pub row_or_fold : SessionValue → SessionValue → ℕ → Standing → Row → List Row → List ℕ
 row_or_fold one other all at row rows =
     if nat_lt 0 at.folded then []
-    else if is_shown at.context (row ∷ rows)
+    else if is_shown at.still_shown (row ∷ rows)
     then seen_text one other all at row rows
     else table_end at.table ++ fold_text one other (fold_at at (folded_in (row ∷ rows)))
 
@@ -102,7 +102,7 @@ row_or_fold one other all at row rows =
 abbrev pub standing_behind : Standing → Row → List Row → Standing
 standing_behind at row rows =
     if nat_lt 0 at.folded then with_fold at.folded row at
-    else if is_shown at.context (row ∷ rows) then with_shown row at
+    else if is_shown at.still_shown (row ∷ rows) then with_shown row at
     else with_fold (folded_in (row ∷ rows)) row at
 
 -- the rows from one on, where so much stands before them, and the end of the last table

@@ -1,5 +1,5 @@
 -- Devices of proof: what a report keeps of the frames so far.
-use Rattle.std.specs.Prelude.{◌≡◌, ℕ, ◌+◌, ◌≤◌, ◌^◌, min, Bool, true, false, List, [], ◌∷◌, ◌++◌, length, Option, Some, None, IfSome, if◌then◌else◌}
+use Rattle.std.specs.Prelude.{◌≡◌, ℕ, ◌≤◌, ◌^◌, Bool, true, false, List, [], ◌∷◌, ◌++◌, length, Option, Some, None, IfSome, if◌then◌else◌}
 use Rattle.direction.specs.Dir.{Message}
 use Rattle.direction.specs.declared.Dir.{Dir}
 use Rattle.direction.specs.declared.Dir.TheVariants.{Tester, Unit}
@@ -21,10 +21,10 @@ use Rattle.trace_report.specs.Rows.{RowValue, row_of}
 use Rattle.trace_report.specs.Rows as row
 use Rattle.trace_report.specs.Sorts.{tally_of}
 use Rattle.trace_report.specs.declared.chart.Chart.{Chart}
+use Rattle.trace_report.specs.declared.extents.ReceptionExtents.{ReceptionExtents}
 use Rattle.trace_report.specs.declared.follower.Follower.{Follower}
 use Rattle.trace_report.specs.declared.follower.NewRows.{NewRows}
 use Rattle.trace_report.specs.declared.frames.FrameCounts.{FrameCounts}
-use Rattle.trace_report.specs.declared.places.Places.{Places}
 use Rattle.trace_report.specs.declared.reporter.Reporter.{Reporter}
 use Rattle.trace_report.specs.declared.times.Times.{Times}
 use Rattle.trace_report.specs.declared.row.SessionRow.{SessionRow}
@@ -56,12 +56,12 @@ pub record CountFrames (T : List Entry) (counts : FrameCounts) : Type 0 where
 -- did not end, if one did, and took so many consecutive frames
 abbrev pub frames_with : Option FramePlace → ℕ → ℕ
 frames_with None taken = 1
-frames_with (Some begun) taken = min (taken + 2) 18446744073709551615
+frames_with (Some begun) taken = one_more (one_more taken)
 
 -- where the receptions began that stand after the frames T, and how many frames they took
-pub record KnowsPlaces (T : List Entry) (places : Places) : Type 0 where
-  pub begun : AreStartsAfter MESSAGE_LIMIT T places.begun
-  pub frames : CountFrames T places.frames
+pub record KnowsExtents (T : List Entry) (extents : ReceptionExtents) : Type 0 where
+  pub begun : AreStartsAfter MESSAGE_LIMIT T extents.begun
+  pub frames : CountFrames T extents.frames
 
 -- whether the request that waits after these messages, if one does, asked for no positive answer
 abbrev pub IsSilent : List Message → Bool → Type 0
@@ -85,7 +85,7 @@ MeetsMessage M sent here asked follower =
 -- all that the rows of further frames depend on is known after the frames T
 pub record Follows (T : List Entry) (follower : Follower) : Type 0 where
   pub met : KnowsMessages (messages MESSAGE_LIMIT T) (asked_in MESSAGE_LIMIT T) follower
-  pub places : KnowsPlaces T follower.places
+  pub extents : KnowsExtents T follower.extents
 
 -- the row that is there, if one is
 abbrev pub row_if : Option SessionRow → List RowValue

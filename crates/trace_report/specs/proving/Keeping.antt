@@ -5,7 +5,7 @@ use Rattle.trace_report.specs.Items as Items
 use Rattle.trace_report.specs.Items.{RowMessageValue, PlacedItemValue, items_in, message_in}
 use Rattle.trace_report.specs.Rows.{RowValue, message, no_answer, dropped, ended, unfinished, missing_of}
 use Rattle.trace_report.specs.Sorts.{counts_in}
-use Rattle.trace_report.specs.declared.counts.SortCounts.{SortCounts}
+use Rattle.trace_report.specs.declared.tally.SortCounts.{SortCounts}
 use Rattle.trace_report.specs.declared.item_places.ItemPlace.{ItemPlace}
 use Rattle.trace_report.specs.declared.kept_rows.KeptRow.{KeptRow}
 use Rattle.trace_report.specs.declared.kept_rows.KeptRow.TheVariants as kept

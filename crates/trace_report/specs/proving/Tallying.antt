@@ -3,7 +3,7 @@ use Rattle.std.specs.Prelude.{[], ◌∷◌, ◌++◌, take}
 use Rattle.arrayvec.specs.ArrayVec.{ArrayVec}
 use Rattle.uds_exchange.specs.Judging.{one_more}
 use Rattle.trace_report.specs.Sorts.{most_links}
-use Rattle.trace_report.specs.declared.counts.SortCounts.{SortCounts}
+use Rattle.trace_report.specs.declared.tally.SortCounts.{SortCounts}
 use Rattle.trace_report.specs.declared.sorts.Sort.{Sort}
 use Rattle.trace_report.specs.declared.sorts.Sort.TheVariants as sort
 use Rattle.trace_report.specs.declared.tally.FirstTargets.{FirstTargets}

@@ -5,10 +5,10 @@ use Rattle.trace_io.specs.Written.{HasFront, IsWritten}
 use Rattle.trace_io.specs.declared.device.Target.{Ghosts}
 use Rattle.trace_run.specs.declared.page.Page.{Page}
 
--- all that was said was written but what the page holds; or a front of it, where writing failed
+-- all that was said was written but what is gathered on the page; or a front of it, where writing failed
 abbrev pub HasCarried : Bool → List ℕ → List ℕ → List ℕ → List ℕ → Type 0
-HasCarried false old said held new = IsWritten old said new held
-HasCarried true old said held new = HasFront old said new
+HasCarried false old said gathered new = IsWritten old said new gathered
+HasCarried true old said gathered new = HasFront old said new
 
 -- the count of failures, with one more where writing failed
 abbrev pub failures_with : Bool → ℕ → ℕ
@@ -17,13 +17,13 @@ failures_with true failures = failures + 1
 
 -- a page with nothing on it, where writing failed or not
 abbrev pub blank_page : Bool → Page
-blank_page failed = record { held = []; failed = failed }
+blank_page failed = record { gathered = []; failed = failed }
 
 -- Since this start, this was said to a page, which may hold some of it.
 pub record Carries {W : Type 0} (target : Ghosts W) (start : W) (said : List ℕ) (page : Page) (now : W) : Type 0 where
   pub low : target.failures start ≤ 2 ^ 62
-  -- something was said where something is held, and where writing failed
-  pub held_some : 0 < length page.held → 0 < length said
+  -- something was said where something is gathered, and where writing failed
+  pub gathered_some : 0 < length page.gathered → 0 < length said
   pub failed_some : page.failed ≡ true → 0 < length said
   -- and where nothing was said, the target is as it was
   pub still : length said ≡ 0 → now ≡ start
@@ -31,7 +31,7 @@ pub record Carries {W : Type 0} (target : Ghosts W) (start : W) (said : List ℕ
   pub no_empty_write : target.had_empty_write now ≡ target.had_empty_write start
   pub flushes : target.flushes now ≡ target.flushes start
   pub took : Took (target.taken start) (target.taken now) (target.contents start) (target.contents now)
-  pub written : HasCarried page.failed (target.taken start) said page.held (target.taken now)
+  pub written : HasCarried page.failed (target.taken start) said page.gathered (target.taken now)
 
 -- whatever was said to a page before, this text was said to it after it
 abbrev pub Says : {W : Type 0} → Ghosts W → Page → W → List ℕ → Page → W → Type 0
@@ -42,6 +42,12 @@ Says {W = W} target page old text page_now new =
 abbrev pub Settles : {W : Type 0} → Ghosts W → Page → W → Bool → W → Type 0
 Settles {W = W} target page old result new =
     (start : W) (said : List ℕ) → Carries target start said page old → Carries target start said (blank_page (not result)) new
+
+-- whatever was said to a page before, the target has what it had at any time, and more behind it
+abbrev pub WritesOn : {W : Type 0} → Ghosts W → Page → W → W → Type 0
+WritesOn {W = W} target page old new =
+    (mid : W) (said : List ℕ) → Carries target mid said page old
+    → (more : List ℕ) × (target.taken new ≡ target.taken mid ++ more)
 
 -- whatever was said to a page before, no more was said to it
 abbrev pub SaysNoMore : {W : Type 0} → Ghosts W → Page → W → Page → W → Type 0

@@ -11,13 +11,13 @@ use Rattle.trace_log.specs.declared.fault.Fault.{Fault}
 use Rattle.trace_log.specs.declared.fault.Fault.TheVariants as fault
 use Rattle.trace_log.specs.proving.Receiving.{Receives}
 use Rattle.uds_exchange.specs.Judging.{IsJudgeOf}
-use Rattle.trace_run.specs.Script.{Command, GlimpseValue, command, refusal_of_lines, whole_of_lines}
+use Rattle.trace_run.specs.Script.{GlimpseValue, refusal_of_lines, whole_of_lines}
 use Rattle.trace_run.specs.declared.machine.Machine.{Ghosts as MachineGhosts}
 use Rattle.trace_run.specs.declared.machine.NoAnswer.{NoAnswer}
 use Rattle.trace_run.specs.declared.machine.NoAnswer.TheVariants as no_answer
 use Rattle.trace_run.specs.declared.page.Page.{Page}
 use Rattle.trace_run.specs.declared.receiver.Receiver.{Receiver}
-use Rattle.trace_run.specs.proving.Carrying.{Carries, blank_page}
+use Rattle.trace_run.specs.proving.Carrying.{Carries, WritesOn, blank_page}
 use Rattle.trace_run.specs.proving.Telling.{Start, HasTold}
 
 module _ {W : Type 0} (target : TargetGhosts W) where
@@ -40,21 +40,16 @@ module _ {W : Type 0} (target : TargetGhosts W) where
   SettlesWith text name page old result new =
       (start : W) (said : List ℕ) → Carries target start said page old → EndsAs name start (said ++ text) result new
 
--- the command of a machine that was `first` at the start, where this is seen of the source
-abbrev pub command_of : {A M : Type 0} → MachineGhosts M A → GlimpseValue → M → Command A
-command_of machine glimpse first =
-    command (machine.script first) (machine.refusal first glimpse) (machine.answers first) (machine.needs first)
-
 -- How a run ends on a fault, where this is then seen of its source.
 module _ {A M W : Type 0} (machine : MachineGhosts M A) (target : TargetGhosts W) (glimpse : GlimpseValue) where
   -- on a refusal that the machine is told: whatever lines it has taken, what is said of it is written
   abbrev pub RefusesSaying : Fault → Receiver M W → W → Fault → W → Type 0
   RefusesSaying why receiver old result new =
-      (first : M) (settings : Settings) (meanings : List (Option Stamped))
+      (machine_start : M) (settings : Settings) (meanings : List (Option Stamped))
       → Receives settings meanings receiver.pair receiver.lines receiver.counts
       → IsJudgeOf (messages MESSAGE_LIMIT (trace settings meanings)) receiver.telling.judge
-      → machine.stands first (trace settings meanings) receiver.telling.machine
-      → SettlesWith target (refusal_of_lines (machine.refusal first glimpse) MESSAGE_LIMIT settings why meanings)
+      → machine.stands machine_start (trace settings meanings) receiver.telling.machine
+      → SettlesWith target (refusal_of_lines (machine.refusal machine_start glimpse) MESSAGE_LIMIT settings why meanings)
       why receiver.telling.page old result new
 
   -- a fault of a device stands as it is, and before others all that is said is written
@@ -104,11 +99,10 @@ module _ {A M W : Type 0} (machine : MachineGhosts M A) (target : TargetGhosts W
       → HasTold machine target start (trace settings meanings) receiver.telling old
       → EndsSaying machine target start settings log meanings result new
 
-  -- whatever lines a run has taken, the target has what it had at any time before, and more behind it
+  -- whatever lines a run has taken, it writes on
   abbrev pub EndsBehind : Receiver M W → W → W → Type 0
   EndsBehind receiver old new =
-      (mid : W) (said : List ℕ) (first : M) (settings : Settings) (meanings : List (Option Stamped))
+      (machine_start : M) (settings : Settings) (meanings : List (Option Stamped))
       → Receives settings meanings receiver.pair receiver.lines receiver.counts
-      → machine.stands first (trace settings meanings) receiver.telling.machine
-      → Carries target mid said receiver.telling.page old
-      → (more : List ℕ) × (target.taken new ≡ target.taken mid ++ more)
+      → machine.stands machine_start (trace settings meanings) receiver.telling.machine
+      → WritesOn target receiver.telling.page old new

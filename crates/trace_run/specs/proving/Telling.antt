@@ -49,23 +49,23 @@ pub record Start (M W : Type 0) : Type 0 where
 abbrev pub start_with : {M W : Type 0} → M → W → Start M W
 start_with machine target = record { machine = machine; target = target }
 
--- What a machine is told that was `first` at the start.
+-- What a machine is told that was `machine_start` at the start.
 module _ {A M : Type 0} (machine : MachineGhosts M A) where
   -- Nothing was told: the machine is what it was and stands there, no message was judged, and nothing is on the page.
-  pub record HasToldNothing (first : M) (telling : Telling M) : Type 0 where
-    pub machine_is : telling.machine ≡ first
-    pub stands_at_start : machine.stands first [] first
+  pub record HasToldNothing (machine_start : M) (telling : Telling M) : Type 0 where
+    pub machine_is : telling.machine ≡ machine_start
+    pub stands_at_start : machine.stands machine_start [] machine_start
     pub judged : IsJudgeOf [] telling.judge
     pub well : telling.page.failed ≡ false
-    pub blank : telling.page.held ≡ []
+    pub blank : telling.page.gathered ≡ []
 
   -- what is said of the frames of a trace
   abbrev pub said_since : M → List Entry → List ℕ
-  said_since first T = said_of_frames (machine.script first).of_frame T
+  said_since machine_start T = said_of_frames (machine.script machine_start).of_frame T
 
   -- where the machine is strict, no frame of the trace announces a message above the limit
   abbrev pub AreWithin : M → List Entry → Type 0
-  AreWithin first T = (machine.script first).strict ≡ true → AllByRecursion AnnouncesWithin T
+  AreWithin machine_start T = (machine.script machine_start).strict ≡ true → AllByRecursion AnnouncesWithin T
 
 -- What was written of it. A telling is what it is now, as `now` is the target.
 module _ {A M W : Type 0} (machine : MachineGhosts M A) (target : TargetGhosts W) where

@@ -1,5 +1,5 @@
 use Rattle.std.proofs.Common.{arith, sym, ◌∙◌}
-use Rattle.shown_rows.proofs.ChangeSteps.{fold-end, fold-here, fold-later}
+use Rattle.shown_rows.proofs.FoldSteps.{fold-end, fold-here, fold-later}
 use Rattle.shown_rows.proofs.folds.folded.Goals as goal
 
 pub returns-then-is_shown-clause-value : goal.returns-then-is_shown-clause-value

@@ -32,8 +32,11 @@ returns-clause-says g c = λ later.
     let within = admitted.0 in
     let room : length line ≤ c.args.progress.now.room = omega arith in
     let here : c.clock.result.now ≡ c.args.progress.now.lines = c.clock.ensures ∙ ap (λ p. p.lines) admitted.1 in
-    let is : canonical_line c.clock.result.now c.id_of-id.result c.args.frame.now ≡ line = (λ i. canonical_line (here i) (c.id_of-id.ensures.value i) c.args.frame.now) in
+    let is : canonical_line c.clock.result.now c.id_of-id.result c.args.frame.now ≡ line =
+    (λ i. canonical_line (here i) (c.id_of-id.ensures.value i) c.args.frame.now) in
     let said = subst (λ text. g.S.TextSink.says c.args.out.now text c.say_line.new.out) is c.say_line.ensures in
-    let passed : c.after_line.new.self ≡ after_line c.args.progress.now line = c.after_line.ensures line (omega arith) ∙ ap (λ p. after_line p line) admitted.1 in
+    let passed : c.after_line.new.self ≡ after_line c.args.progress.now line =
+    c.after_line.ensures line (omega arith) ∙ ap (λ p. after_line p line) admitted.1 in
     subst (λ p. SaysFront g.S.TextSink.says settings c.args.progress.now c.args.out.now (frame ∷ later) p c.say_line.new.out later) (sym passed)
-    (line_said g.S.TextSink.says g.met.S.TextSink.nothing g.met.S.TextSink.onward settings c.args.progress.now c.args.out.now c.say_line.new.out frame later line (λ i. line) room said)
+    (line_said g.S.TextSink.says g.met.S.TextSink.nothing g.met.S.TextSink.onward settings c.args.progress.now c.args.out.now
+    c.say_line.new.out frame later line (λ i. line) room said)

@@ -10,9 +10,11 @@ use Rattle.trace_canon.proofs.canonical_lines.say_frames.Goals as goal
 
 -- with one more frame
 one_more : (g : Over) (c : After-say_frame g)
-    → SaysFront g.S.TextSink.says c.args.config.now c.args.progress.now c.args.out.now c.args.frames c.say_frame.new.progress c.say_frame.new.out c.next.new.self
+    → SaysFront g.S.TextSink.says c.args.config.now c.args.progress.now c.args.out.now c.args.frames c.say_frame.new.progress
+    c.say_frame.new.out c.next.new.self
 one_more g c =
-    more_said g.S.TextSink.says g.met.S.TextSink.nothing g.met.S.TextSink.onward c.args.config.now c.args.progress.now c.frames.progress c.frames.progress c.say_frame.new.progress
+    more_said g.S.TextSink.says g.met.S.TextSink.nothing g.met.S.TextSink.onward c.args.config.now c.args.progress.now
+    c.frames.progress c.frames.progress c.say_frame.new.progress
     c.args.out.now c.frames.out c.say_frame.new.out c.args.frames c.frames.rest (c.in-Some.next ∷ c.next.new.self) c.next.new.self c.frames.invariant
     c.in-Some.ensures.steps refl (c.say_frame.ensures.says c.next.new.self)
 
@@ -20,7 +22,8 @@ pub returns-then-not-say_frame-clause-says : goal.returns-then-not-say_frame-cla
 returns-then-not-say_frame-clause-says g c =
     let settings = c.args.config.now in
     let full = c.say_frame.ensures.over c.if-not-say_frame.true in
-    all_lines_said g.S.TextSink.says g.met.S.TextSink.nothing g.met.S.TextSink.onward settings c.args.progress.now c.say_frame.new.progress c.args.out.now c.say_frame.new.out
+    all_lines_said g.S.TextSink.says g.met.S.TextSink.nothing g.met.S.TextSink.onward settings c.args.progress.now
+    c.say_frame.new.progress c.args.out.now c.say_frame.new.out
     c.args.frames c.next.new.self (text_full settings c.say_frame.new.progress c.next.new.self (ap (λ p. p.room) full))
     (one_more g (goal.at.returns-then-not-say_frame-clause-says g c).After-say_frame)
 
@@ -29,12 +32,15 @@ returns-then-not-say_frame-clause-progress g c =
     let settings = c.args.config.now in
     let full = c.say_frame.ensures.over c.if-not-say_frame.true in
     let front = one_more g (goal.at.returns-then-not-say_frame-clause-progress g c).After-say_frame in
-    sym (front.stands ∙ ap (λ p. progress_after settings p c.next.new.self) full ∙ progress_full settings c.frames.progress c.next.new.self ∙ sym full)
+    sym (front.stands ∙ ap (λ p. progress_after settings p c.next.new.self) full ∙ progress_full settings c.frames.progress
+    c.next.new.self ∙ sym full)
 
 pub frames-preserved-then-ne : goal.frames-preserved-then-ne
 frames-preserved-then-ne g c =
-    more_said g.S.TextSink.says g.met.S.TextSink.nothing g.met.S.TextSink.onward c.args.config.now c.args.progress.now c.say_frame.new.progress c.say_frame.new.progress
-    c.say_full_frames-rest.new.progress c.args.out.now c.say_frame.new.out c.say_full_frames-rest.new.out c.args.frames c.next.new.self c.next.new.self
+    more_said g.S.TextSink.says g.met.S.TextSink.nothing g.met.S.TextSink.onward c.args.config.now c.args.progress.now
+    c.say_frame.new.progress c.say_frame.new.progress
+    c.say_full_frames-rest.new.progress c.args.out.now c.say_frame.new.out c.say_full_frames-rest.new.out c.args.frames
+    c.next.new.self c.next.new.self
     c.say_full_frames-rest.result (one_more g (goal.at.frames-preserved-then-ne g c).After-say_frame) refl refl c.say_full_frames-rest.ensures.says
 
 pub frames-preserved : goal.frames-preserved
@@ -43,10 +49,12 @@ frames-preserved g c = one_more g (goal.at.frames-preserved g c).After-say_frame
 pub returns-clause-says : goal.returns-clause-says
 returns-clause-says g c =
     let settings = c.args.config.now in
-    all_lines_said g.S.TextSink.says g.met.S.TextSink.nothing g.met.S.TextSink.onward settings c.args.progress.now c.frames.progress c.args.out.now c.frames.out c.args.frames
+    all_lines_said g.S.TextSink.says g.met.S.TextSink.nothing g.met.S.TextSink.onward settings c.args.progress.now
+    c.frames.progress c.args.out.now c.frames.out c.args.frames
     c.frames.rest (ap (text_from settings c.frames.progress) c.in_default.ensures.steps.0 ∙ text_none settings c.frames.progress) c.frames.invariant
 
 pub returns-clause-progress : goal.returns-clause-progress
 returns-clause-progress g c =
     let settings = c.args.config.now in
-    sym (c.frames.invariant.stands ∙ ap (progress_after settings c.frames.progress) c.in_default.ensures.steps.0 ∙ progress_none settings c.frames.progress)
+    sym (c.frames.invariant.stands ∙ ap (progress_after settings c.frames.progress) c.in_default.ensures.steps.0
+    ∙ progress_none settings c.frames.progress)

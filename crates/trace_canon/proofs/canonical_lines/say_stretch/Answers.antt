@@ -12,7 +12,9 @@ use Rattle.trace_canon.proofs.canonical_lines.say_stretch.Goals as goal
 
 pub stretch-init : goal.stretch-init
 stretch-init g c = record {
-  says = none_said g.S.TextSink.says g.met.S.TextSink.nothing g.met.S.TextSink.onward c.args.config.now c.args.progress.now c.args.out.now c.args.frames;
+  says =
+      none_said g.S.TextSink.says g.met.S.TextSink.nothing g.met.S.TextSink.onward c.args.config.now c.args.progress.now
+      c.args.out.now c.args.frames;
   no_more = omega arith;
 }
 
@@ -25,10 +27,15 @@ returns-then-not-admit-clause-says g c =
     let name = ap length c.requires.name in
     let none = c.admit.ensures.none c.if-not-admit.true in
     let beyond = none.0 in
-    let stops = line_stops g.S.TextSink.says g.met.S.TextSink.nothing g.met.S.TextSink.onward settings c.stretch.progress c.stretch.out frame c.next_full.new.self (omega arith) in
-    more_said g.S.TextSink.says g.met.S.TextSink.nothing g.met.S.TextSink.onward settings c.args.progress.now c.stretch.progress c.stretch.progress c.admit.new.self
-    c.args.out.now c.stretch.out c.stretch.out c.args.frames c.stretch.rest (frame ∷ c.next_full.new.self) c.next_full.new.self c.stretch.invariant.says c.in-Some.ensures.some refl
-    (subst (λ p. SaysFront g.S.TextSink.says settings c.stretch.progress c.stretch.out (frame ∷ c.next_full.new.self) p c.stretch.out c.next_full.new.self) (sym none.1) stops)
+    let stops =
+    line_stops g.S.TextSink.says g.met.S.TextSink.nothing g.met.S.TextSink.onward settings c.stretch.progress c.stretch.out
+    frame c.next_full.new.self (omega arith) in
+    more_said g.S.TextSink.says g.met.S.TextSink.nothing g.met.S.TextSink.onward settings c.args.progress.now
+    c.stretch.progress c.stretch.progress c.admit.new.self
+    c.args.out.now c.stretch.out c.stretch.out c.args.frames c.stretch.rest (frame ∷ c.next_full.new.self)
+    c.next_full.new.self c.stretch.invariant.says c.in-Some.ensures.some refl
+    (subst (λ p. SaysFront g.S.TextSink.says settings c.stretch.progress c.stretch.out (frame ∷ c.next_full.new.self) p
+    c.stretch.out c.next_full.new.self) (sym none.1) stops)
 
 pub returns-then-not-admit-clause-no_more : goal.returns-then-not-admit-clause-no_more
 returns-then-not-admit-clause-no_more g c =
@@ -52,16 +59,23 @@ stretch-preserved g c =
     let named = canonical_name_length identifier in
     let name = ap length c.requires.name in
     let room : length line ≤ c.stretch.progress.room = (let within = admitted.0 in omega arith) in
-    let one = line_said g.S.TextSink.says g.met.S.TextSink.nothing g.met.S.TextSink.onward settings c.stretch.progress c.stretch.out c.put_three.new.self frame
+    let one =
+    line_said g.S.TextSink.says g.met.S.TextSink.nothing g.met.S.TextSink.onward settings c.stretch.progress c.stretch.out
+    c.put_three.new.self frame
     c.next_full.new.self line (λ i. line) room said in
-    let passed : c.after_line.new.self ≡ after_line c.stretch.progress line = c.after_line.ensures line (omega arith) ∙ ap (λ p. after_line p line) admitted.1 in
+    let passed : c.after_line.new.self ≡ after_line c.stretch.progress line =
+    c.after_line.ensures line (omega arith) ∙ ap (λ p. after_line p line) admitted.1 in
     let so_far = c.stretch.invariant.no_more in
     let step = ap length c.in-Some.ensures.some in
     record {
-      says = more_said g.S.TextSink.says g.met.S.TextSink.nothing g.met.S.TextSink.onward settings c.args.progress.now c.stretch.progress c.stretch.progress c.after_line.new.self
-          c.args.out.now c.stretch.out c.put_three.new.self c.args.frames c.stretch.rest (frame ∷ c.next_full.new.self) c.next_full.new.self c.stretch.invariant.says
+      says =
+          more_said g.S.TextSink.says g.met.S.TextSink.nothing g.met.S.TextSink.onward settings c.args.progress.now
+          c.stretch.progress c.stretch.progress c.after_line.new.self
+          c.args.out.now c.stretch.out c.put_three.new.self c.args.frames c.stretch.rest (frame ∷ c.next_full.new.self)
+          c.next_full.new.self c.stretch.invariant.says
           c.in-Some.ensures.some refl
-          (subst (λ p. SaysFront g.S.TextSink.says settings c.stretch.progress c.stretch.out (frame ∷ c.next_full.new.self) p c.put_three.new.self c.next_full.new.self) (sym passed) one);
+          (subst (λ p. SaysFront g.S.TextSink.says settings c.stretch.progress c.stretch.out (frame ∷ c.next_full.new.self) p
+          c.put_three.new.self c.next_full.new.self) (sym passed) one);
       no_more = omega arith;
     }
 

@@ -17,12 +17,14 @@ returns-in-Ok-clause-says g c = λ M stands judged.
       due.0,
       due.1,
       progress_is ∙ all.progress,
-      subst (λ o. g.S.TextSink.says c.args.out.now (text_from c.args.config.now c.args.progress.now (all_frames MESSAGE_LIMIT due.0)) o) (sym out_is) all.said,
+      subst (λ o. g.S.TextSink.says c.args.out.now
+          (text_from c.args.config.now c.args.progress.now (all_frames MESSAGE_LIMIT due.0)) o) (sym out_is) all.said,
     )
 
 pub returns-in-Err-clause-needs : goal.returns-in-Err-clause-needs
 returns-in-Err-clause-needs g c = λ M stands judged.
-    stops_for_memory (SaysPutMessage g.S.TextSink.says) M (sent c.args.message) _ c.take.new.sink c.in-Err._fault (c.in-Err.ensures.stops M stands judged)
+    stops_for_memory (SaysPutMessage g.S.TextSink.says) M (sent c.args.message) _ c.take.new.sink c.in-Err._fault
+    (c.in-Err.ensures.stops M stands judged)
     (λ is. c.take.ensures.needs (c.in-Err.is ∙ ap Err is) M stands judged)
 
 pub returns-in-Err-clause-err : goal.returns-in-Err-clause-err

@@ -1,5 +1,4 @@
 -- A run of a machine that says nothing answers the session, and never fails to write.
-use Rattle.std.proofs.Common.{rules}
 use Rattle.isotp_receive.specs.declared.TheConstants.{MESSAGE_LIMIT}
 use Rattle.trace_canon.specs.FirstFrames.{CompletesMessage}
 use Rattle.trace_canon.specs.proving.SessionScript.{answers_session, silent_script}
@@ -14,15 +13,16 @@ run-requires-clause-machine g c = rw (c.new.ensures) (collects_none c.args.confi
 
 pub returns : goal.returns
 returns g c =
+    let settings = c.args.config.now in
     let ran = c.run.ensures.ran in
+    let bytes = ran.read.gave.bytes in
     record {
       ran = record {
-        answer = λ log agrees. session_is_the_same c.args.config.now log _ c.run.result _ _ (ran.answer log agrees);
-        near = search rules;
-        memory = search rules;
-        read = search rules;
-        never_write = never_write silent_script silent_says_nothing (answers_session c.args.config.now) (CompletesMessage MESSAGE_LIMIT) MESSAGE_LIMIT c.args.config.now ran.read.gave.bytes _ _ _ c.run.result
-            (ran.answer ran.read.gave.bytes (given_agrees ran.read.gave));
+        answer = λ log agrees. session_is_the_same settings log _ c.run.result _ _ (ran.answer log agrees);
+        way = record { near = ran.near; memory = ran.memory; read = ran.read };
+        never_write =
+            never_write silent_script silent_says_nothing (answers_session settings) (CompletesMessage MESSAGE_LIMIT)
+            MESSAGE_LIMIT settings bytes _ _ _ c.run.result (ran.answer bytes (given_agrees ran.read.gave));
       };
       configured = ran.configured;
     }

@@ -8,8 +8,9 @@ use Rattle.trace_canon.proofs.comparison_objects.say_shown_object.Goals as goal
 pub returns : goal.returns
 returns g c =
     let onward = g.met.S.TextSink.onward in
-    let index = c.args.index in
-    let left = shown_value (index + 1) (slice_get c.args.compared.now.left.meaning index) in
-    let right = shown_value (index + 1) (slice_get c.args.compared.now.right.meaning index) in
-    subst (λ text. g.S.TextSink.says c.args.out.now text c.say_text-2.new.out) (shown_object_is index left right)
-    (onward _ _ _ _ _ (onward _ _ _ _ _ (onward _ _ _ _ _ (onward _ _ _ _ _ c.say.ensures c.say_item_at.ensures) c.say_text.ensures) c.say_item_at-2.ensures) c.say_text-2.ensures)
+    let place = c.args.place in
+    let left = shown_value (place + 1) (slice_get c.args.compared.now.left.meaning place) in
+    let right = shown_value (place + 1) (slice_get c.args.compared.now.right.meaning place) in
+    subst (λ text. g.S.TextSink.says c.args.out.now text c.say_text-2.new.out) (shown_object_is place left right)
+    (onward _ _ _ _ _ (onward _ _ _ _ _ (onward _ _ _ _ _ (onward _ _ _ _ _ c.say.ensures c.say_item_at.ensures)
+    c.say_text.ensures) c.say_item_at-2.ensures) c.say_text-2.ensures)

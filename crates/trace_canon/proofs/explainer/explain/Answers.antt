@@ -8,4 +8,6 @@ use Rattle.trace_canon.proofs.explainer.explain.Goals as goal
 
 pub returns-clause-certificate : goal.returns-clause-certificate
 returns-clause-certificate g c = λ log agrees.
-    certifies (command (explain_script c.args.notation MESSAGE_LIMIT) says_no_refusal answers_counts needs_none) refl (λ T summary result counted. counted) c.args.config.now log _ c.run_lenient.result _ _ (c.run_lenient.ensures.ran.run.answer log agrees)
+    certifies (command (explain_script c.args.notation MESSAGE_LIMIT) says_no_refusal answers_counts needs_none) refl
+    (λ T summary result counted. counted) c.args.config.now log _ c.run_lenient.result _ _
+    (c.run_lenient.ensures.ran.run.answer log agrees)

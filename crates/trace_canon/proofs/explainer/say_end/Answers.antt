@@ -8,6 +8,8 @@ pub returns : goal.returns
 returns g c =
     g.met.S.TextSink.onward _ _ _ _ _
     (g.met.S.TextSink.onward _ _ _ _ _
-    (subst (λ text. g.S.TextSink.says c.args.out.now text c.say_unfinished.new.out) (ap (unfinished_line c.args.notation dir.Tester) c.open.ensures) c.say_unfinished.ensures)
-    (subst (λ text. g.S.TextSink.says c.say_unfinished.new.out text c.say_unfinished-2.new.out) (ap (unfinished_line c.args.notation dir.Unit) c.open-2.ensures) c.say_unfinished-2.ensures))
+    (subst (λ text. g.S.TextSink.says c.args.out.now text c.say_unfinished.new.out)
+    (ap (unfinished_line c.args.notation dir.Tester) c.open.ensures) c.say_unfinished.ensures)
+    (subst (λ text. g.S.TextSink.says c.say_unfinished.new.out text c.say_unfinished-2.new.out)
+    (ap (unfinished_line c.args.notation dir.Unit) c.open-2.ensures) c.say_unfinished-2.ensures))
     c.say_remark.ensures

@@ -11,13 +11,16 @@ returns g c = record {
     answer = λ log agrees.
         let read = c.in_ok-ends_in_line_feed.ensures.lines log agrees (c.start-hearer.result, tt) (λ heard. heard) in
         heard_end c.args.config.now log read.0 (omega (arith, read.1, c.max_bytes.ensures.value)) read.3 c.finish.result
-        (IfOk-weaker c.finish.result _ _ (λ found is. is log read.0 (read.5 c.start-hearer.ensures) read.6) c.finish.ensures.found) c.finish.ensures.fault;
-    near = λ log agrees. reads_legal (c.in_ok-ends_in_line_feed.ensures.near log agrees (c.start-hearer.result, tt) (λ heard. heard));
-    memory = λ log agrees refused.
-        let read = c.in_ok-ends_in_line_feed.ensures.lines log agrees (c.start-hearer.result, tt) (λ heard. heard) in
-        heard_end_need c.args.config.now log read.0 (omega (arith, read.1, c.max_bytes.ensures.value)) read.3 c.finish.result
-        (IfErr-weaker c.finish.result _ _ (λ fault needs. needs read.0 (read.5 c.start-hearer.ensures)) c.finish.ensures.needs) refused;
-    read = search rules;
+        (IfOk-weaker c.finish.result _ _ (λ found is. is log read.0 (read.5 c.start-hearer.ensures) read.6)
+        c.finish.ensures.found) c.finish.ensures.fault;
+    way = record {
+      near = λ log agrees. reads_legal (c.in_ok-ends_in_line_feed.ensures.near log agrees (c.start-hearer.result, tt) (λ heard. heard));
+      memory = λ log agrees refused.
+          let read = c.in_ok-ends_in_line_feed.ensures.lines log agrees (c.start-hearer.result, tt) (λ heard. heard) in
+          heard_end_need c.args.config.now log read.0 (omega (arith, read.1, c.max_bytes.ensures.value)) read.3 c.finish.result
+          (IfErr-weaker c.finish.result _ _ (λ fault needs. needs read.0 (read.5 c.start-hearer.ensures)) c.finish.ensures.needs) refused;
+      read = search rules;
+    };
     never_write = search rules;
   };
 }
@@ -26,13 +29,19 @@ pub returns-in_err-ends_in_line_feed : goal.returns-in_err-ends_in_line_feed
 returns-in_err-ends_in_line_feed g c = rw (handed_on c.from_residual.result _ c.from_residual.ensures.1) (record {
   ran = record {
     answer = λ log agrees.
-        heard_fault c.args.config.now log _ (c.start-hearer.result, tt) _ c.start-hearer.ensures _ c.in_err-ends_in_line_feed.field-0.0 c.max_bytes.ensures.value
+        heard_fault c.args.config.now log _ (c.start-hearer.result, tt) _ c.start-hearer.ensures _
+        c.in_err-ends_in_line_feed.field-0.0 c.max_bytes.ensures.value
         (c.in_err-ends_in_line_feed.ensures.lines log agrees (c.start-hearer.result, tt) (λ heard. heard));
-    near = λ log agrees. reads_legal (c.in_err-ends_in_line_feed.ensures.near log agrees (c.start-hearer.result, tt) (λ heard. heard));
-    memory = λ log agrees refused.
-        heard_need c.args.config.now log _ (c.start-hearer.result, tt) _ c.start-hearer.ensures _ c.in_err-ends_in_line_feed.field-0.0 c.max_bytes.ensures.value
-        (c.in_err-ends_in_line_feed.ensures.lines log agrees (c.start-hearer.result, tt) (λ heard. heard)) (cc refused);
-    read = search rules;
-    never_write = heard_unwritten c.in_err-ends_in_line_feed.field-0.0 (c.start-hearer.result, tt) _ (c.in_err-ends_in_line_feed.ensures.takes (c.start-hearer.result, tt) (λ heard. heard));
+    way = record {
+      near = λ log agrees. reads_legal (c.in_err-ends_in_line_feed.ensures.near log agrees (c.start-hearer.result, tt) (λ heard. heard));
+      memory = λ log agrees refused.
+          heard_need c.args.config.now log _ (c.start-hearer.result, tt) _ c.start-hearer.ensures _
+          c.in_err-ends_in_line_feed.field-0.0 c.max_bytes.ensures.value
+          (c.in_err-ends_in_line_feed.ensures.lines log agrees (c.start-hearer.result, tt) (λ heard. heard)) (cc refused);
+      read = search rules;
+    };
+    never_write =
+        heard_unwritten c.in_err-ends_in_line_feed.field-0.0 (c.start-hearer.result, tt) _
+        (c.in_err-ends_in_line_feed.ensures.takes (c.start-hearer.result, tt) (λ heard. heard));
   };
 })

@@ -1,17 +1,20 @@
 -- Over memory no device fails: what the call wrote is the text, and a failed write refused memory.
 use Rattle.std.proofs.Common.{ap, sym, ◌∙◌}
 use Rattle.isotp_receive.specs.declared.TheConstants.{MESSAGE_LIMIT}
-use Rattle.trace_canon.proofs.InMemories.{agrees_in_memory, gathered, taken_is_held, canonical_in_memory}
+use Rattle.trace_canon.proofs.InMemories.{canonical_in_memory, gathered, ran_in_memory}
 use Rattle.trace_canon.proofs.in_memory.canonical_log.Goals as goal
 
 pub returns : goal.returns
 returns c = record {
   answer =
       let ran = c.normalise-answer.ensures in
-      let agrees = agrees_in_memory c.args.log.now c.new-2.result c.normalise-answer.new.reader c.new-2.ensures ran.read.gave ran.read.ended in
-      let empty = ap (λ w. w.taken) c.new-writer.ensures in
-      let held = taken_is_held empty (ap (λ w. w.inner.items) c.new-writer.ensures ∙ c.new.ensures.items) ran.wrote.took in
+      let here =
+      ran_in_memory c.normalise-answer.result c.args.log.now c.into_inner.result.items c.new-2.result c.normalise-answer.new.source c.new-2.ensures
+      ran.read.gave ran.read.ended ran.read.failed (ap (λ w. w.taken) c.new-target.ensures)
+      (ap (λ w. w.inner.items) c.new-target.ensures ∙ c.new.ensures.items) ran.wrote.took
+      (ap (λ v. v.items) (sym c.into_inner.ensures)) in
       gathered _ _ (λ summary. record { text = c.into_inner.result; summary = summary }) c.normalise-answer.result c.counted_text.result
-      (canonical_in_memory MESSAGE_LIMIT c.args.config.now c.args.log.now _ c.normalise-answer.result _ _ _ empty (held ∙ ap (λ v. v.items) (sym c.into_inner.ensures)) ran.read.failed (ran.memory c.args.log.now agrees) (ran.some c.args.log.now agrees) (ran.answer c.args.log.now agrees))
+      (canonical_in_memory MESSAGE_LIMIT c.args.config.now c.args.log.now _ _ _ _ _ _ c.normalise-answer.result here
+      (ran.memory c.args.log.now here.agrees) (ran.some c.args.log.now here.agrees) (ran.answer c.args.log.now here.agrees))
       c.counted_text.ensures.answer;
 }

@@ -13,8 +13,10 @@ returns c = record {
       let ran = c.in_ok-compared.ensures in
       let left = agrees_in_memory c.args.left.now c.new.result c.compare.new.left c.new.ensures ran.left_read.gave ran.left_read.ended in
       let right = agrees_in_memory c.args.right.now c.new-2.result c.compare.new.right c.new-2.ensures ran.right_read.gave ran.right_read.ended in
-      subst (λ (counted : CountedComparison). ComparesWithCounts MESSAGE_LIMIT c.args.config.now c.args.left.now c.args.right.now (Ok counted)) (sym c.counted_comparison.ensures)
-      (comparison_in_memory MESSAGE_LIMIT c.args.config.now c.args.left.now c.args.right.now (Ok c.in_ok-compared.compared) ran.left_read.failed ran.right_read.failed ran.never_write
+      subst (λ (counted : CountedComparison). ComparesWithCounts MESSAGE_LIMIT c.args.config.now c.args.left.now
+      c.args.right.now (Ok counted)) (sym c.counted_comparison.ensures)
+      (comparison_in_memory MESSAGE_LIMIT c.args.config.now c.args.left.now c.args.right.now (Ok c.in_ok-compared.compared)
+      ran.left_read.failed ran.right_read.failed ran.never_write
       (ran.left_memory c.args.left.now left) (ran.right_memory c.args.right.now right)
       (ran.answer c.args.left.now c.args.right.now left right));
 }
@@ -26,7 +28,9 @@ returns-in_err-compared c =
     let right = agrees_in_memory c.args.right.now c.new-2.result c.compare.new.right c.new-2.ensures ran.right_read.gave ran.right_read.ended in
     rw (handed_on c.from_residual.result _ c.from_residual.ensures.1)
     (record {
-      answer = comparison_in_memory MESSAGE_LIMIT c.args.config.now c.args.left.now c.args.right.now (Err c.in_err-compared.field-0.0) ran.left_read.failed ran.right_read.failed ran.never_write
+      answer =
+          comparison_in_memory MESSAGE_LIMIT c.args.config.now c.args.left.now c.args.right.now
+          (Err c.in_err-compared.field-0.0) ran.left_read.failed ran.right_read.failed ran.never_write
           (ran.left_memory c.args.left.now left) (ran.right_memory c.args.right.now right)
           (ran.answer c.args.left.now c.args.right.now left right);
     })

@@ -7,6 +7,9 @@ pub returns : goal.returns
 returns c = record {
   answer =
       let ran = c.meaning_of.ensures.ran in
-      let agrees = agrees_in_memory c.args.log.now c.new.result c.meaning_of.new.reader c.new.ensures ran.read.gave ran.read.ended in
-      meaning_in_memory MESSAGE_LIMIT c.args.config.now c.args.log.now c.meaning_of.result ran.read.failed ran.never_write (ran.memory c.args.log.now agrees) (ran.answer c.args.log.now agrees);
+      let read = ran.way.read in
+      let log = c.args.log.now in
+      let agrees = agrees_in_memory log c.new.result c.meaning_of.new.source c.new.ensures read.gave read.ended in
+      meaning_in_memory MESSAGE_LIMIT c.args.config.now log c.meaning_of.result read.failed ran.never_write
+      (ran.way.memory log agrees) (ran.answer log agrees);
 }

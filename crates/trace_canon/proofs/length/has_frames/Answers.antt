@@ -10,4 +10,5 @@ returns-then-not-is_empty-clause-none c = λ is d. frames_uncovered MESSAGE_LIMI
 
 pub returns-else-not-is_empty-clause-none : goal.returns-else-not-is_empty-clause-none
 returns-else-not-is_empty-clause-none c = λ is d.
-    frames_uncovered MESSAGE_LIMIT d c.args.message.now (inl (eqb-true (length c.args.message.now) 0 (sym c.is_empty.ensures ∙ c.if-not-is_empty.false)))
+    frames_uncovered MESSAGE_LIMIT d c.args.message.now
+    (inl (eqb-true (length c.args.message.now) 0 (sym c.is_empty.ensures ∙ c.if-not-is_empty.false)))

@@ -1,7 +1,8 @@
 -- What a run of the script answers is the canonical log of the meaning; the rest follows from that.
 use Rattle.std.proofs.Common.{refl, sym, ◌∙◌}
 use Rattle.trace_canon.specs.proving.Writing.{start_of}
-use Rattle.trace_canon.proofs.CanonicalScripts.{canonical_is_the_same, unwritten_some, canonical_again, recording_again, answer_is_certificate, writes_eagerly_said}
+use Rattle.trace_canon.proofs.CanonicalScripts.{canonical_is_the_same, unwritten_some, canonical_again, recording_again}
+use Rattle.trace_canon.proofs.CanonicalScripts.{answer_is_certificate, writes_eagerly_said}
 use Rattle.trace_canon.proofs.CanonicalWriting.{progress_none}
 use Rattle.trace_canon.proofs.normaliser.normalise.Goals as goal
 
@@ -19,7 +20,8 @@ pub returns-clause-eager : goal.returns-clause-eager
 returns-clause-eager g c = λ log agrees. writes_eagerly_said c.args.config.now log _ _ _ (c.run.ensures.ran.eager log agrees)
 
 pub returns-clause-again : goal.returns-clause-again
-returns-clause-again g c = λ log agrees. canonical_again c.args.config.now log _ c.run.result _ _ c.start.ensures.settings (returns-clause-answer g c log agrees)
+returns-clause-again g c = λ log agrees. canonical_again c.args.config.now log _ c.run.result _ _ c.start.ensures.settings
+    (returns-clause-answer g c log agrees)
 
 pub returns-clause-recording : goal.returns-clause-recording
 returns-clause-recording g c = λ log agrees. recording_again c.args.config.now log _ c.run.result _ _ (returns-clause-answer g c log agrees)

@@ -5,7 +5,7 @@ use Rattle.trace_difference.proofs.HunkSteps.{hunks_left}
 use Rattle.trace_difference.proofs.HunkTurns.{turn-at, turn-before, turn-in}
 use Rattle.text_parts.proofs.Promises.{none-said, said-whole, same-rest}
 use Rattle.trace_difference.proofs.unified_text.say_hunks.Goals as goal
-use Rattle.trace_difference.proofs.unified_text.say_hunks.Goals.{then-shown-gt0, else-shown-gt0+then-changes_within, else-shown-gt0+else-changes_within}
+use Rattle.trace_difference.proofs.unified_text.say_hunks.Goals.{then-shown-gt0, else-shown-gt0+then-begins_hunk, else-shown-gt0+else-begins_hunk}
 
 pub rows-init : goal.rows-init
 rows-init g c = record {
@@ -29,15 +29,15 @@ rows-preserved g c =
                 rw (w.out-is, w.shown-is)
                 (turn-in g.S.TextSink.says g.met.S.TextSink.onward text c.args.out.now _ (drop k rows) (drop (k + 1) rows) (get_or rows k _) c.rows.shown c.rows.left_before c.rows.right_before c.rows.out at
                 w.if-shown-gt0.true c.rows.invariant.left)
-            | else-shown-gt0+then-changes_within w ↦
+            | else-shown-gt0+then-begins_hunk w ↦
                 rw (w.out-is, w.shown-is)
                 (turn-at g.S.TextSink.says g.met.S.TextSink.onward text c.args.out.now _ (drop k rows) (drop (k + 1) rows) (get_or rows k _) c.rows.shown c.rows.left_before c.rows.right_before c.rows.out at
-                (omega (arith, w.if-shown-gt0.false)) _ w.changes_within.result w.hunk_length-length.result _ (take_rest rows k) w.changes_within.ensures w.if-changes_within.true
+                (omega (arith, w.if-shown-gt0.false)) _ w.begins_hunk.result w.hunk_length-length.result _ (take_rest rows k) w.begins_hunk.ensures w.if-begins_hunk.true
                 w.hunk_length-length.ensures.value c.rows.invariant.left w.say_hunk.ensures)
-            | else-shown-gt0+else-changes_within w ↦
+            | else-shown-gt0+else-begins_hunk w ↦
                 rw (w.out-is, w.shown-is)
                 (turn-before g.S.TextSink.says g.met.S.TextSink.onward text c.args.out.now _ (drop k rows) (drop (k + 1) rows) (get_or rows k _) c.rows.shown c.rows.left_before c.rows.right_before c.rows.out at
-                (omega (arith, w.if-shown-gt0.false)) _ w.changes_within.result (take_rest rows k) w.changes_within.ensures w.if-changes_within.false c.rows.invariant.left)
+                (omega (arith, w.if-shown-gt0.false)) _ w.begins_hunk.result (take_rest rows k) w.begins_hunk.ensures w.if-begins_hunk.false c.rows.invariant.left)
           ]);
     }
 

@@ -42,7 +42,7 @@ returns-in-Err-clause-lines g c = λ log agrees start taken.
     let room : n ≤ c.max-room.result = omega (arith, c.in-Ok.ensures.bound, length-take {A = ℕ}) in
     let few : (n ≤ 4096) × (n ≤ c.reading.left) = (omega (arith, c.min-most.ensures, c.max-room.ensures), omega (arith, c.min-most.ensures, c.max-room.ensures, c.if-left-eq0.false)) in
     let len : length (bytes ++ piece) ≡ length bytes + n = length-append bytes piece ∙ ap (λ k. length bytes + k) here.1 in
-    let is = log_of (grown_more _ bytes piece inv.gave.grown (c.in-Ok.ensures.given ∙ ap (λ p. g.R.Source.given c.reading.reader ++ p) (sym here.0))) agrees in
+    let is = log_of (grown_more _ bytes piece inv.gave.grown (c.in-Ok.ensures.given ∙ ap (λ p. g.R.Source.given c.reading.source ++ p) (sym here.0))) agrees in
     feeds_piece g.T.LineTaker.took g.T.LineTaker.rested g.T.LineTaker.broke g.T.LineTaker.stopped start (Unit {0}) c.in-Err.fault c.args.max_bytes _ log has.meanings bytes piece
     c.reading.scanner c.take_lines.new.scanner (c.take_lines.new.taker, c.take_lines.new.device)
     has.stands is.front is.count
@@ -53,7 +53,7 @@ pub reading-init : goal.reading-init
 reading-init g c = record {
   within = omega arith;
   piece_len = refl;
-  gave = gave_nothing (g.R.Source.given c.args.reader.now) (g.R.Source.remaining c.args.reader.now);
+  gave = gave_nothing (g.R.Source.given c.args.source.now) (g.R.Source.remaining c.args.source.now);
   ended = λ first. first;
   given = omega arith;
   reads = omega arith;
@@ -81,8 +81,8 @@ reading-preserved g c =
     record {
       within = omega arith;
       piece_len = omega (arith, length-append {A = ℕ}, length-drop {A = ℕ}, length-take {A = ℕ}, c.min-most.ensures, c.max-room.ensures, inv.piece_len);
-      gave = gave_more piece inv.gave (c.in-Ok.ensures.given ∙ ap (λ p. g.R.Source.given c.reading.reader ++ p) (sym here.0))
-          (subst (λ p. Consumes (g.R.Source.remaining c.reading.reader) (g.R.Source.remaining c.read.new.self) p) (sym here.0) c.in-Ok.ensures.told.0);
+      gave = gave_more piece inv.gave (c.in-Ok.ensures.given ∙ ap (λ p. g.R.Source.given c.reading.source ++ p) (sym here.0))
+          (subst (λ p. Consumes (g.R.Source.remaining c.reading.source) (g.R.Source.remaining c.read.new.self) p) (sym here.0) c.in-Ok.ensures.told.0);
       ended = λ first. some_not_over (g.R.Source.is_over c.read.new.self) c.in-Ok.n (length c.read.new.buf) c.in-Ok.ensures.over (omega (arith, c.if-n-eq0.false));
       given = omega (arith, inv.given);
       reads = omega (arith, c.in-Ok.ensures.reads, inv.reads, c.if-n-eq0.false);

@@ -9,12 +9,12 @@ abbrev pub invariant-reading : goal.invariant-reading
 invariant-reading g l = record {
   within : l.left ≤ l.max_bytes;
   piece_len : length l.piece ≡ 4096;
-  gave : Gave (g.R.Source.given l.initial.reader) (g.R.Source.given l.reader) (g.R.Source.remaining l.initial.reader) (g.R.Source.remaining l.reader);
-  ended : (g.R.Source.is_over l.initial.reader ≡ true → IsAtEnd (g.R.Source.remaining l.initial.reader))
-      → g.R.Source.is_over l.reader ≡ true → IsAtEnd (g.R.Source.remaining l.reader);
+  gave : Gave (g.R.Source.given l.initial.source) (g.R.Source.given l.source) (g.R.Source.remaining l.initial.source) (g.R.Source.remaining l.source);
+  ended : (g.R.Source.is_over l.initial.source ≡ true → IsAtEnd (g.R.Source.remaining l.initial.source))
+      → g.R.Source.is_over l.source ≡ true → IsAtEnd (g.R.Source.remaining l.source);
   given : length (gave.bytes) + l.left ≡ l.max_bytes;
-  reads : g.R.Source.reads l.reader + l.left ≤ g.R.Source.reads l.initial.reader + l.max_bytes;
-  failures : g.R.Source.failures l.reader ≡ g.R.Source.failures l.initial.reader;
+  reads : g.R.Source.reads l.source + l.left ≤ g.R.Source.reads l.initial.source + l.max_bytes;
+  failures : g.R.Source.failures l.source ≡ g.R.Source.failures l.initial.source;
   taken : l.scanner.taken + l.left ≤ l.max_bytes;
   lines : (start : g.row.T.Denot × g.row.T-Device.Denot) → g.T.LineTaker.took start [] (l.initial.taker, l.initial.device)
       → HasTaken g.T.LineTaker.took start gave.bytes l.max_bytes l.left l.scanner (l.taker, l.device);

@@ -2,7 +2,8 @@
 use Rattle.std.proofs.Common.{◌≡◌, ◌≤◌, ℕ, ◌-◌, suc, length, min, ap, sym, ◌∙◌, arith}
 use Rattle.trace_report.specs.Items.{rows_before}
 use Rattle.trace_pair.proofs.ChartPlaces.{latest-earlier, latest-end, latest-start, latest-there}
-use Rattle.trace_pair.proofs.LossPlaces.{before-within}
+use Rattle.trace_pair.specs.Losses.{first_row}
+use Rattle.trace_pair.proofs.LossPlaces.{before-within, first-earlier}
 use Rattle.trace_pair.proofs.chart.chart_from.Goals as goal
 use Rattle.trace_pair.proofs.chart.chart_from.Goals.{then-asks_at, else-asks_at}
 
@@ -29,9 +30,9 @@ returns c =
     let item = c.args.item in
     let rows = c.args.rows.now in
     let low_is : c.saturating_sub-low.result ≡ rows_before item rows - 8 = omega (arith, c.saturating_sub-low.ensures, c.rows_before.ensures) in
-    let before : c.rows_before-before.result ≡ rows_before (item - 1) rows =
-    c.rows_before-before.ensures ∙ ap (λ (n : ℕ). rows_before n rows) c.saturating_sub.ensures in
-    let within : c.rows_before-before.result ≤ length rows = omega (arith, before, before-within (item - 1) rows) in
-    let end_is : c.min-end.result ≡ min (suc (rows_before (item - 1) rows)) (length rows) =
+    let before : c.first_row-before.result ≡ first_row (item - 1) rows =
+    c.first_row-before.ensures ∙ ap (λ (n : ℕ). first_row n rows) c.saturating_sub.ensures in
+    let within : c.first_row-before.result ≤ length rows = omega (arith, before, first-earlier (item - 1) rows, before-within (item - 1) rows) in
+    let end_is : c.min-end.result ≡ min (suc (first_row (item - 1) rows)) (length rows) =
     omega (arith, c.min-end.ensures, c.saturating_add.ensures, c.len.ensures.value, c.len.ensures.small, before, within) in
     latest-end item rows c.saturating_sub-low.result c.min-end.result c.rows.at c.rows.from c.rows-test.false low_is end_is c.rows.invariant

@@ -2,7 +2,7 @@
 use Rattle.std.proofs.Common.{◌≡◌, ℕ, ◌-◌, ◌<◌, ◌^◌, List, None, length, take, drop, max, min, ap, subst, ◌∙◌, arith}
 use Rattle.std.specs.Prelude.{◌==◌}
 use Rattle.trace_report.specs.Rows.{RowValue}
-use Rattle.trace_pair.specs.First.{chart_end, chart_from, chart_rows, chart_to, rows_more, rows_text}
+use Rattle.trace_pair.specs.FirstDifference.{chart_end, chart_from, chart_rows, chart_to, items_end, items_left, items_more, rows_more, rows_text}
 use Rattle.trace_pair.specs.proving.Marks.{charted_of}
 use Rattle.trace_pair.proofs.ChartPlaces.{more-are, rows-are}
 use Rattle.trace_pair.proofs.chart.say_chart.Goals as goal
@@ -22,10 +22,13 @@ returns g c =
     ap (λ (l : List RowValue). take (c.min-end.result - c.chart_from-from.result) (drop c.chart_from-from.result l)) own
     ∙ rows-are item rows few c.chart_from-from.result c.chart_to-to.result c.min-end.result from_is to_is end_is in
     let said_rows = subst (λ (text : List ℕ). says c.say.new.out text c.say_rows.new.out)
-    (λ i. rows_text chart (c.first.ensures i) None (max item 1) (charted i)) c.say_rows.ensures in
+    (λ i. rows_text chart (c.first_time.ensures i) None (max item 1) (charted i)) c.say_rows.ensures in
     let more : c.saturating_sub.result ≡ rows_more item rows =
     c.saturating_sub.ensures ∙ more-are item rows few c.chart_from-from.result c.chart_to-to.result c.min-end.result from_is to_is end_is in
     let ends : (c.chart_to-to.result == c.len.result) ≡ (chart_to item rows == length rows) =
     (λ i. to_is i == (c.len.ensures.value ∙ ap (λ (l : List RowValue). length l) own) i) in
     let said_end = subst (λ (text : List ℕ). says c.say_rows.new.out text c.say-2.new.out) (λ i. chart_end (more i) (ends i)) c.say-2.ensures in
-    g.met.S.TextSink.onward _ _ _ _ _ (g.met.S.TextSink.onward _ _ _ _ _ (g.met.S.TextSink.onward _ _ _ _ _ c.say.ensures said_rows) said_end) c.say-3.ensures
+    let left : c.items_left.result ≡ items_more item c.args.count rows = c.items_left.ensures ∙ (λ i. items_left (to_is i) item c.args.count (own i)) in
+    let said_left = subst (λ (text : List ℕ). says c.say-2.new.out text c.say-3.new.out) (ap items_end left) c.say-3.ensures in
+    let onward = g.met.S.TextSink.onward in
+    onward _ _ _ _ _ (onward _ _ _ _ _ (onward _ _ _ _ _ (onward _ _ _ _ _ c.say.ensures said_rows) said_end) said_left) c.say-4.ensures

@@ -1,7 +1,7 @@
 -- The columns are those of both messages, by which log the first one is of.
 use Rattle.std.proofs.Common.{ℕ, List, ap, option_map, subst, sym, ◌∙◌}
 use Rattle.trace_pair.specs.ColumnLines.{lines_text}
-use Rattle.trace_pair.specs.First.{chart_data}
+use Rattle.trace_pair.specs.FirstDifference.{chart_data}
 use Rattle.trace_pair.specs.declared.column_lines.ShownLogs.TheVariants.{Only}
 use Rattle.trace_pair.proofs.chart.say_data.Goals as goal
 

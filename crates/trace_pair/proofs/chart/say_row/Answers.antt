@@ -1,32 +1,35 @@
 -- A message is said in parts, beside the one that the definition names, and what is missing as that names it.
-use Rattle.std.proofs.Common.{◌≡◌, ℕ, false, List, ap, refl, subst, sym, ◌∙◌}
-use Rattle.trace_report.specs.LostRows.{missing_row}
+use Rattle.std.proofs.Common.{◌≡◌, ℕ, false, List, Option, ap, option_map, refl, subst, sym, ◌∙◌}
+use Rattle.trace_report.specs.MissingRows.{missing_row}
 use Rattle.trace_report.specs.declared.row.Missing.{Missing}
 use Rattle.trace_report.specs.declared.row.Missing.TheVariants as missing
 use Rattle.trace_report.specs.Rows.{missing_of, row_of}
-use Rattle.trace_pair.specs.Counterparts.{Charted}
-use Rattle.trace_pair.specs.First.{chart_row}
-use Rattle.trace_pair.specs.proving.Marks.{charted_of}
+use Rattle.trace_pair.specs.declared.log.PairLog.{PairLog}
+use Rattle.trace_pair.specs.Counterparts.{Marked}
+use Rattle.trace_pair.specs.FirstDifference.{chart_row}
+use Rattle.trace_pair.specs.proving.Marks.{marked_of}
 use Rattle.trace_pair.proofs.chart.say_row.Goals as goal
 
 pub returns-in-Message : goal.returns-in-Message
 returns-in-Message g c =
     let onward = g.met.S.TextSink.onward in
-    let chart = charted_of c.args.chart in
+    let log = c.args.log in
+    let marked = option_map marked_of c.args.marked in
     let origin = c.args.origin in
-    let bytes = rw (c.counterpart.ensures, c.marks_at-marked.ensures) at c.say_data.ensures in
-    subst (λ (text : List ℕ). g.S.TextSink.says c.args.out.now text c.say-in-Message-2.new.out) (ap (λ row. chart_row chart origin (row_of row)) (sym c.in-Message.is))
+    let bytes = rw (c.counterpart.ensures) at c.say_data.ensures in
+    subst (λ (text : List ℕ). g.S.TextSink.says c.args.out.now text c.say-in-Message-2.new.out) (ap (λ row. chart_row log marked origin (row_of row)) (sym c.in-Message.is))
     (onward _ _ _ _ _ (onward _ _ _ _ _ (onward _ _ _ _ _ c.say.ensures bytes) c.say-in-Message.ensures) c.say-in-Message-2.ensures)
 
-missing-row : (chart : Charted) (origin : ℕ) (what : Missing) → missing_row false origin what ≡ chart_row chart origin (missing_of what)
-missing-row chart origin (missing.NoAnswer number silent) = refl
-missing-row chart origin (missing.Dropped place d own why) = refl
-missing-row chart origin (missing.Ended place end) = refl
-missing-row chart origin (missing.Unfinished d line len) = refl
+missing-row : (log : PairLog) (marked : Option Marked) (origin : ℕ) (what : Missing) → missing_row false origin what ≡ chart_row log marked origin (missing_of what)
+missing-row log marked origin (missing.NoAnswer number silent) = refl
+missing-row log marked origin (missing.Dropped place d own why) = refl
+missing-row log marked origin (missing.Ended place end) = refl
+missing-row log marked origin (missing.Unfinished d line len) = refl
 
 pub returns-in-Missing : goal.returns-in-Missing
 returns-in-Missing g c =
-    let chart = charted_of c.args.chart in
+    let log = c.args.log in
+    let marked = option_map marked_of c.args.marked in
     let origin = c.args.origin in
     subst (λ (text : List ℕ). g.S.TextSink.says c.args.out.now text c.say_missing_row.new.out)
-    (missing-row chart origin c.in-Missing.missing ∙ ap (λ row. chart_row chart origin (row_of row)) (sym c.in-Missing.is)) c.say_missing_row.ensures
+    (missing-row log marked origin c.in-Missing.missing ∙ ap (λ row. chart_row log marked origin (row_of row)) (sym c.in-Missing.is)) c.say_missing_row.ensures

@@ -1,11 +1,11 @@
 -- Each row is said behind those before it; where the log ends, no row is left.
-use Rattle.std.proofs.Common.{◌≡◌, ℕ, ◌-◌, Some, None, take, drop, ap, sym, ◌∙◌}
+use Rattle.std.proofs.Common.{◌≡◌, ℕ, ◌-◌, Some, None, option_map, take, drop, ap, sym, ◌∙◌}
 use Rattle.std.specs.Prelude.{slice_get}
 use Rattle.text_parts.proofs.Promises.{none-said}
 use Rattle.trace_report.specs.Rows.{row_of}
-use Rattle.trace_pair.specs.Counterparts.{is_other}
-use Rattle.trace_pair.specs.First.{rows_text}
-use Rattle.trace_pair.specs.proving.Marks.{charted_of}
+use Rattle.trace_pair.specs.Counterparts.{is_other, marks_at}
+use Rattle.trace_pair.specs.FirstDifference.{rows_text}
+use Rattle.trace_pair.specs.proving.Marks.{charted_of, marked_of}
 use Rattle.trace_pair.proofs.ChartRows.{turn-end, turn-past, turn-row}
 use Rattle.trace_pair.proofs.chart.say_rows.Goals as goal
 
@@ -20,9 +20,10 @@ rows-preserved g c =
     let there : slice_get c.args.rows.now c.rows.at ≡ Some row = sym c.in-Some.ensures in
     let chart = charted_of c.args.chart in
     turn-row g.S.TextSink.says g.met.S.TextSink.onward chart c.args.origin c.args.around.to c.args.rows.now c.args.out.now _
-    c.rows.front c.rows.last c.last_begun-last.result c.rows.at row c.begins_body.result c.is_other-other.result c.rows.out c.say.new.out c.say_row.new.out
-    c.rows-test.true there (c.is_other-other.ensures ∙ ap (is_other chart) c.number_of.ensures) c.begins_body.ensures c.last_begun-last.ensures c.rows.invariant
-    c.say.ensures c.say_row.ensures
+    c.rows.front c.rows.last c.last_begun-last.result c.rows.at row (option_map marked_of c.found_item-found.result.marked) c.begins_body.result
+    c.found_item-found.result.is_other c.rows.out c.say.new.out c.say_row.new.out c.rows-test.true there
+    (c.found_item-found.ensures.other ∙ ap (is_other chart) c.number_of.ensures) (c.found_item-found.ensures.marks ∙ ap (marks_at chart) c.number_of.ensures)
+    c.begins_body.ensures c.last_begun-last.ensures c.rows.invariant c.say.ensures c.say_row.ensures
 
 pub returns-in_default : goal.returns-in_default
 returns-in_default g c =

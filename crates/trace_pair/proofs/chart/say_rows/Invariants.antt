@@ -1,7 +1,7 @@
 -- What is said so far and the text of the rest are that of all rows.
 use Rattle.std.proofs.Common.{◌-◌, None, max, take, drop}
 use Rattle.text_parts.proofs.Promises.{IsLeft}
-use Rattle.trace_pair.specs.First.{rows_text}
+use Rattle.trace_pair.specs.FirstDifference.{rows_text}
 use Rattle.trace_pair.specs.proving.Marks.{charted_of}
 use Rattle.trace_pair.proofs.chart.say_rows.Given as goal
 

@@ -1,7 +1,9 @@
 -- Each column adds what it counts.
-use Rattle.std.proofs.Common.{List, length, ap, arith}
+use Rattle.std.proofs.Common.{◌≡◌, ◌-◌, List, length, take, drop, ap, arith}
+use Rattle.std.proofs.lemmas.List.{length-drop, length-take}
 use Rattle.byte_columns.specs.declared.column.Column.{Column}
 use Rattle.byte_columns.specs.Columns.{differing}
+use Rattle.trace_pair.specs.ColumnLines.{counted}
 use Rattle.trace_pair.proofs.CountedColumns.{differing-first, length-first, none-left}
 use Rattle.trace_pair.proofs.column_counts.counts_between.Goals as goal
 
@@ -30,3 +32,11 @@ pub returns-clause-differing : goal.returns-clause-differing
 returns-clause-differing c =
     let none = ap differing (none-left c.args.sides c.args.columns.now c.args.to c.columns.at c.columns-test.false) in
     omega (arith, c.columns.invariant.differ, none)
+
+pub returns-clause-others : goal.returns-clause-others
+returns-clause-others c =
+    let piece = take (c.args.to - c.args.from) (drop c.args.from c.args.columns.now) in
+    let none = ap (λ (l : List Column). length l) (none-left c.args.sides c.args.columns.now c.args.to c.columns.at c.columns-test.false) in
+    let span : length piece ≡ c.args.to - c.args.from =
+    omega (arith, length-take (c.args.to - c.args.from) (drop c.args.from c.args.columns.now), length-drop c.args.from c.args.columns.now, c.requires.inside) in
+    omega (arith, c.saturating_sub.ensures, span, c.columns.invariant.all, none)

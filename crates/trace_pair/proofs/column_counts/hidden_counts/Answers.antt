@@ -2,7 +2,7 @@
 use Rattle.std.proofs.Common.{◌-◌, List, length, take, drop, ap, ◌∙◌}
 use Rattle.byte_columns.specs.declared.column.Column.{Column}
 use Rattle.byte_columns.specs.Columns.{differing}
-use Rattle.trace_pair.specs.ColumnLines.{counted}
+use Rattle.trace_pair.specs.ColumnLines.{counted, uncounted}
 use Rattle.trace_pair.proofs.CountedColumns.{hidden-cut}
 use Rattle.trace_pair.proofs.column_counts.hidden_counts.Goals as goal
 
@@ -10,10 +10,16 @@ pub returns-clause-all : goal.returns-clause-all
 returns-clause-all c =
     let columns = c.args.columns.now in
     c.counts_between.ensures.all ∙ ap (λ (l : List Column). length (counted c.args.sides l))
-    ((λ i. take (c.len.ensures.value i - c.in_lines.result) (drop c.in_lines.result columns)) ∙ hidden-cut columns c.in_lines.result c.in_lines.ensures.few)
+    ((λ i. take (c.len.ensures.value i - c.columns_in_lines.result) (drop c.columns_in_lines.result columns)) ∙ hidden-cut columns c.columns_in_lines.result c.columns_in_lines.ensures.few)
 
 pub returns-clause-differing : goal.returns-clause-differing
 returns-clause-differing c =
     let columns = c.args.columns.now in
     c.counts_between.ensures.differing ∙ ap (λ (l : List Column). differing (counted c.args.sides l))
-    ((λ i. take (c.len.ensures.value i - c.in_lines.result) (drop c.in_lines.result columns)) ∙ hidden-cut columns c.in_lines.result c.in_lines.ensures.few)
+    ((λ i. take (c.len.ensures.value i - c.columns_in_lines.result) (drop c.columns_in_lines.result columns)) ∙ hidden-cut columns c.columns_in_lines.result c.columns_in_lines.ensures.few)
+
+pub returns-clause-others : goal.returns-clause-others
+returns-clause-others c =
+    let columns = c.args.columns.now in
+    c.counts_between.ensures.others ∙ ap (uncounted c.args.sides)
+    ((λ i. take (c.len.ensures.value i - c.columns_in_lines.result) (drop c.columns_in_lines.result columns)) ∙ hidden-cut columns c.columns_in_lines.result c.columns_in_lines.ensures.few)

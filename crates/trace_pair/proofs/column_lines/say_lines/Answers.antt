@@ -4,7 +4,7 @@ use Rattle.std.specs.List.{flat_map, range_with_len}
 use Rattle.std.proofs.lemmas.List.{length-take}
 use Rattle.text_parts.proofs.Promises.{none-said, said-whole, same-rest, say-more}
 use Rattle.trace_pair.specs.ColumnLines.{line_text}
-use Rattle.trace_pair.proofs.Stretches.{range-first, range-none}
+use Rattle.trace_pair.proofs.LineNumbers.{range-first, range-none}
 use Rattle.trace_pair.proofs.column_lines.say_lines.Goals as goal
 
 pub overflow_add-at-end : goal.overflow_add-at-end

@@ -1,48 +1,37 @@
--- Each line that is shown, and each fold, is said behind those before it.
-use Rattle.std.proofs.Common.{◌≡◌, ◌-◌, ◌∙◌, ℕ, arith, ap, sym, refl}
+-- Each stretch is said behind those before it.
+use Rattle.std.proofs.Common.{ap, sym, subst, ◌∙◌}
 use Rattle.std.specs.List.{flat_map}
-use Rattle.text_parts.proofs.Promises.{none-said}
-use Rattle.byte_columns.specs.Lines.{line_count, stretches_from}
+use Rattle.text_parts.proofs.Promises.{none-said, said-whole, same-rest, say-more}
+use Rattle.byte_columns.specs.Laws.{AreOfOneKind}
+use Rattle.byte_columns.proofs.Promises.{stretches_are_of_one_kind}
 use Rattle.trace_pair.specs.ColumnLines.{stretch_text}
-use Rattle.trace_pair.proofs.Stretches.{turn-end, turn-folded, turn-shown}
 use Rattle.trace_pair.proofs.column_lines.say_stretches.Goals as goal
 
 pub lines-init : goal.lines-init
 lines-init g c =
     let columns = c.args.columns.now in
-    let all : line_count c.args.columns.now - 0 ≡ line_count c.args.columns.now = omega arith in
+    let text = stretch_text c.args.sides c.args.lettered columns in
+    let all = c.into_iter-stretch-iterator.ensures.into_iter_gives ∙ c.stretches-stretch-items.ensures in
     record {
-      inside = omega arith;
-      differ = refl;
-      left = none-said g.S.TextSink.says c.args.out.now _ _ (g.met.S.TextSink.nothing c.args.out.now)
-          (ap (λ (n : ℕ). flat_map (stretch_text c.args.sides c.args.lettered columns) (stretches_from columns 0 n)) all);
+      kinds = subst (AreOfOneKind c.args.columns.now) (sym all) (stretches_are_of_one_kind c.args.columns.now);
+      left = none-said g.S.TextSink.says c.args.out.now _ _ (g.met.S.TextSink.nothing c.args.out.now) (ap (flat_map text) all);
     }
 
-pub lines-preserved-then-folded-eq0 : goal.lines-preserved-then-folded-eq0
-lines-preserved-then-folded-eq0 g c =
-    let columns = c.args.columns.now in
-    let inv = c.lines.invariant in
-    let count = c.lines-count.ensures.value in
-    record {
-      inside = omega (arith, inv.inside, count, c.lines-test.true);
-      differ = c.differing_behind-before.ensures;
-      left = turn-shown g.S.TextSink.says g.met.S.TextSink.onward (stretch_text c.args.sides c.args.lettered columns) columns (line_count columns) c.args.out.now _ c.lines.at c.lines.out _
-          (omega (arith, count, c.lines-test.true)) (sym c.folded-folded.ensures.value ∙ c.if-folded-eq0.true) inv.left c.say_line.ensures;
-    }
+pub say_stretch-requires : goal.say_stretch-requires
+say_stretch-requires g c = (subst (AreOfOneKind c.args.columns.now) c.in-Some.ensures.steps c.lines.invariant.kinds).0
 
 pub lines-preserved : goal.lines-preserved
 lines-preserved g c =
-    let columns = c.args.columns.now in
-    let inv = c.lines.invariant in
-    let some = c.if-folded-eq0.false in
+    let text = stretch_text c.args.sides c.args.lettered c.args.columns.now in
+    let steps = c.in-Some.ensures.steps in
     record {
-      inside = omega (arith, c.folded-folded.ensures.inside);
-      differ = c.differing_behind-before-else-folded-eq0.ensures;
-      left = turn-folded g.S.TextSink.says g.met.S.TextSink.onward (stretch_text c.args.sides c.args.lettered columns) columns (line_count columns) c.args.out.now _ c.lines.at c.folded-folded.result c.lines.out _
-          c.folded-folded.ensures.value (omega (arith, some)) c.folded-folded.ensures.inside inv.left c.say_fold.ensures;
+      kinds = (subst (AreOfOneKind c.args.columns.now) c.in-Some.ensures.steps c.lines.invariant.kinds).2;
+      left = say-more g.S.TextSink.says g.met.S.TextSink.onward c.args.out.now c.lines.out _ (text c.in-Some.stretch) (flat_map text c.next.new.self) _
+          (same-rest g.S.TextSink.says c.args.out.now c.lines.out _ _ _ (ap (flat_map text) steps) c.lines.invariant.left) c.say_stretch.ensures;
     }
 
 pub returns : goal.returns
 returns g c =
-    turn-end g.S.TextSink.says g.met.S.TextSink.onward (stretch_text c.args.sides c.args.lettered c.args.columns.now) c.args.columns.now (line_count c.args.columns.now)
-    c.args.out.now _ c.lines.at c.lines.out (omega (arith, c.lines-count.ensures.value, c.lines-test.false)) c.lines.invariant.left
+    let text = stretch_text c.args.sides c.args.lettered c.args.columns.now in
+    said-whole g.S.TextSink.says c.args.out.now c.lines.out _
+    (same-rest g.S.TextSink.says c.args.out.now c.lines.out _ _ _ (ap (flat_map text) c.in-None.ensures.steps.0) c.lines.invariant.left)

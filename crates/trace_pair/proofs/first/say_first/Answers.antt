@@ -6,7 +6,7 @@ use Rattle.shown_rows.specs.declared.changes.Change.{Change}
 use Rattle.shown_rows.specs.Changes.{changes}
 use Rattle.trace_report.specs.Session.{SessionValue}
 use Rattle.uds_difference.specs.declared.row.Row.{Row}
-use Rattle.trace_pair.specs.First.{first_if, first_of}
+use Rattle.trace_pair.specs.FirstDifference.{first_if, first_of}
 use Rattle.trace_pair.proofs.ChangeSteps.{none-before}
 use Rattle.trace_pair.proofs.first.say_first.Goals as goal
 

@@ -16,8 +16,8 @@ returns-else-is_shown g c = λ row later first.
     let fold = λ (count : ℕ). table_end at.table ++ fold_text one other (fold_at at count) in
     let by = λ (within is : Bool). if within then [] else if is then seen_text one other all at row later else fold (folded (row ∷ later)) in
     let free : nat_lt 0 c.args.at.folded ≡ false = le-ltb 0 c.args.at.folded (omega arith) in
-    let hidden : is_shown c.args.at.context (row ∷ later) ≡ false =
-    ap (is_shown c.args.at.context) (sym first) ∙ sym c.is_shown.ensures ∙ c.if-is_shown.false in
+    let hidden : is_shown c.args.at.still_shown (row ∷ later) ≡ false =
+    ap (is_shown c.args.at.still_shown) (sym first) ∙ sym c.is_shown.ensures ∙ c.if-is_shown.false in
     let many : c.folded.result ≡ folded (row ∷ later) = c.folded.ensures.value ∙ ap folded first in
     subst (λ (text : List ℕ). g.S.TextSink.says c.args.out.now text c.say_fold.new.out)
     (ap fold many ∙ (λ i. by (sym free i) (sym hidden i)))

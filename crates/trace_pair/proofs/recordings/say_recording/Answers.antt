@@ -9,6 +9,6 @@ use Rattle.trace_pair.proofs.recordings.say_recording.Goals as goal
 pub returns : goal.returns
 returns g c =
     let session = c.args.session.now in
-    let many : c.items.result ≡ length (values_in session) =
-    c.items.ensures.value ∙ ap (λ (rows : List RowValue). length (items_in rows)) c.rows.ensures ∙ sym (length-map (items_in session.rows) item_value) in
-    rw (c.summary-summary.ensures, many, c.first.ensures, c.last.ensures) at c.say.ensures
+    let many : c.item_count.result ≡ length (values_in session) =
+    c.item_count.ensures.value ∙ ap (λ (rows : List RowValue). length (items_in rows)) c.rows.ensures ∙ sym (length-map (items_in session.rows) item_value) in
+    rw (c.summary-summary.ensures, many, c.first_time.ensures, c.last_time.ensures) at c.say.ensures

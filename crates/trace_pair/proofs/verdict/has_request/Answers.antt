@@ -26,5 +26,5 @@ returns c =
     let items = values_in c.args.session.now in
     let own : length (items_in c.rows.result.now) ≡ length (items_in c.args.session.now.rows) = ap (λ (rows : List RowValue). length (items_in rows)) c.rows.ensures in
     let many : length items ≡ length (items_in c.args.session.now.rows) = length-map (items_in c.args.session.now.rows) item_value in
-    let past : length items ≤ c.places.at = omega (arith, own, many, c.items-count.ensures.value, c.places-test.false) in
+    let past : length items ≤ c.places.at = omega (arith, own, many, c.item_count-count.ensures.value, c.places-test.false) in
     sym (c.places.invariant ∙ asks-none items c.places.at past)

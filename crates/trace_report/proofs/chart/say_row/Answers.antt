@@ -1,7 +1,7 @@
 -- A row is said as its variant.
 use Rattle.std.proofs.Common.{◌≡◌, ℕ, Bool, true, refl, ap, sym, subst, ◌∙◌}
 use Rattle.trace_report.specs.Chart.{row_text}
-use Rattle.trace_report.specs.LostRows.{missing_row}
+use Rattle.trace_report.specs.MissingRows.{missing_row}
 use Rattle.trace_report.specs.declared.row.Missing.{Missing}
 use Rattle.trace_report.specs.declared.row.Missing.TheVariants as missing
 use Rattle.trace_report.specs.Rows.{missing_of, row_of}

@@ -1,7 +1,7 @@
--- The law is the lemmas of the numbers of rows and of lines.
-use Rattle.trace_report.proofs.ItemNumbers.{line_numbers_are_places}
+-- The law is the lemma of the numbers of rows, and that of what is judged of one more message.
+use Rattle.uds_exchange.proofs.Promises.{number_stays_its_place}
 use Rattle.trace_report.proofs.RowNumbers.{row_numbers_are_places}
 use Rattle.trace_report.proofs.laws.numbers_are_places.Goals as goal
 
 pub returns : goal.returns
-returns c = record { rows = row_numbers_are_places; lines = line_numbers_are_places }
+returns c = record { rows = row_numbers_are_places; lines = λ M more sent start end. number_stays_its_place M more sent }

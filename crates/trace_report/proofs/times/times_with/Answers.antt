@@ -1,6 +1,6 @@
 -- The first time stays, and the last one is that of the frame.
 use Rattle.std.proofs.Common.{sym, ◌∙◌}
-use Rattle.trace_report.proofs.Holding.{times_begin, times_go_on}
+use Rattle.trace_report.proofs.HowKept.{times_begin, times_go_on}
 use Rattle.trace_report.proofs.times.times_with.Goals as goal
 
 pub returns-in-Some : goal.returns-in-Some

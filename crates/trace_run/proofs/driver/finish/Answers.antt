@@ -37,7 +37,8 @@ returns-in_err-answer-clause-ends g c = λ start settings log meanings received 
     let counted = c.summary-summary.ensures settings log meanings received feed tells.judged in
     rw (handed_on c.from_residual.result _ c.from_residual.ensures.1) (
       subst (λ s. M.answers start.machine (trace settings meanings) s (Err OutputLimit)) counted
-          (subst (λ reason. M.answers start.machine (trace settings meanings) c.summary-summary.result (Err reason)) (only_output_limit c.in_err-answer.field-0.0)
+          (subst (λ reason. M.answers start.machine (trace settings meanings) c.summary-summary.result (Err reason))
+          (only_output_limit c.in_err-answer.field-0.0)
           (c.in_err-answer.ensures.answered start.machine (trace settings meanings) tells.machine_stands received.pair_is)),
       subst (λ b. Carries W start.target (whole_since M W start settings log meanings) (blank_page (not b)) c.settle.new.target) c.if-not-settle.false
           (carried_at_the_end M W start settings log meanings _ _ _ _ _ c.settle.result c.summary-summary.result tells counted
@@ -45,16 +46,16 @@ returns-in_err-answer-clause-ends g c = λ start settings log meanings received 
     )
 
 pub returns-then-not-settle-clause-more : goal.returns-then-not-settle-clause-more
-returns-then-not-settle-clause-more g c = λ mid said first settings meanings received stands carried.
-    let told = c.tell_end-answer.ensures.says first (trace settings meanings) stands received.pair_is in
+returns-then-not-settle-clause-more g c = λ machine_start settings meanings received stands mid said carried.
+    let told = c.tell_end-answer.ensures.says machine_start (trace settings meanings) stands received.pair_is in
     only_more (c.settle.ensures.settled mid _ (told mid said carried))
 
 pub returns-clause-more : goal.returns-clause-more
-returns-clause-more g c = λ mid said first settings meanings received stands carried.
-    let told = c.tell_end-answer.ensures.says first (trace settings meanings) stands received.pair_is in
+returns-clause-more g c = λ machine_start settings meanings received stands mid said carried.
+    let told = c.tell_end-answer.ensures.says machine_start (trace settings meanings) stands received.pair_is in
     only_more (c.settle.ensures.settled mid _ (told mid said carried))
 
 pub returns-in_err-answer-clause-more : goal.returns-in_err-answer-clause-more
-returns-in_err-answer-clause-more g c = λ mid said first settings meanings received stands carried.
-    let told = c.tell_end-answer.ensures.says first (trace settings meanings) stands received.pair_is in
+returns-in_err-answer-clause-more g c = λ machine_start settings meanings received stands mid said carried.
+    let told = c.tell_end-answer.ensures.says machine_start (trace settings meanings) stands received.pair_is in
     only_more (c.settle.ensures.settled mid _ (told mid said carried))

@@ -26,7 +26,7 @@ use Rattle.trace_run.proofs.driver.run.Goals as goal
 abbrev begun : (g : Over) → After-start-receiver g → Begun g.M.Machine g.W.Target
 begun g c = record {
   settings = c.args.config.now;
-  first = c.args.machine;
+  machine_start = c.args.machine;
   state = run_state (c.start-receiver.result, c.args.target.now);
   is =
       begins_with g.M.Machine g.W.Target c.args.config.now c.args.machine c.start.result c.start-receiver.result c.args.target.now
@@ -41,7 +41,8 @@ begun g c = record {
 
 -- reading stops near to what stops the run
 near : (g : Over) (c : After-start-receiver g) (log : List ℕ) (given failures failures_now : ℕ)
-    → ReadsWhile (TakesFront (of_pairs (HasTaken g.M.Machine g.W.Target)) (c.start-receiver.result, c.args.target.now) log) given failures failures_now
+    → ReadsWhile (TakesFront (of_pairs (HasTaken g.M.Machine g.W.Target)) (c.start-receiver.result, c.args.target.now) log)
+    given failures failures_now
     → ReadsWhile (StopsNothingWithin (g.M.Machine.script c.args.machine).strict MESSAGE_LIMIT c.args.config.now log) given failures failures_now
 near g c log given failures failures_now reads =
     reads_near c.args.config.now log (g.M.Machine.script c.args.machine).strict
@@ -49,7 +50,7 @@ near g c log given failures failures_now reads =
 
 -- how the run ended on a fault, by what was seen of its source
 gives_up : (g : Over) (c : After-give_up g)
-    → GivesUp g.M.Machine g.W.Target (glimpse_of g.R.Source c.feed_lines.new.reader) c.in-Err.fault c.feed_lines.new.taker c.feed_lines.new.device
+    → GivesUp g.M.Machine g.W.Target (glimpse_of g.R.Source c.feed_lines.new.source) c.in-Err.fault c.feed_lines.new.taker c.feed_lines.new.device
     c.give_up.result c.give_up.new.target
 gives_up g c =
     subst (λ (glimpse : GlimpseValue). GivesUp g.M.Machine g.W.Target glimpse c.in-Err.fault c.feed_lines.new.taker c.feed_lines.new.device
@@ -61,15 +62,15 @@ returns-in-Err g c =
     let W = g.W.Target in
     let run : Begun M W = begun g ((goal.at.returns-in-Err g c).After-start-receiver) in
     let now : RunState g.row.M.Denot g.row.W.Denot = run_state (c.feed_lines.new.taker, c.feed_lines.new.device) in
-    let glimpse = glimpse_of g.R.Source c.feed_lines.new.reader in
-    let given = bytes_given g.R.Source c.args.source.now c.feed_lines.new.reader in
+    let glimpse = glimpse_of g.R.Source c.feed_lines.new.source in
+    let given = bytes_given g.R.Source c.args.source.now c.feed_lines.new.source in
     let answer = c.give_up.result in
     let new = c.give_up.new.target in
     let why = c.in-Err.fault in
     let start : Receiver g.row.M.Denot g.row.W.Denot × g.row.W.Denot = (c.start-receiver.result, c.args.target.now) in
     let none = takes_no_line M W run.state in
     let takes = c.in-Err.ensures.takes start none in
-    let fed : (log : List ℕ) → AgreesWith g.R.Source c.args.source.now c.feed_lines.new.reader log
+    let fed : (log : List ℕ) → AgreesWith g.R.Source c.args.source.now c.feed_lines.new.source log
     → Fed M W run.state c.args.config.now.max_bytes log given (Err why) now =
     λ log agrees.
     subst (λ most. Fed M W run.state most log given (Err why) now) c.max_bytes.ensures.value (c.in-Err.ensures.lines log agrees start none) in
@@ -99,8 +100,10 @@ returns-in-Err g c =
 
 -- how the run ends, after lines that mean this
 ends : (g : Over) (c : After-finish g) (log : List ℕ) (meanings : List (Option Stamped)) → c.in-Ok.ends_in_line_feed ≡ ends_in_line_feed log
-    → HasTaken g.M.Machine g.W.Target (run_state (c.start-receiver.result, c.args.target.now)) meanings (run_state (c.feed_lines.new.taker, c.feed_lines.new.device))
-    → EndsSaying g.M.Machine g.W.Target (start_with c.args.machine c.args.target.now) c.args.config.now log meanings c.finish.result c.finish.new.target
+    → HasTaken g.M.Machine g.W.Target (run_state (c.start-receiver.result, c.args.target.now)) meanings
+    (run_state (c.feed_lines.new.taker, c.feed_lines.new.device))
+    → EndsSaying g.M.Machine g.W.Target (start_with c.args.machine c.args.target.now) c.args.config.now log meanings
+    c.finish.result c.finish.new.target
 ends g c log meanings feed taken =
     let so_far = taken c.args.config.now c.args.machine (begun g ((goal.at.returns-in-Ok g c).After-start-receiver)).is in
     c.finish.ensures.ends (start_with c.args.machine c.args.target.now) c.args.config.now log meanings so_far.0.lines feed so_far.1
@@ -113,8 +116,8 @@ returns-in-Ok g c =
     let run : Begun M W = begun g ((goal.at.returns-in-Ok g c).After-start-receiver) in
     let now : RunState g.row.M.Denot g.row.W.Denot = run_state (c.feed_lines.new.taker, c.feed_lines.new.device) in
     let begins = start_with c.args.machine c.args.target.now in
-    let given = bytes_given g.R.Source c.args.source.now c.feed_lines.new.reader in
-    let glimpse = glimpse_of g.R.Source c.feed_lines.new.reader in
+    let given = bytes_given g.R.Source c.args.source.now c.feed_lines.new.source in
+    let glimpse = glimpse_of g.R.Source c.feed_lines.new.source in
     let result = c.finish.result in
     let new = c.finish.new.target in
     let start : Receiver g.row.M.Denot g.row.W.Denot × g.row.W.Denot = (c.start-receiver.result, c.args.target.now) in
@@ -127,13 +130,14 @@ returns-in-Ok g c =
       ran = record {
         answer = λ log agrees.
             let read = c.in-Ok.ensures.lines log agrees start none in
-            answers_at_the_end M W begins settings log read.0 glimpse given result new (omega (arith, read.1, c.max_bytes.ensures.value)) read.2 read.3
+            answers_at_the_end M W begins settings log read.0 glimpse given result new
+            (omega (arith, read.1, c.max_bytes.ensures.value)) read.2 read.3
             (read.5 settings c.args.machine run.is).1.within (ends g c log read.0 read.6 read.5);
         eager = λ log agrees.
             let read = c.in-Ok.ensures.lines log agrees start none in
             let so_far = read.5 settings c.args.machine run.is in
             eagerly run now log given (c.in-Ok.ensures.eager log agrees start none (is_sure_of_no_line M W run.state)) new
-            (λ mid said carried. c.finish.ensures.more mid said c.args.machine settings read.0 so_far.0.lines so_far.1.machine_stands carried);
+            (c.finish.ensures.more c.args.machine settings read.0 so_far.0.lines so_far.1.machine_stands);
         memory = λ log agrees refused. absurd (neither.1 refused);
         near = λ log agrees. near g ((goal.at.returns-in-Ok g c).After-start-receiver) log _ _ _ (c.in-Ok.ensures.near log agrees start none);
         configured = c.max_bytes.ensures.settings;

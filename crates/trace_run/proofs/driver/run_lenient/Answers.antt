@@ -1,7 +1,8 @@
 -- A run of a script that is not strict is a run, of which a little more is known.
 use Rattle.trace_run.proofs.LenientRuns.{near_when_lenient, no_oversize, no_output_limit, needs_when_none}
 use Rattle.trace_log.proofs.Promises.{given_agrees}
-use Rattle.trace_run.specs.Script.{command, glimpse_of}
+use Rattle.trace_run.specs.Ran.{command_of}
+use Rattle.trace_run.specs.Script.{glimpse_of}
 use Rattle.trace_run.proofs.driver.run_lenient.Goals as goal
 
 pub returns : goal.returns
@@ -9,7 +10,7 @@ returns g c =
     let all = c.run.ensures.ran in
     let machine = c.args.machine in
     let M = g.M.Machine in
-    let of = command (M.script machine) (M.refusal machine (glimpse_of g.R.Source c.run.new.source)) (M.answers machine) (M.needs machine) in
+    let of = command_of M (glimpse_of g.R.Source c.run.new.source) machine in
     let is_lenient = c.requires.lenient in
     let answered = all.answer all.read.gave.bytes (given_agrees all.read.gave) in
     record {

@@ -1,4 +1,4 @@
--- The text that is held is the one that was written.
+-- The text that is gathered is the one that was written.
 use Rattle.std.proofs.Common.{subst}
 use Rattle.trace_io.specs.Written.{HasWritten}
 use Rattle.trace_run.proofs.page.write_out.Goals as goal
@@ -6,5 +6,6 @@ use Rattle.trace_run.proofs.page.write_out.Goals as goal
 pub returns-clause-taken : goal.returns-clause-taken
 returns-clause-taken g c =
     let W = g.W.Target in
-    subst (λ text. HasWritten c.write_all-result.result (W.taken c.args.target.now) text (W.taken c.write_all-result.new.target)) c.as_slice.ensures.value
+    subst (λ text. HasWritten c.write_all-result.result (W.taken c.args.target.now) text
+    (W.taken c.write_all-result.new.target)) c.as_slice.ensures.value
     c.write_all-result.ensures.taken

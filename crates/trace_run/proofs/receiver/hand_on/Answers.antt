@@ -11,4 +11,10 @@ returns-in-Message-clause-told g c = λ T e seen.
 pub returns-in-Stored-clause-told : goal.returns-in-Stored-clause-told
 returns-in-Stored-clause-told g c = λ T e seen.
     let same = sym (ap (λ v. seen_event (record { verdict = v; ended = c.args.frame.event.ended })) c.in-Stored.is) in
-    c.count_and_tell-in-Stored.ensures.told T e (record { few = seen.few; line = seen.line; micros = seen.micros; dir = seen.dir; did = same ∙ seen.did })
+    c.count_and_tell-in-Stored.ensures.told T e (record {
+      few = seen.few;
+      line = seen.line;
+      micros = seen.micros;
+      dir = seen.dir;
+      did = same ∙ seen.did;
+    })

@@ -27,18 +27,18 @@ returns-in-Messages g c = record { ran = rw c.in-Messages.is c.messages.ensures.
 pub returns-in-Report : goal.returns-in-Report
 returns-in-Report g c =
     let settings = c.args.config.now in
-    let seen = glimpse_of g.R.Source c.report.new.reader in
+    let seen = glimpse_of g.R.Source c.report.new.source in
     let ran = c.report.ensures.ran.run in
     record {
       ran = rw c.in-Report.is (record {
         answer = λ log agrees. (
           c.report_style.result.now,
-          subst (λ (name : List ℕ). AnswersAndWrites (command (report_script (page_title c.report_style.result.now name settings) MESSAGE_LIMIT) (refused_text (page_title c.report_style.result.now name settings) MESSAGE_LIMIT seen) answers_counts needs_none) MESSAGE_LIMIT settings log (length (g.R.Source.given c.report.new.reader) - length (g.R.Source.given c.args.input.now)) c.report.result (g.W.Target.taken c.args.out.now) (g.W.Target.taken c.report.new.writer)) c.as_bytes.ensures.value
+          subst (λ (name : List ℕ). AnswersAndWrites (command (report_script (page_title c.report_style.result.now name settings) MESSAGE_LIMIT) (refused_text (page_title c.report_style.result.now name settings) MESSAGE_LIMIT seen) answers_counts needs_none) MESSAGE_LIMIT settings log (length (g.R.Source.given c.report.new.source) - length (g.R.Source.given c.args.input.now)) c.report.result (g.W.Target.taken c.args.out.now) (g.W.Target.taken c.report.new.target)) c.as_bytes.ensures.value
               (ran.answer log agrees),
         );
         eager = λ log agrees. (
           c.report_style.result.now,
-          subst (λ (name : List ℕ). WritesSaidEagerly (report_script (page_title c.report_style.result.now name settings) MESSAGE_LIMIT) MESSAGE_LIMIT settings log (length (g.R.Source.given c.report.new.reader) - length (g.R.Source.given c.args.input.now)) (g.W.Target.taken c.args.out.now) (g.W.Target.taken c.report.new.writer)) c.as_bytes.ensures.value
+          subst (λ (name : List ℕ). WritesSaidEagerly (report_script (page_title c.report_style.result.now name settings) MESSAGE_LIMIT) MESSAGE_LIMIT settings log (length (g.R.Source.given c.report.new.source) - length (g.R.Source.given c.args.input.now)) (g.W.Target.taken c.args.out.now) (g.W.Target.taken c.report.new.target)) c.as_bytes.ensures.value
               (ran.eager log agrees),
         );
         memory = c.report.ensures.ran.memory (λ T e none. none);

@@ -7,7 +7,7 @@ use Rattle.trace_log.specs.declared.fault.Fault.TheVariants as fault
 use Rattle.trace_pair.specs.Page.{pair_page}
 use Rattle.trace_pair.specs.Titles.{title_for}
 use Rattle.udsnorm.specs.Commands.{ComparesPair, PagesPair, text_of_difference}
-use Rattle.udsnorm.specs.proving.Pairs.{answer_held, cause_in, text_of_answer}
+use Rattle.udsnorm.specs.proving.Pairs.{answer_kept, cause_in, text_of_answer}
 use Rattle.trace_report.specs.declared.cause.RefusalCause.{RefusalCause}
 use Rattle.trace_run.specs.Script.{glimpse_of}
 use Rattle.udsnorm.specs.declared.pair_jobs.PairAnswer.{PairAnswer}
@@ -100,19 +100,19 @@ returns-clause-engine g c =
     c.cause_in-cause.ensures ∙ (λ i. cause_in c.align_two-answer.result (c.max_bytes.ensures.value i) left_seen right_seen) in
     rw c.in-Report.is (
       text,
-      λ one other agrees_one agrees_other. subst (λ (told : Result PairAnswer CompareFault). PagesPair left right left_seen right_seen c.args.strict MESSAGE_LIMIT settings one other told text) (sym c.answer_held.ensures)
-          (subst (λ (cause : Option RefusalCause). PagesPair left right left_seen right_seen c.args.strict MESSAGE_LIMIT settings one other (answer_held c.align_two-answer.result) (page_with cause)) (sym cause_is)
+      λ one other agrees_one agrees_other. subst (λ (told : Result PairAnswer CompareFault). PagesPair left right left_seen right_seen c.args.strict MESSAGE_LIMIT settings one other told text) (sym c.answer_kept.ensures)
+          (subst (λ (cause : Option RefusalCause). PagesPair left right left_seen right_seen c.args.strict MESSAGE_LIMIT settings one other (answer_kept c.align_two-answer.result) (page_with cause)) (sym cause_is)
           (pages_pair page.0 left right left_seen right_seen c.args.strict MESSAGE_LIMIT settings one other c.align_two-answer.result (c.align_two-answer.ensures.answer one other agrees_one agrees_other))),
       page.1,
     )
 
 pub returns-clause-left_memory : goal.returns-clause-left_memory
 returns-clause-left_memory g c = λ log agrees is.
-    rw c.in-Report.is (c.align_two-answer.ensures.left_memory log agrees (fault_held c.align_two-answer.result _ (sym c.answer_held.ensures ∙ is)))
+    rw c.in-Report.is (c.align_two-answer.ensures.left_memory log agrees (fault_held c.align_two-answer.result _ (sym c.answer_kept.ensures ∙ is)))
 
 pub returns-clause-right_memory : goal.returns-clause-right_memory
 returns-clause-right_memory g c = λ one other left right is.
-    rw c.in-Report.is (c.align_two-answer.ensures.right_memory one other left right (fault_held c.align_two-answer.result _ (sym c.answer_held.ensures ∙ is)))
+    rw c.in-Report.is (c.align_two-answer.ensures.right_memory one other left right (fault_held c.align_two-answer.result _ (sym c.answer_kept.ensures ∙ is)))
 
 pub returns-clause-left_near : goal.returns-clause-left_near
 returns-clause-left_near g c = λ log agrees. rw c.in-Report.is (c.align_two-answer.ensures.left_near log agrees)
@@ -122,8 +122,8 @@ returns-clause-right_near g c = λ log agrees. rw c.in-Report.is (c.align_two-an
 
 pub returns-clause-left_read : goal.returns-clause-left_read
 returns-clause-left_read g c =
-    read_told g.A.Source (Left fault.Read) c.args.config.now.max_bytes c.align_two-answer.result c.answer_held.result _ _ c.answer_held.ensures c.align_two-answer.ensures.left_read
+    read_told g.A.Source (Left fault.Read) c.args.config.now.max_bytes c.align_two-answer.result c.answer_kept.result _ _ c.answer_kept.ensures c.align_two-answer.ensures.left_read
 
 pub returns-clause-right_read : goal.returns-clause-right_read
 returns-clause-right_read g c =
-    read_told g.B.Source (Right fault.Read) c.args.config.now.max_bytes c.align_two-answer.result c.answer_held.result _ _ c.answer_held.ensures c.align_two-answer.ensures.right_read
+    read_told g.B.Source (Right fault.Read) c.args.config.now.max_bytes c.align_two-answer.result c.answer_kept.result _ _ c.answer_kept.ensures c.align_two-answer.ensures.right_read

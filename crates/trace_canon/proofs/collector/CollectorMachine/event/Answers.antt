@@ -5,17 +5,23 @@ use Rattle.isotp_receive.specs.declared.TheConstants.{MESSAGE_LIMIT}
 use Rattle.isotp_receive.specs.Verdict.{messages}
 use Rattle.trace_run.proofs.Promises.{completes_judged, completes_none}
 use Rattle.trace_canon.specs.proving.SessionScript.{Collects}
-use Rattle.trace_canon.proofs.CanonicalMachines.{completes_message}
+use Rattle.trace_canon.proofs.CompletedMessages.{completes_message}
 use Rattle.trace_canon.proofs.collector.CollectorMachine.event.Goals as goal
 
 pub returns-clause-ok : goal.returns-clause-ok
 returns-clause-ok g c = on_ok_weaker c.take.result (λ taken start T e seen stood.
     let now = c.take.new.self in
-    let completes = completes_judged T e c.args.seen c.in-Some.message seen c.in-Some.is in
-    (subst (λ N. Collects start.config N now.pairing now.length now.config) (sym completes.next) (taken start.config (messages MESSAGE_LIMIT T) completes.step stood), g.met.S.TextSink.nothing c.args._out.now)) c.take.ensures
+    let completes = completes_judged T e c.args.seen c.in-Some.message seen c.in-Some.is in (
+      subst (λ N. Collects start.config N now.pairing now.length now.config) (sym completes.next)
+          (taken start.config (messages MESSAGE_LIMIT T) completes.step stood),
+      g.met.S.TextSink.nothing c.args._out.now,
+    ))
+    c.take.ensures
 
 pub returns-clause-err : goal.returns-clause-err
-returns-clause-err g c = MatchResult-weaker c.take.result c.take.ensures (λ done taken. tt) (λ error taken start T stood. g.met.S.TextSink.nothing c.args._out.now)
+returns-clause-err g c =
+    MatchResult-weaker c.take.result c.take.ensures (λ done taken. tt)
+    (λ error taken start T stood. g.met.S.TextSink.nothing c.args._out.now)
 
 pub returns-clause-needs : goal.returns-clause-needs
 returns-clause-needs g c = MatchResult-weaker c.take.result c.take.ensures (λ done taken. tt) (λ error taken start T e seen stood.
@@ -23,5 +29,8 @@ returns-clause-needs g c = MatchResult-weaker c.take.result c.take.ensures (λ d
 
 pub returns-in_default-clause-ok : goal.returns-in_default-clause-ok
 returns-in_default-clause-ok g c = λ start T e seen stood.
-    let now = c.args.self.now in
-    (subst (λ N. Collects start.config N now.pairing now.length now.config) (sym (completes_none T e c.args.seen seen c.in_default.is)) stood, g.met.S.TextSink.nothing c.args._out.now)
+    let now = c.args.self.now in (
+      subst (λ N. Collects start.config N now.pairing now.length now.config)
+          (sym (completes_none T e c.args.seen seen c.in_default.is)) stood,
+      g.met.S.TextSink.nothing c.args._out.now,
+    )

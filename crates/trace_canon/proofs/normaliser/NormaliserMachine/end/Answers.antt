@@ -10,13 +10,17 @@ use Rattle.trace_canon.proofs.normaliser.NormaliserMachine.end.Goals as goal
 pub returns-then-is_full-clause-answered : goal.returns-then-is_full-clause-answered
 returns-then-is_full-clause-answered g c = λ start T stands pair.
     let self = c.args.self in
-    let over = over_at_end start.config self.config T self.orderer self.progress c.say_held.new.progress stands (c.say_held.ensures.progress (messages MESSAGE_LIMIT T) stands.ordered)
+    let over =
+    over_at_end start.config self.config T self.orderer self.progress c.say_held.new.progress stands
+    (c.say_held.ensures.progress (messages MESSAGE_LIMIT T) stands.ordered)
     (sym c.is_full.ensures ∙ c.if-is_full.true) in
     ap (λ (b : Bool). if b then Ok c.args.summary.now else Err OutputLimit) (sym over)
 
 pub returns-clause-answered : goal.returns-clause-answered
 returns-clause-answered g c = λ start T stands pair.
     let self = c.args.self in
-    let within = within_at_end start.config self.config T self.orderer self.progress c.say_held.new.progress stands (c.say_held.ensures.progress (messages MESSAGE_LIMIT T) stands.ordered)
+    let within =
+    within_at_end start.config self.config T self.orderer self.progress c.say_held.new.progress stands
+    (c.say_held.ensures.progress (messages MESSAGE_LIMIT T) stands.ordered)
     (sym c.is_full.ensures ∙ c.if-is_full.false) in
     ap (λ (b : Bool). if b then Ok c.args.summary.now else Err OutputLimit) (sym within)

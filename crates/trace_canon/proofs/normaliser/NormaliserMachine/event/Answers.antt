@@ -3,9 +3,11 @@ use Rattle.std.proofs.lemmas.Result.{on_err_weaker}
 use Rattle.isotp_receive.specs.declared.TheConstants.{MESSAGE_LIMIT}
 use Rattle.isotp_receive.specs.Verdict.{messages}
 use Rattle.uds_exchange.specs.Judging.{sent}
+use Rattle.uds_exchange.specs.Orderer.{IsHeld}
 use Rattle.trace_run.proofs.Promises.{completes_judged, completes_none}
 use Rattle.trace_canon.proofs.Results.{two_ok}
-use Rattle.trace_canon.proofs.CanonicalMachines.{completes_held, says_next, says_nothing_more}
+use Rattle.trace_canon.proofs.CanonicalMachines.{says_next, says_nothing_more}
+use Rattle.trace_canon.proofs.CompletedMessages.{completes_such}
 use Rattle.trace_canon.proofs.normaliser.NormaliserMachine.event.Goals as goal
 
 pub returns-clause-ok : goal.returns-clause-ok
@@ -24,7 +26,7 @@ pub returns-clause-needs : goal.returns-clause-needs
 returns-clause-needs g c = on_err_weaker c.say_due.result (λ held start T e seen stood.
     let message = c.in-Some.message in
     let completes = completes_judged T e c.args.seen message seen c.in-Some.is in
-    completes_held T e message completes (held (messages MESSAGE_LIMIT T) stood.ordered completes.step)) c.say_due.ensures.needs
+    completes_such IsHeld T e message completes (held (messages MESSAGE_LIMIT T) stood.ordered completes.step)) c.say_due.ensures.needs
 
 pub returns-in_default-clause-ok : goal.returns-in_default-clause-ok
 returns-in_default-clause-ok g c = λ start T e seen stood.

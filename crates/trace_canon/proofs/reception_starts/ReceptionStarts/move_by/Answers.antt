@@ -11,13 +11,15 @@ pub returns-in-Message : goal.returns-in-Message
 returns-in-Message c = λ d.
     let before = reception_start c.args.self.now d in
     let own = same_direction d c.args.dir in
-    c.set.ensures d ∙ over c.args.here before own _ ∙ ap (λ (v : Verdict). start_after_verdict own (seen_verdict v) c.args.here before) (sym c.in-Message.is)
+    c.set.ensures d ∙ over c.args.here before own _
+    ∙ ap (λ (v : Verdict). start_after_verdict own (seen_verdict v) c.args.here before) (sym c.in-Message.is)
 
 pub returns-in-Began : goal.returns-in-Began
 returns-in-Began c = λ d.
     let before = reception_start c.args.self.now d in
     let own = same_direction d c.args.dir in
-    c.set-in-Began.ensures d ∙ anew c.args.here before own ∙ ap (λ (v : Verdict). start_after_verdict own (seen_verdict v) c.args.here before) (sym c.in-Began.is)
+    c.set-in-Began.ensures d ∙ anew c.args.here before own
+    ∙ ap (λ (v : Verdict). start_after_verdict own (seen_verdict v) c.args.here before) (sym c.in-Began.is)
 
 pub returns-in-Stored : goal.returns-in-Stored
 returns-in-Stored c = λ d.

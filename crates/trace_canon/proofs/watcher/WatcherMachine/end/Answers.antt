@@ -7,4 +7,5 @@ use Rattle.trace_canon.proofs.watcher.WatcherMachine.end.Goals as goal
 pub returns-clause-says : goal.returns-clause-says
 returns-clause-says g c = λ start T stood standing.
     let self = c.args.self in
-    watched g.S.TextSink.says start.style self.style T self.decider self.number _ c.args.out.now _ stood (c.say_undecided.ensures (messages MESSAGE_LIMIT T) stood.decides)
+    watched g.S.TextSink.says start.style self.style T self.decider self.number _ c.args.out.now _ stood
+    (c.say_undecided.ensures (messages MESSAGE_LIMIT T) stood.decides)

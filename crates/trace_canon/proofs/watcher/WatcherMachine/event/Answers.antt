@@ -2,10 +2,12 @@
 use Rattle.std.proofs.lemmas.Result.{on_err_weaker}
 use Rattle.isotp_receive.specs.declared.TheConstants.{MESSAGE_LIMIT}
 use Rattle.isotp_receive.specs.Verdict.{messages}
+use Rattle.uds_exchange.specs.Decider.{IsKept}
 use Rattle.uds_exchange.specs.Judging.{sent}
 use Rattle.trace_run.proofs.Promises.{completes_judged, completes_none}
 use Rattle.trace_canon.proofs.Results.{two_ok}
-use Rattle.trace_canon.proofs.WatchScripts.{completes_kept, watches_next, watches_on}
+use Rattle.trace_canon.proofs.CompletedMessages.{completes_such}
+use Rattle.trace_canon.proofs.WatchScripts.{watches_next, watches_on}
 use Rattle.trace_canon.proofs.watcher.WatcherMachine.event.Goals as goal
 
 pub returns-clause-ok : goal.returns-clause-ok
@@ -14,7 +16,8 @@ returns-clause-ok g c = two_ok c.say_decided.result (λ stands says start T e se
     let self = c.args.self.now in
     let message = c.in-Some.message in
     let completes = completes_judged T e c.args.seen message seen c.in-Some.is in
-    watches_next g.S.TextSink.says start.style self.style T e (sent message) self.decider _ self.number _ c.args.out.now _ seen.event.few completes.next stood
+    watches_next g.S.TextSink.says start.style self.style T e (sent message) self.decider _ self.number _ c.args.out.now _
+    seen.event.few completes.next stood
     (stands M stood.decides completes.step) (says M stood.decides completes.step)) c.say_decided.ensures.stands c.say_decided.ensures.says
 
 pub returns-clause-err : goal.returns-clause-err
@@ -24,7 +27,7 @@ pub returns-clause-needs : goal.returns-clause-needs
 returns-clause-needs g c = on_err_weaker c.say_decided.result (λ kept start T e seen stood.
     let message = c.in-Some.message in
     let completes = completes_judged T e c.args.seen message seen c.in-Some.is in
-    completes_kept T e message completes (kept (messages MESSAGE_LIMIT T) stood.decides completes.step)) c.say_decided.ensures.needs
+    completes_such IsKept T e message completes (kept (messages MESSAGE_LIMIT T) stood.decides completes.step)) c.say_decided.ensures.needs
 
 pub returns-in_default-clause-ok : goal.returns-in_default-clause-ok
 returns-in_default-clause-ok g c = λ start T e seen stood.

@@ -8,10 +8,10 @@ use Rattle.trace_pair.proofs.change_top.NavigationPart.say.Goals as goal
 
 pub returns-else-number-all : goal.returns-else-number-all
 returns-else-number-all g c =
-    let number = c.args.self.0 in
-    let all = c.args.self.1 in
-    let several : (all == 1) ≡ false = ne_eqb c.args.self.1 1 c.if-all-eq1.false in
-    let last : nat_lt number all ≡ false = le-ltb c.args.self.0 c.args.self.1 c.if-number-all.false in
+    let number = c.args.self.number in
+    let all = c.args.self.all in
+    let several : (all == 1) ≡ false = ne_eqb c.args.self.all 1 c.if-all-eq1.false in
+    let last : nat_lt number all ≡ false = le-ltb c.args.self.number c.args.self.all c.if-number-all.false in
     let by = λ (one more : Bool). if one then []
     else codes " <span class=\"nav\">" ++ decimal number ++ codes " of " ++ decimal all ++ codes " "
     ++ way_on (if more then Some (number + 1) else None) ++ codes "</span>" in

@@ -10,7 +10,7 @@ use Rattle.trace_run.specs.Seen.{IsEventOf, IsSeen}
 use Rattle.trace_run.specs.declared.machine.Seen.{Seen}
 use Rattle.trace_run.proofs.Promises.{completes_judged}
 use Rattle.trace_report.specs.Rows.{row_of}
-use Rattle.trace_report.specs.proving.Following.{KnowsPlaces, row_if}
+use Rattle.trace_report.specs.proving.Following.{KnowsExtents, row_if}
 use Rattle.trace_report.proofs.Meeting.{message_event, met_next, met_none, rows_none, rows_of_message}
 use Rattle.trace_report.proofs.follower.Follower.take.Goals as goal
 
@@ -40,8 +40,8 @@ returns-in-Some-clause-next c = λ T e seen known.
       met = met_next T e message.dir (verdict MESSAGE_LIMIT T e) completes.dir refl message.bytes.now here.micros c.args.self.now.asked c.take_message.new.self
           completes.did (sym at.micros) known.met.asked_then
           (c.take_message.ensures.next (messages MESSAGE_LIMIT T) completes.step completes.item known.met.waits known.met.silent);
-      places = subst (λ p. KnowsPlaces (T ++ e ∷ []) p) (sym c.take_message.ensures.places)
-          (c.take-extent.ensures.next T e at known.places);
+      extents = subst (λ p. KnowsExtents (T ++ e ∷ []) p) (sym c.take_message.ensures.extents)
+          (c.take-extent.ensures.next T e at known.extents);
     }
 
 pub returns-in-Some-clause-rows : goal.returns-in-Some-clause-rows
@@ -58,8 +58,8 @@ returns-in-Some-clause-rows c = λ T e seen known.
     let ended = c.ended_row_of-first.ensures e stands in
     let closing = c.take_message.ensures.closing M completes.step known.met.waits known.met.silent in
     let row = c.take_message.ensures.row M completes.step completes.item in
-    let first = c.take-extent.ensures.first T e at known.places (bytes, completes.did) in
-    let frames = c.take-extent.ensures.frames T e at known.places (bytes, completes.did) in
+    let first = c.take-extent.ensures.first T e at known.extents (bytes, completes.did) in
+    let frames = c.take-extent.ensures.frames T e at known.extents (bytes, completes.did) in
     rows_of_message (row_if c.ended_row_of-first.result) (row_if c.take_message.result.0) (row_of c.take_message.result.1)
     ∙ (λ i. ended i ++ (closing i ++ row i ∷ []))
     ∙ message_event T e message.dir (seen_event what.event) bytes c.args.self.now.asked here c.take-extent.result completes.dir at.did told known.met.asked_then stands first frames
@@ -70,7 +70,7 @@ returns-in-None-clause-next c = λ T e seen known.
     let here = c.here_of-here.result in
     record {
       met = met_none T e what _ seen c.in-None.is (record { waits = known.met.waits; silent = known.met.silent; asked_then = known.met.asked_then });
-      places = c.take-extent.ensures.next T e (event_at T e what here seen c.here_of-here.ensures) known.places;
+      extents = c.take-extent.ensures.next T e (event_at T e what here seen c.here_of-here.ensures) known.extents;
     }
 
 pub returns-in-None-clause-rows : goal.returns-in-None-clause-rows

@@ -1,6 +1,6 @@
 -- The bytes of the name up to the place of the loop are said.
 use Rattle.std.proofs.Common.{take}
-use Rattle.trace_report.specs.Front.{name_text}
+use Rattle.trace_report.specs.LogNames.{name_text}
 use Rattle.trace_report.proofs.log_names.NamePart.say.Given as goal
 
 abbrev pub invariant-bytes : goal.invariant-bytes

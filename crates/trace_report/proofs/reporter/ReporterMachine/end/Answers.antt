@@ -8,7 +8,7 @@ use Rattle.trace_report.specs.Front.{PageTitleValue}
 use Rattle.trace_report.specs.Page.{front_before, page_end}
 use Rattle.trace_report.specs.Rows.{RowValue}
 use Rattle.trace_report.specs.proving.Following.{IsChartOf}
-use Rattle.trace_report.proofs.Holding.{first_known, last_known}
+use Rattle.trace_report.proofs.HowKept.{first_known, last_known}
 use Rattle.trace_report.proofs.Steps.{few_rows}
 use Rattle.trace_report.proofs.reporter.ReporterMachine.end.Goals as goal
 
@@ -27,4 +27,4 @@ returns-clause-says g c = λ start T known stand.
     (subst (λ text. g.S.TextSink.says c.say_front_before.new.out text c.say_rows.new.out)
     (λ i. rows_text (origin i) (blocks_of (rows_of MESSAGE_LIMIT T)) (rows i)) (c.say_rows.ensures.says (rows_of MESSAGE_LIMIT T) low known.chart)))
     (subst (λ text. g.S.TextSink.says c.say_rows.new.out text c.say.new.out)
-    (λ i. page_end (chart.blocks i) (chart.tally i) c.args.summary.now (first i) (last i)) c.say.ensures)
+    (λ i. page_end (chart.blocks i) (record { tally = chart.tally i; summary = c.args.summary.now; first = first i; last = last i })) c.say.ensures)

@@ -9,7 +9,7 @@ use Rattle.trace_report.specs.Front.{PageTitleValue}
 use Rattle.trace_report.specs.Page.{front_before}
 use Rattle.trace_report.specs.Rows.{RowValue}
 use Rattle.trace_report.specs.proving.Following.{IsChartOf}
-use Rattle.trace_report.proofs.Holding.{first_known}
+use Rattle.trace_report.proofs.HowKept.{first_known}
 use Rattle.trace_report.proofs.Steps.{few_rows, rows_next}
 use Rattle.trace_report.proofs.reporter.ReporterMachine.event.Goals as goal
 

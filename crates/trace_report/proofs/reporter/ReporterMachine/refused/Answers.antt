@@ -4,7 +4,7 @@ use Rattle.trace_report.specs.Causes.{cause_of}
 use Rattle.trace_report.specs.Front.{PageTitleValue}
 use Rattle.trace_report.specs.Page.{front_before, refused_end}
 use Rattle.trace_run.specs.Script.{glimpse_value}
-use Rattle.trace_report.proofs.Holding.{first_known, last_known}
+use Rattle.trace_report.proofs.HowKept.{first_known, last_known}
 use Rattle.trace_report.proofs.reporter.ReporterMachine.refused.Goals as goal
 
 pub returns : goal.returns
@@ -16,5 +16,5 @@ returns g c = record {
       (c.say_front_before.ensures T known.times) in
       g.met.S.TextSink.onward _ _ _ _ _ front
       (subst (λ text. g.S.TextSink.says c.say_front_before.new.out text c.say.new.out)
-      (λ i. refused_end c.args.why ((c.cause_of.ensures ∙ ap (λ (title : PageTitleValue). cause_of c.args.why title.most (glimpse_value c.args.glimpse)) known.same) i) (known.chart.blocks i) (known.chart.tally i) c.args.summary.now (first i) (last i)) c.say.ensures);
+      (λ i. refused_end c.args.why ((c.cause_of.ensures ∙ ap (λ (title : PageTitleValue). cause_of c.args.why title.max_bytes (glimpse_value c.args.glimpse)) known.same) i) (known.chart.blocks i) (record { tally = known.chart.tally i; summary = c.args.summary.now; first = first i; last = last i })) c.say.ensures);
 }

@@ -1,15 +1,16 @@
--- What was held is settled; then the three are held, or said one after another.
+-- What was gathered is settled; then the three are gathered, or said one after another.
 use Rattle.std.proofs.Common.{◌++◌, sym, subst}
 use Rattle.trace_run.specs.declared.page.Page.{Page}
 use Rattle.trace_run.specs.proving.Carrying.{Carries}
 use Rattle.trace_run.specs.proving.PageSinks.{says_onward}
-use Rattle.trace_run.proofs.Carryings.{held_more}
+use Rattle.trace_run.proofs.Carryings.{gathered_more}
 use Rattle.trace_run.proofs.page.Page.put_three_where_full.Goals as goal
 
 pub returns-then-try_append_three : goal.returns-then-try_append_three
 returns-then-try_append_three g c = λ start said carries.
     let settled = c.settle.new in
-    held_more g.W.Target start settled.target said (c.args.first.now ++ c.args.second.now ++ c.args.third.now) settled.self c.try_append_three.new.self
+    gathered_more g.W.Target start settled.target said (c.args.first.now ++ c.args.second.now ++ c.args.third.now)
+    settled.self c.try_append_three.new.self
     (c.try_append_three.ensures.took c.if-try_append_three.true) (c.settle.ensures.no_more start said carries)
 
 pub returns : goal.returns
@@ -20,9 +21,11 @@ returns g c = λ start said carries.
     let two = c.put-2.new in
     let three = c.put-3.new in
     let same = c.try_append_three.ensures.full c.if-try_append_three.false in
-    let page : Page = record settled.self { held = c.try_append_three.new.self } in
+    let page : Page = record settled.self { gathered = c.try_append_three.new.self } in
     let so_far : Carries W start said page settled.target =
-    subst (λ held. Carries W start said (record settled.self { held = held }) settled.target) (sym same) (c.settle.ensures.no_more start said carries) in
-    let both = says_onward W page one.self two.self settled.target one.target two.target c.args.first.now c.args.second.now c.put.ensures c.put-2.ensures in
+    subst (λ gathered. Carries W start said (record settled.self { gathered = gathered }) settled.target) (sym same)
+    (c.settle.ensures.no_more start said carries) in
+    let both = says_onward W page one.self two.self settled.target one.target two.target c.args.first.now c.args.second.now
+    c.put.ensures c.put-2.ensures in
     says_onward W page two.self three.self settled.target two.target three.target (c.args.first.now ++ c.args.second.now)
     c.args.third.now both c.put-3.ensures start said so_far

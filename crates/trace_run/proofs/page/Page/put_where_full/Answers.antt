@@ -16,7 +16,7 @@ returns-in-Err g c = λ start said carries.
     subst (λ b. Carries W start said (record page { failed = b }) c.args.target.now) (c.may_write.ensures.well c.if-not-may_write.false) carries in
     record {
       low = so_far.low;
-      held_some = λ some. omega (arith, some_text, length-append said c.args.text.now);
+      gathered_some = λ some. omega (arith, some_text, length-append said c.args.text.now);
       failed_some = λ is. omega (arith, some_text, length-append said c.args.text.now);
       still = λ none. absurd (omega (arith, none, some_text, length-append said c.args.text.now));
       failures = failed.failures ∙ ap (λ n. n + 1) so_far.failures;
@@ -24,7 +24,7 @@ returns-in-Err g c = λ start said carries.
       flushes = failed.flushes ∙ so_far.flushes;
       took = took_more so_far.took failed.took;
       written =
-          front_behind (W.taken start) said c.args.text.now (W.taken c.args.target.now) page.held (W.taken c.gather.new.target)
+          front_behind (W.taken start) said c.args.text.now (W.taken c.args.target.now) page.gathered (W.taken c.gather.new.target)
           so_far.written failed.taken;
     }
 
@@ -36,10 +36,10 @@ returns-in_default g c = λ start said carries.
     let some_text : 0 < length c.args.text.now = c.requires in
     let so_far : Carries W start said (record page { failed = false }) c.args.target.now =
     subst (λ b. Carries W start said (record page { failed = b }) c.args.target.now) (c.may_write.ensures.well c.if-not-may_write.false) carries in
-    subst (λ b. Carries W start (said ++ c.args.text.now) (record { held = c.gather.new.held; failed = b }) c.gather.new.target)
+    subst (λ b. Carries W start (said ++ c.args.text.now) (record { gathered = c.gather.new.gathered; failed = b }) c.gather.new.target)
     (sym (c.may_write.ensures.well c.if-not-may_write.false)) (record {
       low = so_far.low;
-      held_some = λ some. omega (arith, some_text, length-append said c.args.text.now);
+      gathered_some = λ some. omega (arith, some_text, length-append said c.args.text.now);
       failed_some = λ is. absurd (cc is);
       still = λ none. absurd (omega (arith, none, some_text, length-append said c.args.text.now));
       failures = put.failures ∙ so_far.failures;
@@ -47,8 +47,8 @@ returns-in_default g c = λ start said carries.
       flushes = put.flushes ∙ so_far.flushes;
       took = took_more so_far.took put.took;
       written =
-          written_behind (W.taken start) said c.args.text.now (W.taken c.args.target.now) page.held (W.taken c.gather.new.target)
-          c.gather.new.held so_far.written put.taken;
+          written_behind (W.taken start) said c.args.text.now (W.taken c.args.target.now) page.gathered (W.taken c.gather.new.target)
+          c.gather.new.gathered so_far.written put.taken;
     })
 
 pub returns-then-not-may_write : goal.returns-then-not-may_write

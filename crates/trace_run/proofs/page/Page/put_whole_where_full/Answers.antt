@@ -1,4 +1,4 @@
--- What was held is settled, which says no more; then the text is said.
+-- What was gathered is settled, which says no more; then the text is said.
 use Rattle.trace_run.proofs.page.Page.put_whole_where_full.Goals as goal
 
 pub returns : goal.returns

@@ -1,9 +1,9 @@
--- Nothing is held, all that was is written, or a front of it, where writing failed.
+-- Nothing is gathered, all that was is written, or a front of it, where writing failed.
 use Rattle.std.proofs.Common.{arith, refl, ◌+◌, ◌++◌, append-nil, false, [], Err, ap, sym, subst, ◌∙◌}
 use Rattle.trace_io.proofs.Promises.{took_more}
 use Rattle.trace_run.specs.proving.Carrying.{Carries, blank_page}
 use Rattle.trace_run.proofs.Carryings.{let_go}
-use Rattle.trace_run.proofs.WrittenFronts.{held_written, gathered_written, rest_along}
+use Rattle.trace_run.proofs.WrittenFronts.{gathered_front_written, gathered_written, rest_along}
 use Rattle.trace_run.proofs.page.Page.settle.Goals as goal
 
 pub returns-then-not-may_write-clause-settled : goal.returns-then-not-may_write-clause-settled
@@ -19,15 +19,16 @@ returns-in-Err-clause-settled g c = λ start said carries.
     subst (λ b. Carries W start said (record page { failed = b }) c.args.target.now) (c.may_write.ensures.well c.if-not-may_write.false) carries in
     record {
       low = so_far.low;
-      held_some = λ some. absurd (omega arith);
-      failed_some = λ is. so_far.held_some (c.is_empty.ensures.some c.if-is_empty.false);
-      still = λ none. absurd (omega (arith, none, so_far.held_some (c.is_empty.ensures.some c.if-is_empty.false)));
+      gathered_some = λ some. absurd (omega arith);
+      failed_some = λ is. so_far.gathered_some (c.is_empty.ensures.some c.if-is_empty.false);
+      still = λ none. absurd (omega (arith, none, so_far.gathered_some (c.is_empty.ensures.some c.if-is_empty.false)));
       failures = failed.failures ∙ ap (λ n. n + 1) so_far.failures;
       no_empty_write = failed.no_empty_write ∙ so_far.no_empty_write;
       flushes = failed.flushes ∙ so_far.flushes;
       took = took_more so_far.took failed.took;
       written =
-          gathered_written {A = Unit {0}} (Err c.in-Err._fault) (W.taken start) said (W.taken c.args.target.now) page.held (W.taken c.write_out.new.target)
+          gathered_written {A = Unit {0}} (Err c.in-Err._fault) (W.taken start) said (W.taken c.args.target.now)
+          page.gathered (W.taken c.write_out.new.target)
           so_far.written failed.taken;
     }
 
@@ -40,15 +41,16 @@ returns-clause-settled g c = λ start said carries.
     subst (λ b. Carries W start said (record page { failed = b }) c.args.target.now) (c.may_write.ensures.well c.if-not-may_write.false) carries in
     record {
       low = so_far.low;
-      held_some = λ some. absurd (omega arith);
+      gathered_some = λ some. absurd (omega arith);
       failed_some = λ is. absurd (cc is);
-      still = λ none. absurd (omega (arith, none, so_far.held_some (c.is_empty.ensures.some c.if-is_empty.false)));
+      still = λ none. absurd (omega (arith, none, so_far.gathered_some (c.is_empty.ensures.some c.if-is_empty.false)));
       failures = wrote.failures ∙ so_far.failures;
       no_empty_write = wrote.no_empty_write ∙ so_far.no_empty_write;
       flushes = wrote.flushes ∙ so_far.flushes;
       took = took_more so_far.took wrote.took;
-      written = held_written (W.taken start) said (W.taken c.args.target.now) page.held [] (W.taken c.write_out.new.target)
-          (rest_along (W.taken start) said (W.taken c.args.target.now) page.held (page.held ++ []) so_far.written (sym (append-nil page.held)))
+      written = gathered_front_written (W.taken start) said (W.taken c.args.target.now) page.gathered [] (W.taken c.write_out.new.target)
+          (rest_along (W.taken start) said (W.taken c.args.target.now) page.gathered (page.gathered ++ []) so_far.written
+          (sym (append-nil page.gathered)))
           wrote.taken;
     }
 
@@ -59,7 +61,7 @@ returns-in-Err-clause-no_more g c = λ start said carries.
     let done = returns-in-Err-clause-settled g c start said carries in
     record {
       low = done.low;
-      held_some = λ some. done.failed_some refl;
+      gathered_some = λ some. done.failed_some refl;
       failed_some = done.failed_some;
       still = done.still;
       failures = done.failures;
@@ -72,6 +74,6 @@ returns-in-Err-clause-no_more g c = λ start said carries.
 pub returns-clause-no_more : goal.returns-clause-no_more
 returns-clause-no_more g c = λ start said carries.
     let W = g.W.Target in
-    subst (λ h. Carries W start said (record c.args.self.now { held = h }) c.write_out.new.target) (sym c.write_out.ensures.blank)
+    subst (λ h. Carries W start said (record c.args.self.now { gathered = h }) c.write_out.new.target) (sym c.write_out.ensures.blank)
     (subst (λ b. Carries W start said (blank_page b) c.write_out.new.target)
     (sym (c.may_write.ensures.well c.if-not-may_write.false)) (returns-clause-settled g c start said carries))

@@ -6,8 +6,8 @@ use Rattle.trace_log.proofs.Promises.{foreign_direction, trace_same_foreign, rec
 use Rattle.trace_run.proofs.receiver.ReceiverLineTaker.pass.Goals as goal
 
 pub returns-clause-takes : goal.returns-clause-takes
-returns-clause-takes g c = λ device one two stamped wants not_one not_two start meanings number took settings first begun.
-    let so_far = took settings first begun in
+returns-clause-takes g c = λ device one two stamped wants not_one not_two start meanings number took settings machine_start begun.
+    let so_far = took settings machine_start begun in
     let self = c.args.self.now in
     let foreign = foreign_direction self.config stamped.frame.id (λ same. not_one (same ∙ sym wants.0)) (λ same. not_two (same ∙ sym wants.1)) in
     let none : None ≡ direction_of settings stamped.frame.id = sym foreign ∙ ap (λ s. direction_of s stamped.frame.id) so_far.0.config in
@@ -16,5 +16,5 @@ returns-clause-takes g c = λ device one two stamped wants not_one not_two start
         config = so_far.0.config;
         lines = receives_same settings meanings (Some stamped) self.pair self.lines c.args.line self.counts same number so_far.0.lines;
       },
-      subst (λ T. HasTold g.M.Machine g.W.Target (start_with first start.1) T self.telling device) (sym same) so_far.1,
+      subst (λ T. HasTold g.M.Machine g.W.Target (start_with machine_start start.1) T self.telling device) (sym same) so_far.1,
     )

@@ -15,20 +15,20 @@ use Rattle.trace_run.proofs.Results.{on_ok_of_each, if_err_of_each}
 use Rattle.trace_run.proofs.receiver.ReceiverLineTaker.take.Goals as goal
 
 pub returns-in_default-clause-ok : goal.returns-in_default-clause-ok
-returns-in_default-clause-ok g c = λ start meanings number few took settings first begun.
-    let so_far = took settings first begun in
+returns-in_default-clause-ok g c = λ start meanings number few took settings machine_start begun.
+    let so_far = took settings machine_start begun in
     let self = c.args.self.now in
     let same = trace_same_blank settings meanings c.args.what.now c.in_default.is in (
       record {
         config = so_far.0.config;
         lines = receives_same settings meanings c.args.what.now self.pair self.lines c.args.line self.counts same number so_far.0.lines;
       },
-      subst (λ T. HasTold g.M.Machine g.W.Target (start_with first start.1) T self.telling c.args.device.now) (sym same) so_far.1,
+      subst (λ T. HasTold g.M.Machine g.W.Target (start_with machine_start start.1) T self.telling c.args.device.now) (sym same) so_far.1,
     )
 
 pub returns-in_default-direction_of-clause-ok : goal.returns-in_default-direction_of-clause-ok
-returns-in_default-direction_of-clause-ok g c = λ start meanings number few took settings first begun.
-    let so_far = took settings first begun in
+returns-in_default-direction_of-clause-ok g c = λ start meanings number few took settings machine_start begun.
+    let so_far = took settings machine_start begun in
     let self = c.args.self.now in
     let stamped = c.in-Some.stamped in
     let none : None ≡ direction_of settings stamped.frame.id =
@@ -39,7 +39,7 @@ returns-in_default-direction_of-clause-ok g c = λ start meanings number few too
         config = so_far.0.config;
         lines = receives_same settings meanings c.args.what.now self.pair self.lines c.args.line self.counts same number so_far.0.lines;
       },
-      subst (λ T. HasTold g.M.Machine g.W.Target (start_with first start.1) T self.telling c.args.device.now) (sym same) so_far.1,
+      subst (λ T. HasTold g.M.Machine g.W.Target (start_with machine_start start.1) T self.telling c.args.device.now) (sym same) so_far.1,
     )
 
 pub returns-clause-ok : goal.returns-clause-ok
@@ -49,8 +49,8 @@ returns-clause-ok g c =
     let self = c.args.self.now in
     let now = c.receive.new.self in
     let at : ℕ → Entry = λ line. entry_at line stamped d in
-    four_ok c.receive.result (λ stands grew counts taken start meanings number few took settings first begun.
-    let so_far = took settings first begun in
+    four_ok c.receive.result (λ stands grew counts taken start meanings number few took settings machine_start begun.
+    let so_far = took settings machine_start begun in
     let direction : Some d ≡ direction_of settings stamped.frame.id =
     sym c.in-Some-direction_of.is ∙ c.direction_of.ensures ∙ ap (direction_of self.config) c.id.ensures
     ∙ ap (λ s. direction_of s stamped.frame.id) so_far.0.config in
@@ -59,7 +59,7 @@ returns-clause-ok g c =
     let here : at c.args.line ≡ entry_in meanings stamped d = ap at line in
     let frames = few_frames settings meanings in
     let T = trace settings meanings in
-    let begins = start_with first start.1 in (
+    let begins = start_with machine_start start.1 in (
       record {
         config = c.receive.ensures.same.0 ∙ so_far.0.config;
         lines =
@@ -80,13 +80,13 @@ returns-clause-err g c =
     let stamped = c.in-Some.stamped in
     let d = c.in-Some-direction_of.dir in
     let at : ℕ → Entry = λ line. entry_at line stamped d in
-    IfErr-weaker c.receive.result _ _ (λ fault stops start meanings number few took settings first begun.
-    let so_far = took settings first begun in
+    IfErr-weaker c.receive.result _ _ (λ fault stops start meanings number few took settings machine_start begun.
+    let so_far = took settings machine_start begun in
     let line : c.args.line ≡ 1 + length meanings = omega arith in
     let here : at c.args.line ≡ entry_in meanings stamped d = ap at line in
     let frames = few_frames settings meanings in
     let T = trace settings meanings in
-    let begins = start_with first start.1 in
+    let begins = start_with machine_start start.1 in
     record {
       stamped = stamped;
       dir = d;
@@ -100,8 +100,8 @@ returns-clause-err g c =
     }) (if_err_of_each _ _ _ c.receive.result (λ T stands few. (c.receive.ensures.told T stands few).err))
 
 pub returns-clause-kept : goal.returns-clause-kept
-returns-clause-kept g c = λ start meanings earlier number few took sure settings first begun.
-    let so_far = took settings first begun in
+returns-clause-kept g c = λ start meanings earlier number few took sure settings machine_start begun.
+    let so_far = took settings machine_start begun in
     let frames = few_frames settings meanings in
-    (c.receive.ensures.told (trace settings meanings) so_far.0.lines.pair_is (omega arith)).kept (start_with first start.1)
-    (trace settings earlier) so_far.1 (sure settings first begun)
+    (c.receive.ensures.told (trace settings meanings) so_far.0.lines.pair_is (omega arith)).kept (start_with machine_start start.1)
+    (trace settings earlier) so_far.1 (sure settings machine_start begun)

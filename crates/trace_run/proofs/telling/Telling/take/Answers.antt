@@ -34,7 +34,10 @@ returns-in-Ok-clause-told g c = λ T e seen.
           let script = M.script start.machine in
           let strict = c.is_strict.ensures start.machine T tells.machine_stands in
           let said = c.in-Ok.ensures.ok start.machine T e
-          (record { event = seen; message = c.judged_message-message.ensures.judged (messages MESSAGE_LIMIT T) few tells.judged.counted }) tells.machine_stands in
+          (record {
+            event = seen;
+            message = c.judged_message-message.ensures.judged (messages MESSAGE_LIMIT T) few tells.judged.counted;
+          }) tells.machine_stands in
           tells_next M g.W.Target start T e c.args.frame.dir (seen_event c.args.frame.event) seen.dir seen.did
           _ _ _ _ tells (c.judged_message-message.ensures.next (messages MESSAGE_LIMIT T) few tells.judged) said.0
           (not_stopped_for script.strict T e (seen_event c.args.frame.event) seen.did
@@ -42,7 +45,10 @@ returns-in-Ok-clause-told g c = λ T e seen.
       err = tt;
       kept = λ start earlier tells sure.
           let said = c.in-Ok.ensures.ok start.machine T e
-          (record { event = seen; message = c.judged_message-message.ensures.judged (messages MESSAGE_LIMIT T) few tells.judged.counted }) tells.machine_stands in
+          (record {
+            event = seen;
+            message = c.judged_message-message.ensures.judged (messages MESSAGE_LIMIT T) few tells.judged.counted;
+          }) tells.machine_stands in
           record {
             within = sure.within;
             mid = sure.mid;
@@ -62,7 +68,10 @@ returns-in-Err-clause-told g c = λ T e seen.
           let script = M.script start.machine in
           let strict = c.is_strict.ensures start.machine T tells.machine_stands in
           let needs = c.in-Err.ensures.needs start.machine T e
-          (record { event = seen; message = c.judged_message-message.ensures.judged (messages MESSAGE_LIMIT T) few tells.judged.counted }) tells.machine_stands in
+          (record {
+            event = seen;
+            message = c.judged_message-message.ensures.judged (messages MESSAGE_LIMIT T) few tells.judged.counted;
+          }) tells.machine_stands in
           stops_at M g.W.Target start T e _ _ _ _ tells
           (not_stopped_for script.strict T e (seen_event c.args.frame.event) seen.did
           (subst (λ b. oversize_for b (seen_event c.args.frame.event).verdict ≡ None) strict (sym c.oversize_for.ensures ∙ c.in-None.is)))

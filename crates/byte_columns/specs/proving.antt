@@ -1,0 +1,3 @@
+-- Devices of proof.
+pub mod BytesBefore
+pub mod Stretches

@@ -1,0 +1,104 @@
+//! Long names, which a narrow screen may part.
+ghost use Rattle.std.specs.Prelude.{◌≡◌};
+ghost use Rattle.trace_pair.specs.LongNames.{letter_behind, parted_name};
+ghost use Rattle.trace_pair.specs.LongNames as Spec;
+
+use direction::Dir;
+use text_parts::{Part, When, say};
+use trace_io::TextSink;
+use trace_report::{MessageRole, RoleWords};
+use trace_text::{ResponseCode, ServiceName};
+use uds_message::{code_name, response_code, service_name, sid};
+
+/// The name of a service, which may be parted, or its identifier where it has none.
+#[derive(Clone, Copy)]
+pub(crate) struct PartedService(pub u8);
+
+impl Part for PartedService {
+    ghost use Rattle.trace_pair.specs.LongNames.{parted_service};
+
+    ghost text = { λ service. parted_service service.0 };
+
+    fn say<S: TextSink>(self, out: &mut S) {
+        match service_name(self.0) {
+            Some(name) => say_parted(name.as_bytes(), out),
+            None => say(out, ServiceName(self.0)),
+        }
+    }
+}
+
+/// The name of a response code, which may be parted, or its number where it has none.
+#[derive(Clone, Copy)]
+pub(crate) struct PartedCode(pub u8);
+
+impl Part for PartedCode {
+    ghost use Rattle.trace_pair.specs.LongNames.{parted_code};
+
+    ghost text = { λ why. parted_code why.0 };
+
+    fn say<S: TextSink>(self, out: &mut S) {
+        match code_name(self.0) {
+            Some(name) => say_parted(name.as_bytes(), out),
+            None => say(out, ResponseCode(self.0)),
+        }
+    }
+}
+
+/// What a message is to its item, in words, of which a name may be parted.
+#[derive(Clone, Copy)]
+pub(crate) struct PartedRoleWords<'a>(pub MessageRole, pub Dir, pub &'a [u8]);
+
+impl<'a> Part for PartedRoleWords<'a> {
+    ghost use Rattle.trace_pair.specs.LongNames.{parted_role_words};
+
+    ghost text = { λ words. parted_role_words words.0 words.1 words.2.now };
+
+    fn say<S: TextSink>(self, out: &mut S) {
+        let PartedRoleWords(role, dir, message) = self;
+        match role {
+            MessageRole::Request => say(
+                out,
+                ("<b>", PartedService(sid(message)), "</b> <i>request</i> "),
+            ),
+            MessageRole::Negative { .. } => say(
+                out,
+                (
+                    "<b>negative</b> <em>",
+                    PartedCode(response_code(message)),
+                    "</em> ",
+                ),
+            ),
+            MessageRole::Positive { .. }
+            | MessageRole::Pending { .. }
+            | MessageRole::KeepAlive
+            | MessageRole::Stray => say(out, RoleWords(role, dir, message)),
+        }
+    }
+}
+
+/// Says a name, which may be parted before each capital behind a small letter.
+fn say_parted<S: TextSink>(name: &[u8], out: &mut S)
+    ensures { S.says out.old (parted_name name.now) out.new }
+{
+    let mut front: u8 = 0;
+    'letters: for at in 0..name.len() {
+        let letter = name[at];
+        say_letter(front, letter, out);
+        front = letter;
+    }
+}
+
+/// Says a letter behind another one, and where the name may be parted before it.
+fn say_letter<S: TextSink>(front: u8, letter: u8, out: &mut S)
+    ensures { S.says out.old (letter_behind front letter) out.new }
+{
+    say(out, When(parts_before(front, letter), "<wbr>"));
+    out.put(&[letter]);
+}
+
+/// Whether a name may be parted before a letter, behind another one.
+fn parts_before(front: u8, letter: u8) -> bool
+    ensures { result ≡ Spec.parts_before front letter }
+{
+    matches!(front, b'a'..=b'z') && matches!(letter, b'A'..=b'Z')
+}

@@ -1,0 +1,59 @@
+//! Where receptions and messages begin, and how many frames they have.
+ghost use Rattle.std.specs.Prelude.{◌≡◌, List, [], ◌∷◌, ◌++◌};
+ghost use Rattle.isotp_receive.specs.declared.TheConstants.{MESSAGE_LIMIT};
+ghost use Rattle.isotp_receive.specs.StandingReception.{stands};
+ghost use Rattle.isotp_receive.specs.Trace.{Entry, role};
+ghost use Rattle.trace_run.specs.Seen.{IsEventOf};
+ghost use Rattle.trace_canon.specs.FirstFrames.{CompletesMessage, first_frame, place_of};
+ghost use Rattle.trace_report.specs.Events.{frames_by};
+ghost use Rattle.trace_report.specs.proving.Following.{KnowsExtents};
+
+use crate::frames::{FrameCounts, frames_carrying};
+use direction::Dir;
+use isotp_receive::Event;
+use trace_canon::reception_starts::{FramePlace, ReceptionStarts, still_begun};
+
+/// Where the receptions began that stand, and how many frames they took.
+#[derive(Clone, Copy, Debug)]
+pub(crate) struct ReceptionExtents {
+    pub begun: ReceptionStarts,
+    pub frames: FrameCounts,
+}
+
+/// Where a message begins, and how many frames carry it.
+#[derive(Clone, Copy, Debug)]
+pub(crate) struct MessageExtent {
+    pub first: FramePlace,
+    pub frames: u64,
+}
+
+impl ReceptionExtents {
+    /// Before the first frame.
+    pub(crate) fn start() -> ReceptionExtents
+        ensures { KnowsExtents [] result }
+    {
+        ReceptionExtents {
+            begun: ReceptionStarts::start(),
+            frames: FrameCounts::start(),
+        }
+    }
+
+    /// Takes what a frame in this place did, and answers the extent of the message that it completed. Where it completed none,
+    /// the answer says nothing.
+    #[inline(always)]
+    pub(crate) fn take(&mut self, here: FramePlace, dir: Dir, event: Event<'_>) -> MessageExtent
+        ensures next { (T : List Entry) (e : Entry) → IsEventOf T e here.line here.micros dir event.entry
+            → KnowsExtents T self.old → KnowsExtents (T ++ e ∷ []) self.new }
+        ensures first { (T : List Entry) (e : Entry) → IsEventOf T e here.line here.micros dir event.entry
+            → KnowsExtents T self.old → CompletesMessage MESSAGE_LIMIT T e → result.first ≡ place_of (first_frame T e) }
+        ensures frames { (T : List Entry) (e : Entry) → IsEventOf T e here.line here.micros dir event.entry
+            → KnowsExtents T self.old → CompletesMessage MESSAGE_LIMIT T e
+            → result.frames ≡ frames_by (stands MESSAGE_LIMIT e.dir T) (role e.dir e) }
+    {
+        let begun = still_begun(dir, event.ended, self.begun.of(dir));
+        let frames = frames_carrying(begun, self.frames.of(dir));
+        let first = self.begun.take(here, dir, event);
+        self.frames.take(dir, event.verdict);
+        MessageExtent { first, frames }
+    }
+}

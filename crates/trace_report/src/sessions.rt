@@ -1,0 +1,44 @@
+//! Two sessions that are kept.
+ghost use Rattle.std.specs.Prelude.{◌≡◌};
+
+use crate::session::KeptSession;
+use std::marker::Model;
+
+/// What two logs say, kept. Contracts see both sessions.
+#[derive(Debug, Drop)]
+pub struct KeptSessions {
+    left: KeptSession,
+    right: KeptSession,
+}
+
+impl Model for KeptSessions {
+    ghost use Rattle.trace_report.specs.Kept.{KeptSessionsValue};
+
+    ghost Value = { KeptSessionsValue };
+
+    ghost view = { λ both. record { left = both.left; right = both.right } };
+}
+
+impl KeptSessions {
+    /// Both sessions.
+    pub(crate) fn of(left: KeptSession, right: KeptSession) -> KeptSessions
+        ensures left { result.left ≡ left }
+        ensures right { result.right ≡ right }
+    {
+        KeptSessions { left, right }
+    }
+
+    /// The first session.
+    pub fn left(&self) -> &KeptSession
+        ensures { result.now ≡ self.now.left }
+    {
+        &self.left
+    }
+
+    /// The second session.
+    pub fn right(&self) -> &KeptSession
+        ensures { result.now ≡ self.now.right }
+    {
+        &self.right
+    }
+}
