@@ -362,7 +362,7 @@ TAKEN_AWAY = [
     ("a law requires something", "trace_log/src/laws.rt", r"    ensures \{ OutcomeIsOne \}", "    requires { ⊥ }\n    ensures { OutcomeIsOne }"),
     ("a statement is always so", "trace_log/specs/Laws.antt", r"^OutcomeIsOne = (.*\n) .*", r"OutcomeIsOne = \1    → ⊤"),
     ("a statement has half of its words", "trace_log/specs/Laws.antt", r"HaveSameMeaning limit settings a b ↔ ", "HaveSameMeaning limit settings a b → "),
-    ("a record has a field less", "trace_log/specs/Laws.antt", r"  pub own : .*\n", ""),
+    ("a record has a field less", "trace_log/specs/Laws.antt", r"  pub own : .*\n(?=  pub same_meaning)", ""),
     ("a definition far below says less", "isotp_receive/specs/StandingReception.antt", r"nat_le micros \(standing.reference \+ n_cr\)", "true"),
     ("the record of runs has a field less", "trace_run/specs/Ran.antt", r"  pub eager : .*\n.*\n", ""),
     ("the record of runs says less", "trace_run/specs/Ran.antt", r"(pub eager : .*) → WritesSaidEagerly .*\n.*", r"\1 → ⊤"),

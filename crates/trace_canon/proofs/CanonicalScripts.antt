@@ -4,7 +4,7 @@ use Rattle.direction.specs.Dir.{Message}
 use Rattle.trace_log.specs.CanonicalLog.{canonical_log, log_of_frames, canonical_log_of_lines, early_text, fitting}
 use Rattle.trace_log.specs.Laws.{IsCanonicalFor, Records, Certifies}
 use Rattle.trace_log.specs.Settings.{AreSettings, Settings}
-use Rattle.trace_log.proofs.Promises.{all_begin, written_is_canonical, written_of_recording, answer_certifies, messages_more}
+use Rattle.trace_log.proofs.Promises.{all_begin, written_is_canonical, written_of_recording, answer_certifies, messages_under_more}
 use Rattle.trace_log.proofs.Promises.{all_frames-append, fitting_frames, fitting_log_begins}
 use Rattle.std.proofs.Common.{arith, ◌+◌, ◌≡◌, Bool, true, false, refl, subst, Option, Ok, Err, ◌≤◌, ◌<◌, ℕ, List, [], ◌∷◌}
 use Rattle.std.proofs.Common.{◌++◌, length, drop, ap, sym, ◌∙◌, append-nil, append_assoc, length-append, Result, inl, inr}
@@ -13,7 +13,10 @@ use Rattle.std.proofs.lemmas.Bool.{le-leb, lt-leb, leb-true, leb-false}
 use Rattle.can_log.specs.declared.frame.Stamped.{Stamped}
 use Rattle.isotp_receive.specs.declared.TheConstants.{MESSAGE_LIMIT}
 use Rattle.isotp_receive.specs.Trace.{Entry}
-use Rattle.isotp_receive.specs.Verdict.{messages, told_message, verdict}
+use Rattle.isotp_receive.specs.Verdict.{told_message, verdict}
+use Rattle.uds_rules.specs.Rule.{RuleValue}
+use Rattle.uds_rules.specs.Under.{under}
+use Rattle.trace_log.specs.Messages.{messages_of_lines, messages_under}
 use Rattle.isotp_segment.specs.Timed.{all_frames}
 use Rattle.uds_exchange.specs.Order.{early, held}
 use Rattle.uds_exchange.specs.Orderer.{JudgedOrdererValue}
@@ -57,23 +60,28 @@ some_of few many some within = omega (arith, some, within)
 -- the lines of the messages of a trace that are early, as far as there is room
 abbrev text_of_early : Settings → List Entry → List ℕ
 text_of_early settings T =
-    text_from settings (start_of settings.max_bytes) (all_frames MESSAGE_LIMIT (early (messages MESSAGE_LIMIT T)))
+    text_from settings (start_of settings.max_bytes)
+    (all_frames MESSAGE_LIMIT (early (messages_under settings.rules MESSAGE_LIMIT T)))
 
--- the command of the canonical script, which says nothing of a refusal, and keeps held messages
+-- the command of the canonical script, which says nothing of a refusal, and keeps held messages; the rules are those of the
+-- settings
 abbrev canonical_command : Settings → Command Summary
 canonical_command settings =
-    command (canonical_script settings) says_no_refusal (answers_canonical settings) (CompletesHeld MESSAGE_LIMIT)
+    command (canonical_script settings.rules settings) says_no_refusal (answers_canonical settings.rules settings)
+    (CompletesHeld MESSAGE_LIMIT settings.rules)
 
 module _ (settings : Settings) where
   -- the lines due with one more frame stand behind those of the early messages so far
   one_more : (T : List Entry) (e : Entry)
-      → text_of_early settings T ++ lines_due settings (messages MESSAGE_LIMIT T) (messages MESSAGE_LIMIT (T ++ e ∷ []))
+      → text_of_early settings T
+      ++ lines_due settings (messages_under settings.rules MESSAGE_LIMIT T) (messages_under settings.rules MESSAGE_LIMIT (T ++ e ∷ []))
       ≡ text_of_early settings (T ++ e ∷ [])
   one_more T e =
-      let M = messages MESSAGE_LIMIT T in
-      let grows = early_grows M (told_message e.dir (verdict MESSAGE_LIMIT T e).verdict) in
-      let longer : early (messages MESSAGE_LIMIT (T ++ e ∷ [])) ≡ early M ++ grows.0 = ap early (messages_more MESSAGE_LIMIT T e) ∙ grows.1 in
-      let left : drop (length (early M)) (early (messages MESSAGE_LIMIT (T ++ e ∷ []))) ≡ grows.0 =
+      let M = messages_under settings.rules MESSAGE_LIMIT T in
+      let now = messages_under settings.rules MESSAGE_LIMIT (T ++ e ∷ []) in
+      let grows = early_grows M (under settings.rules (told_message e.dir (verdict MESSAGE_LIMIT T e).verdict)) in
+      let longer : early now ≡ early M ++ grows.0 = ap early (messages_under_more settings.rules MESSAGE_LIMIT T e) ∙ grows.1 in
+      let left : drop (length (early M)) (early now) ≡ grows.0 =
       ap (drop (length (early M))) longer ∙ drop-append_seam (early M) grows.0 in
       let begin = start_of settings.max_bytes in
       ap (λ due. text_of_early settings T ++ text_from settings (progress_behind settings (early M)) (all_frames MESSAGE_LIMIT due)) left
@@ -83,20 +91,22 @@ module _ (settings : Settings) where
 
   -- and so those of all frames that follow
   from_there : (past xs : List Entry)
-      → text_of_early settings past ++ said_after ((canonical_script settings).of_frame) past xs
+      → text_of_early settings past ++ said_after ((canonical_script settings.rules settings).of_frame) past xs
       ≡ text_of_early settings (past ++ xs)
   from_there past [] = append-nil (text_of_early settings past) ∙ ap (text_of_early settings) (sym (append-nil past))
   from_there past (e ∷ rest) =
-      let due = lines_due settings (messages MESSAGE_LIMIT past) (messages MESSAGE_LIMIT (past ++ e ∷ [])) in
-      let later = said_after ((canonical_script settings).of_frame) (past ++ e ∷ []) rest in
+      let due =
+      lines_due settings (messages_under settings.rules MESSAGE_LIMIT past)
+      (messages_under settings.rules MESSAGE_LIMIT (past ++ e ∷ [])) in
+      let later = said_after ((canonical_script settings.rules settings).of_frame) (past ++ e ∷ []) rest in
       sym (append_assoc (text_of_early settings past) due later) ∙ ap (λ x. x ++ later) (one_more past e) ∙ from_there (past ++ e ∷ []) rest
       ∙ ap (text_of_early settings) (append_assoc past (e ∷ []) rest)
 
 -- what the script says of a trace are the lines of its early messages
 canonical_says_early : (settings : Settings) (T : List Entry)
-    → said_of_frames ((canonical_script settings).of_frame) T ≡ text_of_early settings T
+    → said_of_frames ((canonical_script settings.rules settings).of_frame) T ≡ text_of_early settings T
 canonical_says_early settings T =
-    ap (λ x. x ++ said_of_frames ((canonical_script settings).of_frame) T)
+    ap (λ x. x ++ said_of_frames ((canonical_script settings.rules settings).of_frame) T)
     (sym (text_none settings (start_of settings.max_bytes))) ∙ from_there settings [] T
 
 -- where the text stands at the end
@@ -140,38 +150,43 @@ said_whole settings put fits = by ((progress_behind settings put).is_full) refl
     by true over = let long = long_when settings put over in absurd (omega (arith, long, fits))
     by false within = (whole_when settings put within).1
 
-module _ (settings config : Settings) (T : List Entry) (orderer : JudgedOrdererValue) (progress after : ProgressValue)
-    (stands : StandsCanonical settings T orderer config progress)
-    (at : after ≡ progress_after config progress (all_frames MESSAGE_LIMIT (held (messages MESSAGE_LIMIT T)))) where
+module _ (rules : List RuleValue) (settings config : Settings) (T : List Entry) (orderer : JudgedOrdererValue)
+    (progress after : ProgressValue) (stands : StandsCanonical rules settings T orderer config progress)
+    (at : after ≡ progress_after config progress (all_frames MESSAGE_LIMIT (held (messages_under rules MESSAGE_LIMIT T)))) where
+  -- what the messages of the trace mean under the rules, in order
+  abbrev all : List Message
+  all = flattened (meaning (messages_under rules MESSAGE_LIMIT T))
+
   -- whether a line did not fit, at the end
-  full_at_end : after.is_full ≡ (progress_behind settings (flattened (meaning (messages MESSAGE_LIMIT T)))).is_full
+  full_at_end : after.is_full ≡ (progress_behind settings all).is_full
   full_at_end =
-      let frames = all_frames MESSAGE_LIMIT (held (messages MESSAGE_LIMIT T)) in
+      let frames = all_frames MESSAGE_LIMIT (held (messages_under rules MESSAGE_LIMIT T)) in
       ap (λ (p : ProgressValue). p.is_full)
       (at ∙ ap (λ s. progress_after s progress frames) stands.same ∙ ap (λ p. progress_after settings p frames) stands.at
-      ∙ progress_at_end settings (messages MESSAGE_LIMIT T))
+      ∙ progress_at_end settings (messages_under rules MESSAGE_LIMIT T))
 
   -- one did not: the canonical log is too long
-  pub over_at_end : after.is_full ≡ true → fits_within settings (meaning (messages MESSAGE_LIMIT T)) ≡ false
-  over_at_end full = lt-leb _ settings.max_bytes (long_when settings (flattened (meaning (messages MESSAGE_LIMIT T))) (sym full_at_end ∙ full))
+  pub over_at_end : after.is_full ≡ true → fits_within settings (meaning (messages_under rules MESSAGE_LIMIT T)) ≡ false
+  over_at_end full = lt-leb _ settings.max_bytes (long_when settings all (sym full_at_end ∙ full))
 
   -- all did: it is not
-  pub within_at_end : after.is_full ≡ false → fits_within settings (meaning (messages MESSAGE_LIMIT T)) ≡ true
-  within_at_end room = le-leb _ settings.max_bytes (whole_when settings (flattened (meaning (messages MESSAGE_LIMIT T))) (sym full_at_end ∙ room)).0
+  pub within_at_end : after.is_full ≡ false → fits_within settings (meaning (messages_under rules MESSAGE_LIMIT T)) ≡ true
+  within_at_end room = le-leb _ settings.max_bytes (whole_when settings all (sym full_at_end ∙ room)).0
 
 module _ (settings : Settings) where
   -- what is said of lines, while the log comes and in all
   early_is : (meanings : List (Option Stamped))
-      → said_of_lines (canonical_script settings) settings meanings ≡ early_text MESSAGE_LIMIT settings meanings
+      → said_of_lines (canonical_script settings.rules settings) settings meanings ≡ early_text MESSAGE_LIMIT settings meanings
   early_is meanings =
       canonical_says_early settings (trace settings meanings)
-      ∙ said_fits settings (early (messages MESSAGE_LIMIT (trace settings meanings)))
+      ∙ said_fits settings (early (messages_of_lines MESSAGE_LIMIT settings meanings))
 
-  whole_said : (log : List ℕ) (meanings : List (Option Stamped)) → whole_of_lines (canonical_script settings) MESSAGE_LIMIT settings log meanings
+  whole_said : (log : List ℕ) (meanings : List (Option Stamped))
+      → whole_of_lines (canonical_script settings.rules settings) MESSAGE_LIMIT settings log meanings
       ≡ text_from settings (start_of settings.max_bytes)
-      (all_frames MESSAGE_LIMIT (flattened (meaning (messages MESSAGE_LIMIT (trace settings meanings)))))
+      (all_frames MESSAGE_LIMIT (flattened (meaning (messages_of_lines MESSAGE_LIMIT settings meanings))))
   whole_said log meanings =
-      let M = messages MESSAGE_LIMIT (trace settings meanings) in
+      let M = messages_of_lines MESSAGE_LIMIT settings meanings in
       let begin = start_of settings.max_bytes in
       ap (λ x. x ++ text_from settings (progress_behind settings (early M)) (all_frames MESSAGE_LIMIT (held M)))
       (canonical_says_early settings (trace settings meanings))
@@ -180,15 +195,16 @@ module _ (settings : Settings) where
       ∙ ap (λ x. text_from settings begin (all_frames MESSAGE_LIMIT x)) (early_then_held M)
 
   whole_is : (log : List ℕ) (meanings : List (Option Stamped))
-      → whole_of_lines (canonical_script settings) MESSAGE_LIMIT settings log meanings
+      → whole_of_lines (canonical_script settings.rules settings) MESSAGE_LIMIT settings log meanings
       ≡ fitting settings (canonical_log_of_lines MESSAGE_LIMIT settings meanings)
-  whole_is log meanings = whole_said log meanings ∙ said_fits settings (flattened (meaning (messages MESSAGE_LIMIT (trace settings meanings))))
+  whole_is log meanings =
+      whole_said log meanings ∙ said_fits settings (flattened (meaning (messages_of_lines MESSAGE_LIMIT settings meanings)))
 
-  texts : said_of_lines (canonical_script settings) settings ≡ early_text MESSAGE_LIMIT settings
+  texts : said_of_lines (canonical_script settings.rules settings) settings ≡ early_text MESSAGE_LIMIT settings
   texts = λ i meanings. early_is meanings i
 
   module _ (log : List ℕ) (given : ℕ) (old new : List ℕ) where
-    writes_early : (why : Fault) → WritesSaid (canonical_script settings) MESSAGE_LIMIT settings log given why old new
+    writes_early : (why : Fault) → WritesSaid (canonical_script settings.rules settings) MESSAGE_LIMIT settings log given why old new
         → WritesTextOfRead (announces_within MESSAGE_LIMIT settings) (early_text MESSAGE_LIMIT settings) settings log given why old new
     writes_early why wrote =
         subst (λ text. WritesTextOfRead (announces_within MESSAGE_LIMIT settings) text settings log given why old new) texts
@@ -201,13 +217,13 @@ module _ (settings : Settings) where
       read = wrote.read;
       wrote =
           wrote.wrote ∙ ap (λ text. old ++ text)
-          (append-nil (said_of_lines (canonical_script settings) settings wrote.meanings) ∙ early_is wrote.meanings);
+          (append-nil (said_of_lines (canonical_script settings.rules settings) settings wrote.meanings) ∙ early_is wrote.meanings);
     }
 
-    writes_front : (why : Fault) → WritesFrontOfWhole (canonical_script settings) MESSAGE_LIMIT settings log given why old
+    writes_front : (why : Fault) → WritesFrontOfWhole (canonical_script settings.rules settings) MESSAGE_LIMIT settings log given why old
         new → WritesFront MESSAGE_LIMIT settings log given why old new
     writes_front why wrote =
-        let begins = fitting_log_begins MESSAGE_LIMIT settings (flattened (meaning (messages MESSAGE_LIMIT (trace settings wrote.meanings)))) in
+        let begins = fitting_log_begins MESSAGE_LIMIT settings (flattened (meaning (messages_of_lines MESSAGE_LIMIT settings wrote.meanings))) in
         record {
           meanings = wrote.meanings;
           read = wrote.read;
@@ -221,21 +237,21 @@ module _ (settings : Settings) where
 
     -- neither what is said of some lines nor all that is has more bytes than their canonical log
     said_within : (meanings : List (Option Stamped))
-        → length (said_of_lines (canonical_script settings) settings meanings)
+        → length (said_of_lines (canonical_script settings.rules settings) settings meanings)
         ≤ length (canonical_log_of_lines MESSAGE_LIMIT settings meanings)
     said_within meanings =
-        let script = canonical_script settings in
-        let begins = fitting_log_begins MESSAGE_LIMIT settings (flattened (meaning (messages MESSAGE_LIMIT (trace settings meanings)))) in
+        let script = canonical_script settings.rules settings in
+        let begins = fitting_log_begins MESSAGE_LIMIT settings (flattened (meaning (messages_of_lines MESSAGE_LIMIT settings meanings))) in
         no_longer (whole_of_lines script MESSAGE_LIMIT settings log meanings) (said_of_lines script settings meanings)
         (script.at_the_end (trace settings meanings) (summary_of MESSAGE_LIMIT settings log meanings))
         (canonical_log_of_lines MESSAGE_LIMIT settings meanings) _ begins.0 refl (whole_is log meanings) begins.1
 
     whole_within : (meanings : List (Option Stamped))
-        → length (whole_of_lines (canonical_script settings) MESSAGE_LIMIT settings log meanings)
+        → length (whole_of_lines (canonical_script settings.rules settings) MESSAGE_LIMIT settings log meanings)
         ≤ length (canonical_log_of_lines MESSAGE_LIMIT settings meanings)
     whole_within meanings =
-        let whole = whole_of_lines (canonical_script settings) MESSAGE_LIMIT settings log meanings in
-        let begins = fitting_log_begins MESSAGE_LIMIT settings (flattened (meaning (messages MESSAGE_LIMIT (trace settings meanings)))) in
+        let whole = whole_of_lines (canonical_script settings.rules settings) MESSAGE_LIMIT settings log meanings in
+        let begins = fitting_log_begins MESSAGE_LIMIT settings (flattened (meaning (messages_of_lines MESSAGE_LIMIT settings meanings))) in
         no_longer whole whole [] (canonical_log_of_lines MESSAGE_LIMIT settings meanings) _ begins.0 (sym (append-nil whole))
         (whole_is log meanings) begins.1
 
@@ -253,7 +269,7 @@ module _ (settings : Settings) where
     }
     canonical_some (inr refuses) = absurd (omega (arith, refuses.some))
 
-    pub writes_eagerly_said : WritesSaidEagerly (canonical_script settings) MESSAGE_LIMIT settings log given old new
+    pub writes_eagerly_said : WritesSaidEagerly (canonical_script settings.rules settings) MESSAGE_LIMIT settings log given old new
         → WritesEagerly MESSAGE_LIMIT settings log given old new
     writes_eagerly_said eager =
         record {
@@ -266,9 +282,9 @@ module _ (settings : Settings) where
     ends_well : (summary : Summary) → EndsWith (canonical_command settings) MESSAGE_LIMIT settings log given (Ok summary) old new
         → Answers MESSAGE_LIMIT settings log given (Ok summary) old new
     ends_well summary (all, meanings, read, answer, wrote) =
-        by (fits_within settings (meaning (messages MESSAGE_LIMIT (trace settings meanings)))) refl
+        by (fits_within settings (meaning (messages_of_lines MESSAGE_LIMIT settings meanings))) refl
       where
-        by : (b : Bool) → fits_within settings (meaning (messages MESSAGE_LIMIT (trace settings meanings))) ≡ b
+        by : (b : Bool) → fits_within settings (meaning (messages_of_lines MESSAGE_LIMIT settings meanings)) ≡ b
             → Answers MESSAGE_LIMIT settings log given (Ok summary) old new
         by false is =
             let same : Ok summary ≡ Err no_answer.OutputLimit =
@@ -282,13 +298,13 @@ module _ (settings : Settings) where
             subst (λ s. Answers MESSAGE_LIMIT settings log given (Ok s) old new) (sym counted)
             (answers_accepted MESSAGE_LIMIT settings log given meanings old new read fits
             (wrote ∙ ap (λ x. old ++ x) (whole_said log meanings ∙ said_whole settings
-            (flattened (meaning (messages MESSAGE_LIMIT (trace settings meanings)))) fits)))
+            (flattened (meaning (messages_of_lines MESSAGE_LIMIT settings meanings))) fits)))
 
     ends_over : EndsWith (canonical_command settings) MESSAGE_LIMIT settings log given (Err no_answer.OutputLimit) old new
         → Answers MESSAGE_LIMIT settings log given (Err OutputLimit) old new
-    ends_over (all, meanings, read, answer, wrote) = by (fits_within settings (meaning (messages MESSAGE_LIMIT (trace settings meanings)))) refl
+    ends_over (all, meanings, read, answer, wrote) = by (fits_within settings (meaning (messages_of_lines MESSAGE_LIMIT settings meanings))) refl
       where
-        by : (b : Bool) → fits_within settings (meaning (messages MESSAGE_LIMIT (trace settings meanings))) ≡ b
+        by : (b : Bool) → fits_within settings (meaning (messages_of_lines MESSAGE_LIMIT settings meanings)) ≡ b
             → Answers MESSAGE_LIMIT settings log given (Err OutputLimit) old new
         by true is =
             let same : Err no_answer.OutputLimit ≡ Ok (summary_of MESSAGE_LIMIT settings log meanings) =
@@ -309,7 +325,7 @@ unwritten_some settings log given result old new wrong said =
 -- what a run of the command answers and writes is the canonical log
 pub canonical_is_the_same : (settings : Settings) (log : List ℕ) (given : ℕ) (result : Result Summary Fault)
     (old new : List ℕ) → AnswersAndWrites (canonical_command settings) MESSAGE_LIMIT settings log given result old new
-    → WritesSaidEagerly (canonical_script settings) MESSAGE_LIMIT settings log given old new
+    → WritesSaidEagerly (canonical_script settings.rules settings) MESSAGE_LIMIT settings log given old new
     → Answers MESSAGE_LIMIT settings log given result old new
 canonical_is_the_same settings log given (Ok summary) old new ends eager = ends_well settings log given old new summary ends
 canonical_is_the_same settings log given (Err OutputLimit) old new ends eager = ends_over settings log given old new ends
@@ -325,7 +341,8 @@ canonical_is_the_same settings log given (Err Write) old new (inr refuses) eager
 canonical_is_the_same settings log given (Err Memory) old new wrote eager = (
   tt,
   (
-    writes_front settings log given old new Memory (front_of_whole (canonical_script settings) MESSAGE_LIMIT settings log given Memory old new wrote),
+    writes_front settings log given old new Memory
+        (front_of_whole (canonical_script settings.rules settings) MESSAGE_LIMIT settings log given Memory old new wrote),
     writes_eagerly_said settings log given old new eager,
   ),
 )
@@ -340,11 +357,11 @@ canonical_again settings log given (Ok summary) old new are answers = λ text wr
     written_is_canonical MESSAGE_LIMIT settings log given old new text summary (record { least = omega arith; most = omega arith }) are answers wrote
 canonical_again settings log given (Err why) old new are answers = tt
 
--- for a recording of messages the canonical log of their meaning was written
+-- for a recording of messages the canonical log of their meaning under the rules was written
 pub recording_again : (settings : Settings) (log : List ℕ) (given : ℕ) (result : Result Summary Fault) (old new : List ℕ)
     → Answers MESSAGE_LIMIT settings log given result old new
     → OnOk result ((M : List Message) → Records MESSAGE_LIMIT settings log M → new ≡ old ++ canonical_log MESSAGE_LIMIT
-    settings (flattened (meaning M)))
+    settings (flattened (meaning (under settings.rules M))))
 recording_again settings log given (Ok summary) old new answers = λ M records.
     written_of_recording MESSAGE_LIMIT settings log given old new summary M answers records
 recording_again settings log given (Err why) old new answers = tt

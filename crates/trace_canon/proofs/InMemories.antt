@@ -266,10 +266,10 @@ module _ (of_frame : List Entry → Entry → List ℕ) (at_the_end : List Entry
 -- the lines of messages
 pub message_lines_in_memory : (notation : Notation) (limit : ℕ) (settings : Settings) (log : List ℕ) (given : ℕ)
     (old new : List ℕ)
-    → FailsToWrite (command (messages_script notation limit) says_no_refusal answers_counts needs_none)
+    → FailsToWrite (command (messages_script notation limit settings.rules) says_no_refusal answers_counts needs_none)
     limit settings log given old new → NeedsMemoryForMessageLines notation limit settings log
 message_lines_in_memory notation limit settings log given old new fails =
-    inr (said_some ((messages_script notation limit).of_frame) limit settings log given old new fails)
+    inr (said_some ((messages_script notation limit settings.rules).of_frame) limit settings log given old new fails)
 
 -- ---- a meaning, and two of them
 

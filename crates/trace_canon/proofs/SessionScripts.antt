@@ -25,7 +25,7 @@ silent_says_nothing = record { of_frame = λ T e. refl; at_the_end = λ T summar
 -- is none
 pub session_is_the_same : (settings : Settings) (log : List ℕ) (given : ℕ) (result : Result Session Fault)
     (old new : List ℕ)
-    → AnswersAndWrites (command silent_script says_no_refusal (answers_session settings) (CompletesMessage MESSAGE_LIMIT))
+    → AnswersAndWrites (command silent_script says_no_refusal (answers_session settings.rules settings) (CompletesMessage MESSAGE_LIMIT))
     MESSAGE_LIMIT settings log given result old new → GivesSession MESSAGE_LIMIT settings log result
 session_is_the_same settings log given (Ok session) old new (all, meanings, read, answer, wrote) = record {
   accepted = record { text = canonical_log_of_lines MESSAGE_LIMIT settings meanings; summary = summary_of MESSAGE_LIMIT settings log meanings };

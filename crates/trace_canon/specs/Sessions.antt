@@ -6,17 +6,17 @@ use Rattle.trace_canon.specs.WaysOfReading.{reading_to_collect}
 use Rattle.trace_canon.specs.declared.collector.Session.{Session}
 use Rattle.trace_log.specs.declared.fault.Fault.{Fault}
 use Rattle.isotp_receive.specs.Trace.{Entry}
-use Rattle.isotp_receive.specs.Verdict.{messages}
 use Rattle.uds_exchange.specs.Meaning.{ItemValue, meaning}
 use Rattle.trace_log.specs.Settings.{Settings}
-use Rattle.trace_log.specs.Messages.{HasMeaning}
+use Rattle.uds_rules.specs.Rule.{RuleValue}
+use Rattle.trace_log.specs.Messages.{messages_under, HasMeaning}
 use Rattle.trace_log.specs.Outcome.{Accepted, IsOutcome}
 use Rattle.trace_log.specs.Answers.{TellsOutcome}
 use Rattle.trace_log.specs.declared.summary.Summary.{Summary}
 
--- what the trace means
-abbrev pub items_of_trace : ℕ → List Entry → List ItemValue
-items_of_trace limit T = meaning (messages limit T)
+-- what the trace means under rules
+abbrev pub items_of_trace : ℕ → List RuleValue → List Entry → List ItemValue
+items_of_trace limit rules T = meaning (messages_under rules limit T)
 
 -- The log is accepted, with this meaning and this summary.
 pub record IsAcceptedWith (limit : ℕ) (settings : Settings) (log : List ℕ) (items : List ItemValue) (summary : Summary)

@@ -38,7 +38,7 @@ pub(crate) fn say_due<S: TextSink>(
     let mut sink = CanonicalSink {
         out,
         progress,
-        config: *config,
+        config,
     };
     match orderer.take(message, &mut sink) {
         Ok(()) => Ok(()),
@@ -62,7 +62,7 @@ pub(crate) fn say_held<S: TextSink>(
     let mut sink = CanonicalSink {
         out,
         progress,
-        config: *config,
+        config,
     };
     // A text sink takes all that is said: so this never fails.
     let _ = orderer.finish(&mut sink);
@@ -74,7 +74,7 @@ pub(crate) fn say_held<S: TextSink>(
 pub(crate) struct CanonicalSink<'a, S> {
     pub out: &'a mut S,
     pub progress: &'a mut Progress,
-    pub config: Config,
+    pub config: &'a Config,
 }
 
 impl<'a, S: TextSink> MessageSink for CanonicalSink<'a, S> {
@@ -87,7 +87,7 @@ impl<'a, S: TextSink> MessageSink for CanonicalSink<'a, S> {
     ghost after_err = { λ s d m e t. ⊥ };
 
     fn put(&mut self, dir: Dir, message: &[u8]) -> Result<(), NoFault> {
-        say_canonical(&self.config, self.progress, dir, message, self.out);
+        say_canonical(self.config, self.progress, dir, message, self.out);
         Ok(())
     }
 }

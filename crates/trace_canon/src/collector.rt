@@ -53,38 +53,38 @@ pub(crate) fn session_of<R: Source>(
         alloc,
         pairing: JudgedPairing::new(alloc),
         length: 0,
-        config: *config,
+        config,
     };
     run(alloc, config, machine, source, &mut Nowhere::new())
 }
 
 /// Pairs the messages, and answers with all items at the end.
 #[derive(Drop)]
-pub(crate) struct Collector {
+pub(crate) struct Collector<'a> {
     alloc: Global,
     /// What the messages so far mean, or nothing where their canonical log is too long.
     pub pairing: JudgedPairing,
     /// How long the canonical log of these messages is, or a number above the limit.
     pub length: u64,
-    pub config: Config,
+    pub config: &'a Config,
 }
 
-impl Machine for Collector {
+impl<'a> Machine for Collector<'a> {
     ghost use Rattle.isotp_receive.specs.declared.TheConstants.{MESSAGE_LIMIT};
-    ghost use Rattle.isotp_receive.specs.Verdict.{messages};
+    ghost use Rattle.trace_log.specs.Messages.{messages_under};
     ghost use Rattle.trace_canon.specs.FirstFrames.{CompletesMessage};
     ghost use Rattle.trace_canon.specs.proving.SessionScript.{Collects, answers_session, silent_script};
 
     type Answer = Session;
 
-    ghost stands = { λ start T now.
-        Collects start.config (messages MESSAGE_LIMIT T) now.pairing now.length now.config };
+    ghost stands = { λ rules start T now.
+        Collects start.config.now (messages_under rules MESSAGE_LIMIT T) now.pairing now.length now.config.now };
 
-    ghost script = { λ start. silent_script };
+    ghost script = { λ rules start. silent_script };
 
-    ghost answers = { λ start. answers_session start.config };
+    ghost answers = { λ rules start. answers_session rules start.config.now };
 
-    ghost needs = { λ start. CompletesMessage MESSAGE_LIMIT };
+    ghost needs = { λ rules start. CompletesMessage MESSAGE_LIMIT };
 
     #[inline(always)]
     fn is_strict(&self) -> bool {
@@ -129,7 +129,7 @@ impl Machine for Collector {
     ) {}
 }
 
-impl Collector {
+impl<'a> Collector<'a> {
     ghost use Rattle.std.specs.Prelude.{◌+◌, ℕ, List, [], ◌∷◌, ◌++◌, OnOk};
     ghost use Rattle.direction.specs.Dir.{Message};
     ghost use Rattle.uds_exchange.specs.Meaning.{meaning, flattened};
@@ -142,8 +142,8 @@ impl Collector {
     /// limit.
     fn take(&mut self, message: Judged<'_>) -> Result<(), AllocError>
         ensures { OnOk result ((settings : Settings) (M : List Message) → IsJudgedAfter M message.entry
-            → Collects settings M self.old.pairing self.old.length self.old.config
-            → Collects settings (M ++ sent message.entry ∷ []) self.new.pairing self.new.length self.new.config) }
+            → Collects settings M self.old.pairing self.old.length self.old.config.now
+            → Collects settings (M ++ sent message.entry ∷ []) self.new.pairing self.new.length self.new.config.now) }
     {
         let length = self.length.saturating_add(self.added(message));
         if length > self.config.max_bytes() {
@@ -159,11 +159,11 @@ impl Collector {
     /// By how many bytes one more message makes the canonical log longer.
     fn added(&self, message: Judged<'_>) -> u64
         ensures { (M : List Message) (size : ℕ) → IsJudgedAfter M message.entry
-            → HaveLengths self.now.config (flattened (meaning M)) size
-            → HaveLengths self.now.config (flattened (meaning (M ++ sent message.entry ∷ []))) (size + result) }
+            → HaveLengths self.now.config.now (flattened (meaning M)) size
+            → HaveLengths self.now.config.now (flattened (meaning (M ++ sent message.entry ∷ []))) (size + result) }
     {
         if is_in_meaning(message.step) {
-            lines_length(&self.config, message.dir, message.bytes)
+            lines_length(self.config, message.dir, message.bytes)
         } else {
             0
         }

@@ -6,17 +6,19 @@ use crate::message_parts::Role;
 use crate::reception_starts::FramePlace;
 use text_parts::say;
 use trace_io::TextSink;
-use trace_text::{HexBytes, Number, Sender, Stamp};
+use trace_text::{Number, RuledBytes, Sender, Stamp};
 use uds_exchange::Judged;
+use uds_rules::Rules;
 
 /// Says the line of a message that has its first frame and its last one in these places, as an object.
 pub(crate) fn say_message_object<S: TextSink>(
+    rules: &Rules,
     message: &Judged<'_>,
     first: FramePlace,
     last: FramePlace,
     out: &mut S,
 )
-    ensures { S.says out.old (object_line (placed_members (judged_at message.now first last))) out.new }
+    ensures { S.says out.old (object_line (placed_members rules.now (judged_at message.now first last))) out.new }
 {
     say(
         out,
@@ -41,7 +43,14 @@ pub(crate) fn say_message_object<S: TextSink>(
                 "\",\"end\":\"",
                 Stamp(last.micros),
             ),
-            ("\",\"message\":\"", HexBytes(message.bytes), "\"}\n"),
+            (
+                "\",\"message\":\"",
+                RuledBytes {
+                    rules,
+                    message: message.bytes,
+                },
+                "\"}\n",
+            ),
         ),
     );
 }

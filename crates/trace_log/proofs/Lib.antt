@@ -15,6 +15,8 @@ pub mod ReadLines
 pub mod ScannedLogs
 pub mod Lowest
 pub mod ReadAgain
+pub mod Certificates
+mod MaskedItems
 pub mod LargerLimits
 pub mod ReadAs
 pub mod StoppedRuns

@@ -40,7 +40,7 @@ module _ {A M W : Type 0} {machine : MachineGhosts M A} {target : TargetGhosts W
       let carries =
       subst (λ w. Carries target begun.state.target (text begun meanings) (blank_page true) w) (sym same) so_far.carried in
       subst (Answers begun glimpse log given new) (sym is)
-      (front_of_read (command_of machine glimpse begun.machine_start) MESSAGE_LIMIT settings log given fault.Read meanings
+      (front_of_read (command_of machine glimpse begun.settings.rules begun.machine_start) MESSAGE_LIMIT settings log given fault.Read meanings
       (old begun) (target.taken new)
       (writes_to_failed_read (passes begun) (text begun) settings log given meanings [] (text begun meanings)
       (take given log) (drop given log) standing stood (sym (take-append-drop given log)) (each_passes begun meanings so_far.within)

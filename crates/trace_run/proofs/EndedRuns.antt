@@ -34,20 +34,20 @@ module _ {A M W : Type 0} (machine : MachineGhosts M A) (target : TargetGhosts W
   -- what it answers at the end of the log
   pub answers_at_the_end : (glimpse : GlimpseValue) (given : ℕ) (result : Result A Fault) (new : W)
       → length log ≤ settings.max_bytes
-      → given ≡ length log → LogMeans log meanings → AreWithin machine start.machine (trace settings meanings)
+      → given ≡ length log → LogMeans log meanings → AreWithin machine start.rules start.machine (trace settings meanings)
       → EndsSaying machine target start settings log meanings result new
-      → AnswersAndWrites (command_of machine glimpse start.machine) MESSAGE_LIMIT settings log given result
+      → AnswersAndWrites (command_of machine glimpse start.rules start.machine) MESSAGE_LIMIT settings log given result
       (target.taken start.target) (target.taken new)
   answers_at_the_end glimpse given result new short all means within = by result
     where
       script : Script
-      script = machine.script start.machine
+      script = machine.script start.rules start.machine
 
       each : EachPasses (passing script.strict MESSAGE_LIMIT settings) meanings
       each = all_pass script.strict settings meanings within
 
       with_answer : (reply : Result A NoAnswer) → EndsAnswering machine target start settings log meanings reply new
-          → EndsWith (command_of machine glimpse start.machine) MESSAGE_LIMIT settings log given reply
+          → EndsWith (command_of machine glimpse start.rules start.machine) MESSAGE_LIMIT settings log given reply
           (target.taken start.target) (target.taken new)
       with_answer reply ends = (
         omega (arith, all),
@@ -58,7 +58,7 @@ module _ {A M W : Type 0} (machine : MachineGhosts M A) (target : TargetGhosts W
       )
 
       by : (result : Result A Fault) → EndsSaying machine target start settings log meanings result new
-          → AnswersAndWrites (command_of machine glimpse start.machine) MESSAGE_LIMIT settings log given result
+          → AnswersAndWrites (command_of machine glimpse start.rules start.machine) MESSAGE_LIMIT settings log given result
           (target.taken start.target) (target.taken new)
       by (Ok value) ends = with_answer (Ok value) ends
       by (Err fault.OutputLimit) ends = with_answer (Err no_answer.OutputLimit) ends
@@ -118,13 +118,13 @@ module _ {A M W : Type 0} (machine : MachineGhosts M A) (target : TargetGhosts W
   pub carried_at_the_end : (telling : Telling M) (page_then : Page) (old mid new : W) (settled : Bool) (summary : Summary)
       → HasTold machine target start (trace settings meanings) telling old
       → summary ≡ summary_of MESSAGE_LIMIT settings log meanings
-      → Says target telling.page old ((machine.script start.machine).at_the_end (trace settings meanings) summary) page_then mid
+      → Says target telling.page old ((machine.script start.rules start.machine).at_the_end (trace settings meanings) summary) page_then mid
       → Settles target page_then mid settled new
       → Carries target start.target (whole_since machine target start settings log meanings) (blank_page (not settled)) new
   carried_at_the_end telling page_then old mid new settled summary so_far is speaks settles =
       let T = trace settings meanings in
-      let said = said_since machine start.machine T in
-      let last = (machine.script start.machine).at_the_end T in
+      let said = said_since machine start.rules start.machine T in
+      let last = (machine.script start.rules start.machine).at_the_end T in
       subst (λ s. Carries target start.target (said ++ last s) (blank_page (not settled)) new) is
       (settles start.target (said ++ last summary) (speaks start.target said so_far.carried))
 

@@ -3,7 +3,7 @@ use Rattle.std.proofs.Common.{◌≡◌, ◌≢◌, ◌⊎◌, ℕ, Bool, true, 
 use Rattle.isotp_receive.specs.declared.TheConstants.{MESSAGE_LIMIT}
 use Rattle.trace_io.specs.declared.device.Target.{Ghosts as TargetGhosts}
 use Rattle.trace_log.specs.Feeding.{WroteBefore}
-use Rattle.trace_log.specs.Needing.{HasFrame, IsKeptForMessage}
+use Rattle.trace_log.specs.Needing.{HasFrame, IsKeptOrMasked}
 use Rattle.trace_log.specs.declared.fault.Fault.{Fault}
 use Rattle.trace_log.specs.declared.fault.Fault.TheVariants as fault
 use Rattle.trace_log.proofs.Promises.{Begins}
@@ -145,7 +145,8 @@ module _ {A M W : Type 0} {machine : MachineGhosts M A} {target : TargetGhosts W
       pub memory_was_needed : (why : Fault)
           → Fed machine target begun.state begun.settings.max_bytes log given (Err why) now
           → GivesUp machine target glimpse why now.receiver now.target answer new → answer ≡ fault.Memory
-          → HasFrame (λ T e. IsKeptForMessage MESSAGE_LIMIT T e ⊎ machine.needs begun.machine_start T e) begun.settings log
+          → HasFrame (λ T e. IsKeptOrMasked MESSAGE_LIMIT begun.settings.rules T e
+          ⊎ machine.needs begun.settings.rules begun.machine_start T e) begun.settings log
       memory_was_needed (fault.BadLine line column) (meanings, taken, place) up refused =
           absurd (apart_from_memory (fault.BadLine line column) _ (λ same. absurd (cc same))
           (refuses_all begun now glimpse answer new (fault.BadLine line column) meanings taken up) refused)

@@ -9,7 +9,7 @@ use Rattle.trace_io.specs.Written.{HasFront}
 use Rattle.trace_io.specs.declared.device.Target.{Ghosts as TargetGhosts}
 use Rattle.trace_log.specs.Feeding.{StopsWithin}
 use Rattle.trace_log.specs.LinesRead.{counts_last}
-use Rattle.trace_log.specs.Needing.{HasFrame, IsKeptForMessage}
+use Rattle.trace_log.specs.Needing.{HasFrame, IsKeptOrMasked}
 use Rattle.trace_log.specs.Trace.{trace}
 use Rattle.trace_log.specs.declared.fault.Fault.{Fault}
 use Rattle.trace_log.specs.declared.fault.Fault.TheVariants as fault
@@ -96,8 +96,10 @@ module _ {A M W : Type 0} {machine : MachineGhosts M A} {target : TargetGhosts W
 
   -- the frame at which it was refused needed it
   pub frame_needed : Fed machine target begun.state begun.settings.max_bytes log given (Err fault.Memory) now
-      → HasFrame (λ T e. IsKeptForMessage MESSAGE_LIMIT T e ⊎ machine.needs begun.machine_start T e) begun.settings log
+      → HasFrame (λ T e. IsKeptOrMasked MESSAGE_LIMIT begun.settings.rules T e
+      ⊎ machine.needs begun.settings.rules begun.machine_start T e) begun.settings log
   frame_needed (meanings, what, stops, place) =
       let at = stops begun.settings begun.machine_start begun.is in
-      has_frame (λ T e. IsKeptForMessage MESSAGE_LIMIT T e ⊎ machine.needs begun.machine_start T e) begun.settings log given
+      let rules = begun.settings.rules in
+      has_frame (λ T e. IsKeptOrMasked MESSAGE_LIMIT rules T e ⊎ machine.needs rules begun.machine_start T e) begun.settings log given
       meanings what at.stamped at.dir place at.means at.direction at.stopped.reason.1

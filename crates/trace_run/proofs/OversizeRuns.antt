@@ -33,7 +33,8 @@ module _ {A M W : Type 0} {machine : MachineGhosts M A} {target : TargetGhosts W
       (each_within settings meanings (at.stopped.within strict))
       (line_announces settings what at.stamped at.dir (Some announced) at.means at.direction at.stopped.reason.2) in
       let count = min given settings.max_bytes in
-      let read : AreLinesRead (passing (machine.script begun.machine_start).strict MESSAGE_LIMIT settings) true count log meanings =
+      let read : AreLinesRead (passing (machine.script settings.rules begun.machine_start).strict MESSAGE_LIMIT settings) true count log
+      meanings =
       subst (λ b. AreLinesRead (passing b MESSAGE_LIMIT settings) true count log meanings) (sym strict)
       (read_before_oversize MESSAGE_LIMIT settings true count log line announced meanings found.0 found.2 found.1) in
       elim (settles begun.state.target (text begun meanings) at.stopped.carried) [
@@ -42,7 +43,7 @@ module _ {A M W : Type 0} {machine : MachineGhosts M A} {target : TargetGhosts W
           record { meanings = meanings; read = read; wrote = wrote_all target begun.state.target new (text begun meanings) well.1 },
         )
         | inr wrong ↦ subst (Answers begun glimpse log given new) (sym wrong.0)
-            (front_of_read (command_of machine glimpse begun.machine_start) MESSAGE_LIMIT settings log given
+            (front_of_read (command_of machine glimpse begun.settings.rules begun.machine_start) MESSAGE_LIMIT settings log given
             (fault.Oversize line announced) meanings (old begun) (target.taken new)
             (record { meanings = meanings; read = read; wrote = refl })
             (wrote_front target begun.state.target new (text begun meanings) true wrong.1) (wrong.1.failed_some refl))

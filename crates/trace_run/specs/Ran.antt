@@ -21,8 +21,9 @@ use Rattle.trace_log.specs.Summing.{summary_of}
 use Rattle.trace_log.specs.LinesRead.{AreLinesRead, AreReadBefore, WritesTextOfRead, WritesFrontOfRead}
 use Rattle.trace_log.specs.ReadAs.{no_line, too_long, takes_all, IsReadAs}
 use Rattle.trace_log.specs.Devices.{AgreesWith, bytes_given, ReadFrom, WroteTo}
-use Rattle.trace_log.specs.Needing.{HasFrame, IsKeptForMessage, NeedsMemoryToReceive}
+use Rattle.trace_log.specs.Needing.{HasFrame, IsKeptOrMasked, NeedsMemoryToReceive}
 use Rattle.trace_log.specs.Refusal.{announces_within, HasNoBadPlaceWithin, IsNotRefusedWithin}
+use Rattle.uds_rules.specs.Rule.{RuleValue}
 use Rattle.trace_run.specs.Script.{Command, GlimpseValue, Script, command}
 use Rattle.trace_run.specs.Script.{refusal_of_lines, said_and_refusal_of_lines, said_of_lines, whole_of_lines}
 use Rattle.trace_run.specs.declared.machine.Machine.{Ghosts as MachineGhosts}
@@ -39,11 +40,11 @@ is_told Read = false
 is_told Write = false
 is_told Memory = false
 
--- the command of a machine that was `machine_start` at the start, where this is seen of the source
-abbrev pub command_of : {A M : Type 0} → MachineGhosts M A → GlimpseValue → M → Command A
-command_of machine glimpse machine_start =
-    command (machine.script machine_start) (machine.refusal machine_start glimpse)
-    (machine.answers machine_start) (machine.needs machine_start)
+-- the command of a machine under rules that was `machine_start` at the start, where this is seen of the source
+abbrev pub command_of : {A M : Type 0} → MachineGhosts M A → GlimpseValue → List RuleValue → M → Command A
+command_of machine glimpse rules machine_start =
+    command (machine.script rules machine_start) (machine.refusal rules machine_start glimpse)
+    (machine.answers rules machine_start) (machine.needs rules machine_start)
 
 -- where the fault tells why a log can't be read, that is so: no length that is announced is a reason
 abbrev pub CantBeRead : Settings → List ℕ → Fault → Type 0
@@ -187,10 +188,10 @@ pub record Ran {R W A : Type 0} (source : SourceGhosts R) (target : TargetGhosts
   -- before each read what was said was written
   pub eager : (log : List ℕ) → AgreesWith source before after log → WritesSaidEagerly of.script MESSAGE_LIMIT settings log
       (bytes_given source before after) (target.taken old) (target.taken new)
-  -- memory is refused only for a log that needs it: for a message of several frames, or for a frame for which the
-  -- command needs some
+  -- memory is refused only for a log that needs it: for a message of several frames, for one that is masked, or for a
+  -- frame for which the command needs some
   pub memory : (log : List ℕ) → AgreesWith source before after log
-      → result ≡ Err Memory → HasFrame (λ T e. IsKeptForMessage MESSAGE_LIMIT T e ⊎ of.needs T e) settings log
+      → result ≡ Err Memory → HasFrame (λ T e. IsKeptOrMasked MESSAGE_LIMIT settings.rules T e ⊎ of.needs T e) settings log
   -- reading stops within one piece
   pub near : (log : List ℕ) → AgreesWith source before after log
       → ReadsWhile (StopsNothingWithin of.script.strict MESSAGE_LIMIT settings log) (bytes_given source before after)
@@ -212,6 +213,6 @@ pub record RanLenient {R W A : Type 0} (source : SourceGhosts R) (target : Targe
   -- no log is refused for an announced length, nor for the length of what would be said of it
   pub never_oversize : IfErr result (λ fault. (line announced : ℕ) → fault ≢ Oversize line announced)
   pub never_output_limit : IfErr result (λ fault. fault ≢ OutputLimit)
-  -- where the command needs no memory, it is refused only for a message of several frames
+  -- where the command needs no memory, it is refused only for a message of several frames, or for one that is masked
   pub memory : ((T : List Entry) (e : Entry) → of.needs T e → ⊥) → (log : List ℕ) → AgreesWith source before after log
       → result ≡ Err Memory → NeedsMemoryToReceive MESSAGE_LIMIT settings log

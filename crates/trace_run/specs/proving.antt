@@ -2,6 +2,7 @@
 pub mod Gathering
 pub mod Carrying
 pub mod PageSinks
+pub mod Ruling
 pub mod Telling
 pub mod Receiving
 pub mod Ending

@@ -28,15 +28,15 @@ pub fn run<M: Machine + Drop, R: Source, W: Target>(
     source: &mut R,
     target: &mut W,
 ) -> Result<M::Answer, Fault>
-    requires machine { M.stands machine [] machine }
+    requires machine { M.stands config.now.rules machine [] machine }
     requires source { HasLowCounts R.Source source.old }
     requires target { IsLowCount (W.failures target.old) }
     ensures ran { Ran R.Source W.Target
-        (command_of M.Machine (glimpse_of R.Source source.new) machine)
+        (command_of M.Machine (glimpse_of R.Source source.new) config.now.rules machine)
         config.now source.old target.old result source.new target.new }
 {
     let pair = Pair::new(alloc);
-    let mut receiver = Receiver::start(config, pair, Telling::start(machine));
+    let mut receiver = Receiver::start(config, pair, Telling::start(alloc, machine));
     match feed_lines(config.max_bytes(), source, &mut receiver, target) {
         Ok(ends_in_line_feed) => finish(receiver, ends_in_line_feed, target),
         Err(fault) => Err(give_up(fault, Glimpse::of(source), receiver, target)),
@@ -51,13 +51,14 @@ pub fn run_lenient<M: Machine + Drop, R: Source, W: Target>(
     source: &mut R,
     target: &mut W,
 ) -> Result<M::Answer, Fault>
-    requires machine { M.stands machine [] machine }
-    requires lenient { (M.script machine).strict ≡ false }
-    requires has_answer { (T : List Entry) (summary : SummaryValue) → M.answers machine T summary (Err OutputLimit) → ⊥ }
+    requires machine { M.stands config.now.rules machine [] machine }
+    requires lenient { (M.script config.now.rules machine).strict ≡ false }
+    requires has_answer { (T : List Entry) (summary : SummaryValue)
+        → M.answers config.now.rules machine T summary (Err OutputLimit) → ⊥ }
     requires source { HasLowCounts R.Source source.old }
     requires target { IsLowCount (W.failures target.old) }
     ensures ran { RanLenient R.Source W.Target
-        (command_of M.Machine (glimpse_of R.Source source.new) machine)
+        (command_of M.Machine (glimpse_of R.Source source.new) config.now.rules machine)
         config.now source.old target.old result source.new target.new }
 {
     run(alloc, config, machine, source, target)

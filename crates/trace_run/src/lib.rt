@@ -11,10 +11,10 @@
 //! impl Machine for Dots {
 //!     type Answer = Summary;
 //!
-//!     ghost stands = { λ start T now. ⊤ };
-//!     ghost script = { λ start. dots };
-//!     ghost answers = { λ start. answers_counts };
-//!     ghost needs = { λ start. needs_none };
+//!     ghost stands = { λ rules start T now. ⊤ };
+//!     ghost script = { λ rules start. dots rules };
+//!     ghost answers = { λ rules start. answers_counts };
+//!     ghost needs = { λ rules start. needs_none };
 //!
 //!     fn is_strict(&self) -> bool {
 //!         false
@@ -35,8 +35,9 @@
 //! }
 //! ```
 //!
-//! Here `dots` is a `Script` of its own: of a frame that completed a message a dot, of another one nothing, and nothing
-//! at the end. That `event` says this is what its proof shows. The machine keeps nothing, so `stands` asks nothing of it.
+//! Here `dots` is a `Script` of its own: of a frame that completed a message which the rules leave a dot, of another one
+//! nothing, and nothing at the end. That `event` says this is what its proof shows. The machine keeps nothing, so `stands`
+//! asks nothing of it.
 //!
 //! The machine sees no device: [`run`] (`driver`) joins the two ends, and makes each fault of theirs one of
 //! [`Fault`](trace_log::Fault).
@@ -49,6 +50,7 @@
 //! | a command, and what it is handed: [`Machine`], [`Seen`], [`Glimpse`], [`NoAnswer`] | `machine` | `Script`, `Seen` |
 //! | a run of one over a log: [`run`], [`run_lenient`] | `driver` | `Ran` |
 //! | the frames received and counted | `receiver` | `Trace`, `Summing` of `trace_log` |
+//! | the messages under rules | `ruling` | `Under` of `uds_rules` |
 //! | the messages judged, and the machine told | `telling` | `Seen` |
 //! | its text gathered for few writes | `page`, `gathered_text` | |
 //! | a text that is known as a whole, written by such a page: [`print`] | `printer` | `Printed` |
@@ -62,6 +64,7 @@ mod nowhere;
 mod page;
 mod printer;
 mod receiver;
+mod ruling;
 mod telling;
 
 pub use driver::{run, run_lenient};

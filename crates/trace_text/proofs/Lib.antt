@@ -7,6 +7,7 @@ pub mod ItemLines
 pub mod JsonTexts
 pub mod ItemObjects
 pub mod TextWords
+pub mod RuledWords
 pub mod EqualLists
 pub mod Silence
 pub mod Roles

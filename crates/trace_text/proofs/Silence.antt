@@ -26,7 +26,7 @@ word (member key (json.number n) later) = codes ""
 word (member key (json.object inner) later) = codes ""
 
 pub silence_was_asked_for : SilenceWasAskedFor
-silence_was_asked_for request = told_by (is_suppressing request)
+silence_was_asked_for rules request = told_by (is_suppressing request)
 
 pub silence_was_asked_for_in_json : SilenceWasAskedForInJson
-silence_was_asked_for_in_json request = (λ same. (told_by (is_suppressing request)).0 (ap word same), λ is. ap members ((told_by (is_suppressing request)).1 is))
+silence_was_asked_for_in_json rules request = (λ same. (told_by (is_suppressing request)).0 (ap word same), λ is. ap members ((told_by (is_suppressing request)).1 is))

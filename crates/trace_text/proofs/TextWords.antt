@@ -12,14 +12,14 @@ use Rattle.trace_text.specs.Words.{bytes_text, service_text, code_text}
 
 -- ---- words
 
--- no byte of a word is below the digit 0, nor a backslash: so no quote is in it, and nothing that a string of JSON escapes
+-- no byte of a word is below `*`, nor a backslash: so no quote is in it, and nothing that a string of JSON escapes
 abbrev pub is_in_word : ℕ → Bool
-is_in_word b = nat_le 48 b && not (b == 92)
+is_in_word b = nat_le 42 b && not (b == 92)
 
 abbrev pub IsWord : List ℕ → Type 0
 IsWord bytes = AllByRecursion (λ b. is_in_word b ≡ true) bytes
 
-high_in_word : (b : ℕ) → is_in_word b ≡ true → 48 ≤ b
+high_in_word : (b : ℕ) → is_in_word b ≡ true → 42 ≤ b
 high_in_word b is = grind (arith, nat_tests)
 
 abbrev pub first_of : List ℕ → ℕ
@@ -36,7 +36,7 @@ strip [] one other is = is
 strip (b ∷ front) one other is = strip front one other (ap rest_of is)
 
 -- and so is what stands before it, where words end at a lower byte
-pub cut : (a b one other : List ℕ) → IsWord a → IsWord b → first_of one < 48 → first_of other < 48 → a ++ one ≡ b ++ other → (a ≡ b) × (one ≡ other)
+pub cut : (a b one other : List ℕ) → IsWord a → IsWord b → first_of one < 42 → first_of other < 42 → a ++ one ≡ b ++ other → (a ≡ b) × (one ≡ other)
 cut [] [] one other wa wb low under is = (refl, is)
 cut [] (d ∷ b) one other wa wb low under is =
     let same : first_of one ≡ d = ap first_of is in
@@ -51,13 +51,13 @@ cut (c ∷ a) (d ∷ b) one other wa wb low under is =
     let same : c ≡ d = ap first_of is in
     (ap₂ (λ h t. h ∷ t) same rest.0, rest.1)
 
-digit_in_word : (d : ℕ) → d < 16 → is_in_word (digit d) ≡ true
+pub digit_in_word : (d : ℕ) → d < 16 → is_in_word (digit d) ≡ true
 digit_in_word d small = grind (arith, nat_tests)
 
 digit_same : (m n : ℕ) → m < 16 → n < 16 → digit m ≡ digit n → m ≡ n
 digit_same m n small few is = grind (arith, nat_tests)
 
-pair_word : (b : ℕ) → IsWord (hexadecimal 2 b)
+pub pair_word : (b : ℕ) → IsWord (hexadecimal 2 b)
 unfolding digits
 pair_word b = (digit_in_word (b / 16 % 16) (omega arith), (digit_in_word (b % 16) (omega arith), tt))
 

@@ -1,4 +1,5 @@
 pub mod Words
+pub mod RuledText
 pub mod Counts
 pub mod Json
 pub mod ItemLines

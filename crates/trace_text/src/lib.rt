@@ -28,6 +28,7 @@ mod numbers;
 mod remark;
 mod remark_lines;
 mod remark_objects;
+mod ruled_bytes;
 pub mod values;
 
 pub use bytes::{Byte, HexBytes, Verbatim};
@@ -42,3 +43,4 @@ pub use notation::Notation;
 pub use numbers::{HexadecimalDigit, Length, Number, Ordinal, SixDecimals, Stamp, ThreeDecimals};
 pub use remark::Remark;
 pub use remark_lines::say_remark;
+pub use ruled_bytes::RuledBytes;

@@ -7,6 +7,7 @@ use Rattle.uds_exchange.specs.declared.step.Step.{Step}
 use Rattle.uds_exchange.specs.declared.step.Step.TheVariants as step
 use Rattle.trace_canon.specs.Sessions.{items_of_trace}
 use Rattle.trace_log.specs.Settings.{Settings}
+use Rattle.uds_rules.specs.Rule.{RuleValue}
 use Rattle.trace_run.specs.Script.{Script, Answering}
 use Rattle.trace_canon.specs.declared.collector.Session.{Session}
 use Rattle.trace_run.specs.declared.machine.NoAnswer.TheVariants.{OutputLimit}
@@ -36,8 +37,8 @@ abbrev pub silent_script : Script
 silent_script = record { strict = true; of_frame = λ T e. []; at_the_end = λ T summary. [] }
 
 -- the meaning and the counts are answered where the canonical log is within the limit, and else that it is longer
-abbrev pub answers_session : Settings → Answering Session
-answers_session settings T summary (Ok session) =
-    (session.meaning ≡ items_of_trace MESSAGE_LIMIT T) × (session.summary ≡ summary)
-    × (fits_within settings (items_of_trace MESSAGE_LIMIT T) ≡ true)
-answers_session settings T summary (Err OutputLimit) = fits_within settings (items_of_trace MESSAGE_LIMIT T) ≡ false
+abbrev pub answers_session : List RuleValue → Settings → Answering Session
+answers_session rules settings T summary (Ok session) =
+    (session.meaning ≡ items_of_trace MESSAGE_LIMIT rules T) × (session.summary ≡ summary)
+    × (fits_within settings (items_of_trace MESSAGE_LIMIT rules T) ≡ true)
+answers_session rules settings T summary (Err OutputLimit) = fits_within settings (items_of_trace MESSAGE_LIMIT rules T) ≡ false

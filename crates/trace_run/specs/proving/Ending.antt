@@ -2,7 +2,6 @@
 use Rattle.std.specs.Prelude.{◌≡◌, ℕ, ◌⊎◌, Bool, true, false, List, ◌++◌, Option, Result, Ok, Err}
 use Rattle.can_log.specs.declared.frame.Stamped.{Stamped}
 use Rattle.isotp_receive.specs.declared.TheConstants.{MESSAGE_LIMIT}
-use Rattle.isotp_receive.specs.Verdict.{messages}
 use Rattle.trace_io.specs.declared.device.Target.{Ghosts as TargetGhosts}
 use Rattle.trace_log.specs.Settings.{Settings}
 use Rattle.trace_log.specs.Summing.{ends_in_line_feed, summary_of}
@@ -10,7 +9,6 @@ use Rattle.trace_log.specs.Trace.{trace}
 use Rattle.trace_log.specs.declared.fault.Fault.{Fault}
 use Rattle.trace_log.specs.declared.fault.Fault.TheVariants as fault
 use Rattle.trace_log.specs.proving.Receiving.{Receives}
-use Rattle.uds_exchange.specs.Judging.{IsJudgeOf}
 use Rattle.trace_run.specs.Script.{GlimpseValue, refusal_of_lines, whole_of_lines}
 use Rattle.trace_run.specs.declared.machine.Machine.{Ghosts as MachineGhosts}
 use Rattle.trace_run.specs.declared.machine.NoAnswer.{NoAnswer}
@@ -18,6 +16,7 @@ use Rattle.trace_run.specs.declared.machine.NoAnswer.TheVariants as no_answer
 use Rattle.trace_run.specs.declared.page.Page.{Page}
 use Rattle.trace_run.specs.declared.receiver.Receiver.{Receiver}
 use Rattle.trace_run.specs.proving.Carrying.{Carries, WritesOn, blank_page}
+use Rattle.trace_run.specs.proving.Ruling.{HasJudged}
 use Rattle.trace_run.specs.proving.Telling.{Start, HasTold}
 
 module _ {W : Type 0} (target : TargetGhosts W) where
@@ -47,9 +46,10 @@ module _ {A M W : Type 0} (machine : MachineGhosts M A) (target : TargetGhosts W
   RefusesSaying why receiver old result new =
       (machine_start : M) (settings : Settings) (meanings : List (Option Stamped))
       → Receives settings meanings receiver.pair receiver.lines receiver.counts
-      → IsJudgeOf (messages MESSAGE_LIMIT (trace settings meanings)) receiver.telling.judge
-      → machine.stands machine_start (trace settings meanings) receiver.telling.machine
-      → SettlesWith target (refusal_of_lines (machine.refusal machine_start glimpse) MESSAGE_LIMIT settings why meanings)
+      → HasJudged settings.rules (trace settings meanings) receiver.telling.judge receiver.telling.ruling.left_out
+      → machine.stands settings.rules machine_start (trace settings meanings) receiver.telling.machine
+      → SettlesWith target
+      (refusal_of_lines (machine.refusal settings.rules machine_start glimpse) MESSAGE_LIMIT settings why meanings)
       why receiver.telling.page old result new
 
   -- a fault of a device stands as it is, and before others all that is said is written
@@ -70,12 +70,13 @@ module _ {A M W : Type 0} (machine : MachineGhosts M A) (target : TargetGhosts W
     (log : List ℕ) (meanings : List (Option Stamped)) where
   -- all that is said of the log
   abbrev pub whole_since : List ℕ
-  whole_since = whole_of_lines (machine.script start.machine) MESSAGE_LIMIT settings log meanings
+  whole_since = whole_of_lines (machine.script start.rules start.machine) MESSAGE_LIMIT settings log meanings
 
   -- with this answer of the machine, and all that is said of the log was written
   abbrev pub EndsAnswering : Result A NoAnswer → W → Type 0
   EndsAnswering result new =
-      machine.answers start.machine (trace settings meanings) (summary_of MESSAGE_LIMIT settings log meanings) result
+      machine.answers start.rules start.machine (trace settings meanings) (summary_of MESSAGE_LIMIT settings log meanings)
+      result
       × Carries target start.target whole_since (blank_page false) new
 
   -- with that answer, or because writing failed
@@ -95,7 +96,7 @@ module _ {A M W : Type 0} (machine : MachineGhosts M A) (target : TargetGhosts W
   EndsRun receiver ended old result new =
       (start : Start M W) (settings : Settings) (log : List ℕ) (meanings : List (Option Stamped))
       → Receives settings meanings receiver.pair receiver.lines receiver.counts
-      → ended ≡ ends_in_line_feed log
+      → ended ≡ ends_in_line_feed log → start.rules ≡ settings.rules
       → HasTold machine target start (trace settings meanings) receiver.telling old
       → EndsSaying machine target start settings log meanings result new
 
@@ -104,5 +105,5 @@ module _ {A M W : Type 0} (machine : MachineGhosts M A) (target : TargetGhosts W
   EndsBehind receiver old new =
       (machine_start : M) (settings : Settings) (meanings : List (Option Stamped))
       → Receives settings meanings receiver.pair receiver.lines receiver.counts
-      → machine.stands machine_start (trace settings meanings) receiver.telling.machine
+      → machine.stands settings.rules machine_start (trace settings meanings) receiver.telling.machine
       → WritesOn target receiver.telling.page old new

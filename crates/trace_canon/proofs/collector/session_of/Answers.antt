@@ -21,7 +21,7 @@ returns g c =
         answer = λ log agrees. session_is_the_same settings log _ c.run.result _ _ (ran.answer log agrees);
         way = record { near = ran.near; memory = ran.memory; read = ran.read };
         never_write =
-            never_write silent_script silent_says_nothing (answers_session settings) (CompletesMessage MESSAGE_LIMIT)
+            never_write silent_script silent_says_nothing (answers_session settings.rules settings) (CompletesMessage MESSAGE_LIMIT)
             MESSAGE_LIMIT settings bytes _ _ _ c.run.result (ran.answer bytes (given_agrees ran.read.gave));
       };
       configured = ran.configured;

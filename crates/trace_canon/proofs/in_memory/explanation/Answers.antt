@@ -1,6 +1,7 @@
 -- What the call wrote is the text; each log has one, so memory may be refused to any.
 use Rattle.std.proofs.Common.{ap, sym, ◌∙◌}
 use Rattle.isotp_receive.specs.declared.TheConstants.{MESSAGE_LIMIT}
+use Rattle.trace_log.specs.Settings.{without_rules}
 use Rattle.trace_canon.specs.ExplainScript.{explain_script}
 use Rattle.trace_canon.specs.InMemory.{NeedsMemoryForExplanation}
 use Rattle.trace_run.specs.Script.{needs_none, says_no_refusal}
@@ -19,7 +20,7 @@ returns c = record {
       (ap (λ v. v.items) (sym c.into_inner.ensures)) in
       gathered _ _ (λ summary. record { text = c.into_inner.result; summary = summary }) c.explain-answer.result c.counted_text.result
       (said_in_memory script.of_frame script.at_the_end says_no_refusal needs_none NeedsMemoryForExplanation MESSAGE_LIMIT
-      c.args.config.now c.args.log.now _ _ _ _ _ _ c.explain-answer.result here (λ _. tt) (λ _. tt)
+      (without_rules c.args.config.now) c.args.log.now _ _ _ _ _ _ c.explain-answer.result here (λ _. tt) (λ _. tt)
       (ran.answer c.args.log.now here.agrees))
       c.counted_text.ensures.answer;
 }

@@ -5,11 +5,11 @@ use Rattle.trace_run.specs.proving.Carrying.{Says}
 use Rattle.trace_run.proofs.telling.tell.Goals as goal
 
 pub returns-clause-ok : goal.returns-clause-ok
-returns-clause-ok g c = on_ok_weaker c.event.result (λ says start T e seen stands.
+returns-clause-ok g c = on_ok_weaker c.event.result (λ says rules start T e seen stands.
     let W = g.W.Target in
     let page = c.args.page.now in
-    let said = says start T e seen stands in
-    let text = ((g.M.Machine.script start).of_frame T e) in
+    let said = says rules start T e seen stands in
+    let text = ((g.M.Machine.script rules start).of_frame T e) in
     let target_is = c.target-1.given.1 (sym said.1.0) in
     let page_is = c.page-1.given.1 (sym said.1.1) in (
       said.0,
@@ -18,10 +18,10 @@ returns-clause-ok g c = on_ok_weaker c.event.result (λ says start T e seen stan
     )) c.event.ensures.ok
 
 pub returns-clause-err : goal.returns-clause-err
-returns-clause-err g c = on_err_weaker c.event.result (λ says start T stands.
+returns-clause-err g c = on_err_weaker c.event.result (λ says rules start T stands.
     let W = g.W.Target in
     let page = c.args.page.now in
-    let said = says start T stands in
+    let said = says rules start T stands in
     let target_is = c.target-1.given.1 (sym said.0) in
     let page_is = c.page-1.given.1 (sym said.1) in
     subst (λ w. Says W page c.args.target.now [] c.page-1.given.0 w) (sym target_is)

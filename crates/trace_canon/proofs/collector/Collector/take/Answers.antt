@@ -29,7 +29,7 @@ returns-then-length-max_bytes c = λ settings M judged stood.
           )
     ] in
     collects_no_more settings M message c.new.result c.saturating_add-length.result size have c.new.ensures
-    (omega (arith, most, c.max_bytes.ensures.value, c.if-length-max_bytes.true)) over c.args.self.now.config stood.same
+    (omega (arith, most, c.max_bytes.ensures.value, c.if-length-max_bytes.true)) over c.args.self.now.config.now stood.same
 
 pub returns : goal.returns
 returns c = λ settings M judged stood.
@@ -53,4 +53,4 @@ returns c = λ settings M judged stood.
       c.saturating_add-length.ensures,
     ) in
     collects_more settings M message c.take.new.self c.saturating_add-length.result size have (c.in_ok-take.ensures.ok M all.0 judged) known
-    (omega (arith, known, most, c.max_bytes.ensures.value, c.if-length-max_bytes.false)) c.args.self.now.config stood.same
+    (omega (arith, known, most, c.max_bytes.ensures.value, c.if-length-max_bytes.false)) c.args.self.now.config.now stood.same

@@ -24,7 +24,7 @@ returns g c =
           subst (λ b. HasToldAndWritten M W start T self (not b) c.settle.new.target) is
           (settled_as M W start T self _ _ c.settle.result tells c.settle.ensures.settled);
       sure = λ is start T tells.
-          let text = said_since M start.machine T in
+          let text = said_since M start.rules start.machine T in
           let written : Carries W start.target text (blank_page false) c.settle.new.target =
           subst (λ b. Carries W start.target text (blank_page (not b)) c.settle.new.target) is
           (c.settle.ensures.settled start.target text tells.carried) in

@@ -1,0 +1,13 @@
+mod Beginnings
+mod Bits
+mod Spellings
+mod Lists
+mod Masks
+mod Adding
+mod Apart
+mod SameKinds
+mod ByPlaces
+mod ReadBack
+mod FirstBytes
+mod Unders
+pub mod Promises
