@@ -49,7 +49,7 @@ text-or-none true text some e = absurd (some e)
 text-or-none false text some e = refl
 
 pub nothing_is_written_of_equal_sessions : NothingIsWrittenOfEqualSessions
-nothing_is_written_of_equal_sessions left_name right_name xs ys = (
+nothing_is_written_of_equal_sessions rules left_name right_name xs ys = (
   λ equal.
       let first = subst (λ (l : List ItemValue). IsFirstDifference xs l (first_change (rows_of xs ys))) (sym equal) (first_change_is_first_difference xs ys) in
       let none = no-change (rows_of xs ys) (no-place xs (first_change (rows_of xs ys)) first) in

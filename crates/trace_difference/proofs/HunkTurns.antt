@@ -5,6 +5,7 @@ use Rattle.uds_exchange.specs.Meaning.{ItemValue}
 use Rattle.uds_difference.specs.declared.row.Row.{Row}
 use Rattle.shown_rows.specs.Hunks.{Hunk, begins_hunk, hunk_length}
 use Rattle.shown_rows.specs.Rows.{left_count, left_in, right_count, right_in}
+use Rattle.uds_rules.specs.Rule.{RuleValue}
 use Rattle.trace_difference.specs.Lines.{line_text, lines_of}
 use Rattle.trace_difference.specs.Unified.{hunk_text, span_text}
 use Rattle.trace_difference.specs.proving.HunkOf.{hunk_of}
@@ -43,7 +44,7 @@ module _ {S : Type 0} (says : S → List ℕ → S → Type 0) (onward : (s m t 
       left
 
 -- the text of a hunk, in the parts that are said
-pub hunk-is : (xs ys : List ItemValue) (left right : ℕ) (rows : List Row) (l r : ℕ) → l ≡ left_count rows → r ≡ right_count rows
-    → (codes "@@ -" ++ span_text left l ++ codes " +" ++ span_text right r ++ codes " @@\n") ++ flat_map line_text (lines_of xs ys left right rows)
-    ≡ hunk_text xs ys (hunk_of left right rows)
-hunk-is xs ys left right rows l r a b = rw (a, b) refl
+pub hunk-is : (rules : List RuleValue) (xs ys : List ItemValue) (left right : ℕ) (rows : List Row) (l r : ℕ) → l ≡ left_count rows → r ≡ right_count rows
+    → (codes "@@ -" ++ span_text left l ++ codes " +" ++ span_text right r ++ codes " @@\n") ++ flat_map line_text (lines_of rules xs ys left right rows)
+    ≡ hunk_text rules xs ys (hunk_of left right rows)
+hunk-is rules xs ys left right rows l r a b = rw (a, b) refl

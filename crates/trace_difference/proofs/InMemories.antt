@@ -19,6 +19,7 @@ use Rattle.trace_text.specs.declared.notation.Notation.TheVariants.{Text, Json}
 use Rattle.uds_difference.specs.Rows.{is_shortest, rows_of}
 use Rattle.uds_difference.specs.declared.row.Row.{Row}
 use Rattle.uds_exchange.specs.Meaning.{ItemValue}
+use Rattle.uds_rules.specs.Rule.{RuleValue}
 use Rattle.trace_difference.specs.InMemory.{ComparesInMemory, HasItems, HasNoDifferenceText, IsDifferenceWith, NeedsMemoryForText}
 use Rattle.trace_difference.specs.Written.{difference_text, written_rows}
 use Rattle.trace_difference.proofs.EqualSessions.{nothing_is_written_of_equal_sessions}
@@ -43,15 +44,15 @@ text_in_memory {A = A} result value old taken held text is old_is held_is wrote 
     all said = sym held_is ∙ said ∙ ap (λ xs. xs ++ text) old_is
 
 -- the text of a difference, by the rows that were found
-pub difference_is : (notation : Notation) (left_name right_name : List ℕ) (shortest : Bool) (rows : List Row) (xs ys : List ItemValue)
+pub difference_is : (rules : List RuleValue) (notation : Notation) (left_name right_name : List ℕ) (shortest : Bool) (rows : List Row) (xs ys : List ItemValue)
     → shortest ≡ is_shortest xs ys → rows ≡ rows_of xs ys
-    → written_rows notation left_name right_name shortest rows xs ys ≡ difference_text notation left_name right_name xs ys
-difference_is notation left_name right_name shortest rows xs ys told found = rw (told, found) refl
+    → written_rows rules notation left_name right_name shortest rows xs ys ≡ difference_text rules notation left_name right_name xs ys
+difference_is rules notation left_name right_name shortest rows xs ys told found = rw (told, found) refl
 
 -- the text of where two logs differ that were compared
 pub difference_of : (notation : Notation) (left_name right_name : List ℕ) (limit : ℕ) (settings : Settings) (one other text : List ℕ) (answer : Result Compared CompareFault) (compared : Compared)
     (counted : CountedComparison) → answer ≡ Ok compared → ComparesInMemory limit settings one other answer
-    → text ≡ difference_text notation left_name right_name compared.left.meaning compared.right.meaning → counted ≡ counted_comparison compared
+    → text ≡ difference_text settings.rules notation left_name right_name compared.left.meaning compared.right.meaning → counted ≡ counted_comparison compared
     → IsDifferenceWith notation left_name right_name limit settings one other text counted
 difference_of notation left_name right_name limit settings one other text answer compared counted is compares said counts =
     (compared, subst (ComparesInMemory limit settings one other) is compares, said, counts)
@@ -62,29 +63,31 @@ needed_of_items Text compared some = some
 needed_of_items Json compared some = tt
 
 -- one of two sessions has an item where there is something to write of them in words
-some_item : (left_name right_name : List ℕ) (xs ys : List ItemValue) → 0 < length (difference_text Text left_name right_name xs ys) → (xs ≢ []) ⊎ (ys ≢ [])
-some_item left_name right_name (x ∷ xs) ys some = inl (λ is. cc)
-some_item left_name right_name [] (y ∷ ys) some = inr (λ is. cc)
-some_item left_name right_name [] [] some =
-    let none : difference_text Text left_name right_name [] [] ≡ [] = (nothing_is_written_of_equal_sessions left_name right_name [] []).0 refl in
+some_item : (rules : List RuleValue) (left_name right_name : List ℕ) (xs ys : List ItemValue)
+    → 0 < length (difference_text rules Text left_name right_name xs ys) → (xs ≢ []) ⊎ (ys ≢ [])
+some_item rules left_name right_name (x ∷ xs) ys some = inl (λ is. cc)
+some_item rules left_name right_name [] (y ∷ ys) some = inr (λ is. cc)
+some_item rules left_name right_name [] [] some =
+    let none : difference_text rules Text left_name right_name [] [] ≡ [] = (nothing_is_written_of_equal_sessions rules left_name right_name [] []).0 refl in
     never (subst (λ (text : List ℕ). 0 < length text) none some)
   where
     never : {A : Type 0} → 0 < 0 → A
     never low = absurd (omega (arith, low))
 
 -- and where the text has a byte
-needed_of_text : (notation : Notation) (left_name right_name : List ℕ) (compared : Compared) → 0 < length (difference_text notation left_name right_name compared.left.meaning compared.right.meaning)
+needed_of_text : (rules : List RuleValue) (notation : Notation) (left_name right_name : List ℕ) (compared : Compared)
+    → 0 < length (difference_text rules notation left_name right_name compared.left.meaning compared.right.meaning)
     → NeedsMemoryForText notation compared
-needed_of_text Text left_name right_name compared some = some_item left_name right_name compared.left.meaning compared.right.meaning some
-needed_of_text Json left_name right_name compared some = tt
+needed_of_text rules Text left_name right_name compared some = some_item rules left_name right_name compared.left.meaning compared.right.meaning some
+needed_of_text rules Json left_name right_name compared some = tt
 
 -- memory is needed for a text that was refused, since that has a byte
-pub needed_where_refused : {A E : Type 0} (notation : Notation) (left_name right_name text : List ℕ) (compared : Compared) (result : Result A E)
-    → text ≡ difference_text notation left_name right_name compared.left.meaning compared.right.meaning → IfErr result (λ refused. 0 < length text)
+pub needed_where_refused : {A E : Type 0} (rules : List RuleValue) (notation : Notation) (left_name right_name text : List ℕ) (compared : Compared) (result : Result A E)
+    → text ≡ difference_text rules notation left_name right_name compared.left.meaning compared.right.meaning → IfErr result (λ refused. 0 < length text)
     → IfErr result (λ refused. NeedsMemoryForText notation compared)
-needed_where_refused notation left_name right_name text compared (Ok value) is some = tt
-needed_where_refused notation left_name right_name text compared (Err refused) is some =
-    needed_of_text notation left_name right_name compared (subst (λ (t : List ℕ). 0 < length t) is some)
+needed_where_refused rules notation left_name right_name text compared (Ok value) is some = tt
+needed_where_refused rules notation left_name right_name text compared (Err refused) is some =
+    needed_of_text rules notation left_name right_name compared (subst (λ (t : List ℕ). 0 < length t) is some)
 
 -- two accepted logs have no text where memory for it was refused
 pub none_where_refused : (notation : Notation) (limit : ℕ) (settings : Settings) (one other : List ℕ) (answer : Result Compared CompareFault) (compared : Compared) → answer ≡ Ok compared

@@ -8,6 +8,7 @@ use Rattle.uds_difference.specs.declared.row.Row.TheVariants.{Same, Changed, Onl
 use Rattle.trace_text.specs.Json.{object_line, value_text}
 use Rattle.trace_text.proofs.Promises.{line_is, value_is}
 use Rattle.shown_rows.specs.Rows.{left_in, right_in}
+use Rattle.uds_rules.specs.Rule.{RuleValue}
 use Rattle.trace_difference.specs.proving.RowFront.{row_front}
 use Rattle.shown_rows.specs.Rows.{count_of}
 use Rattle.trace_difference.specs.Objects.{change_word, count_members, left_value, right_value, row_members}
@@ -17,18 +18,18 @@ in_one : (a b c d e f g h i j k l m : List ℕ)
     ≡ a ++ (b ++ (c ++ (d ++ (e ++ (f ++ (g ++ (h ++ (i ++ (j ++ (k ++ (l ++ m)))))))))))
 in_one a b c d e f g h i j k l m = simp append_assoc
 
-pub row_is : (xs ys : List ItemValue) (change_number i j : ℕ) (row : Row)
-    → (((row_front change_number (change_word row) (i + left_in row) (j + right_in row) ++ value_text (left_value xs i row)) ++ codes ",\"right\":") ++ value_text (right_value ys j row)) ++ codes "}\n"
-    ≡ object_line (row_members xs ys change_number i j row)
-row_is xs ys change_number i j row =
-    let left = left_value xs i row in
-    let right = right_value ys j row in
+pub row_is : (rules : List RuleValue) (xs ys : List ItemValue) (change_number i j : ℕ) (row : Row)
+    → (((row_front change_number (change_word row) (i + left_in row) (j + right_in row) ++ value_text (left_value rules xs i row)) ++ codes ",\"right\":") ++ value_text (right_value rules ys j row)) ++ codes "}\n"
+    ≡ object_line (row_members rules xs ys change_number i j row)
+row_is rules xs ys change_number i j row =
+    let left = left_value rules xs i row in
+    let right = right_value rules ys j row in
     in_one (codes "{\"place\":") (decimal change_number) (codes ",\"change\":\"") (change_word row) (codes "\",\"left_item\":") (decimal (i + left_in row)) (codes ",\"right_item\":")
     (decimal (j + right_in row)) (codes ",\"left\":") (value_text left) (codes ",\"right\":") (value_text right) (codes "}\n")
     ∙ ap (λ l.
     codes "{\"place\":" ++ (decimal change_number ++ (codes ",\"change\":\"" ++ (change_word row ++ (codes "\",\"left_item\":" ++ (decimal (i + left_in row) ++ (codes ",\"right_item\":" ++ (decimal (j + right_in row) ++ (codes ",\"left\":" ++ l)))))))))
     (ap (λ l. value_text left ++ (codes ",\"right\":" ++ l)) (value_is right (codes "}\n")) ∙ value_is left _)
-    ∙ sym (line_is (row_members xs ys change_number i j row))
+    ∙ sym (line_is (row_members rules xs ys change_number i j row))
 
 pub front-is : (change_number i j : ℕ) (row : Row) (left right : ℕ) → left ≡ left_in row → right ≡ right_in row
     → row_front change_number (change_word row) (i + left) (j + right) ≡ row_front change_number (change_word row) (i + left_in row) (j + right_in row)

@@ -25,7 +25,8 @@ ComparesInMemory limit settings one other (Err fault) =
 abbrev pub IsDifferenceWith : Notation → List ℕ → List ℕ → ℕ → Settings → List ℕ → List ℕ → List ℕ → CountedComparison → Type 0
 IsDifferenceWith notation left_name right_name limit settings one other text counted =
     (compared : Compared) × Compares limit settings one other (Ok compared)
-    × (text ≡ difference_text notation left_name right_name compared.left.meaning compared.right.meaning) × (counted ≡ counted_comparison compared)
+    × (text ≡ difference_text settings.rules notation left_name right_name compared.left.meaning compared.right.meaning)
+    × (counted ≡ counted_comparison compared)
 
 -- one of two accepted logs means an item
 abbrev pub HasItems : Compared → Type 0

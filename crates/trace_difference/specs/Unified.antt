@@ -7,6 +7,7 @@ use Rattle.uds_exchange.specs.Meaning.{ItemValue}
 use Rattle.uds_difference.specs.declared.row.Row.{Row}
 use Rattle.shown_rows.specs.Hunks.{Hunk, hunks}
 use Rattle.shown_rows.specs.Rows.{differs, left_count, right_count}
+use Rattle.uds_rules.specs.Rule.{RuleValue}
 use Rattle.trace_difference.specs.Labels.{label}
 use Rattle.trace_difference.specs.Lines.{line_text, lines_of}
 
@@ -23,8 +24,8 @@ hunk_header hunk =
     codes "@@ -" ++ span_text hunk.left (left_count hunk.rows) ++ codes " +" ++ span_text hunk.right (right_count hunk.rows) ++ codes " @@\n"
 
 -- a hunk
-abbrev pub hunk_text : List ItemValue → List ItemValue → Hunk → List ℕ
-hunk_text xs ys hunk = hunk_header hunk ++ flat_map line_text (lines_of xs ys hunk.left hunk.right hunk.rows)
+abbrev pub hunk_text : List RuleValue → List ItemValue → List ItemValue → Hunk → List ℕ
+hunk_text rules xs ys hunk = hunk_header hunk ++ flat_map line_text (lines_of rules xs ys hunk.left hunk.right hunk.rows)
 
 -- the names of both files
 abbrev pub header_text : List ℕ → List ℕ → List ℕ
@@ -36,6 +37,7 @@ note_text true bound = []
 note_text false bound = codes "# perhaps not the shortest: more than " ++ decimal bound ++ codes " items would be removed or added\n"
 
 -- the text of rows: nothing where nothing differs
-abbrev pub unified_text : List ℕ → List ℕ → Bool → ℕ → List Row → List ItemValue → List ItemValue → List ℕ
-unified_text left_name right_name shortest bound rows xs ys =
-    if differs rows then note_text shortest bound ++ header_text left_name right_name ++ flat_map (hunk_text xs ys) (hunks rows) else []
+abbrev pub unified_text : List RuleValue → List ℕ → List ℕ → Bool → ℕ → List Row → List ItemValue → List ItemValue → List ℕ
+unified_text rules left_name right_name shortest bound rows xs ys =
+    if differs rows
+    then note_text shortest bound ++ header_text left_name right_name ++ flat_map (hunk_text rules xs ys) (hunks rows) else []

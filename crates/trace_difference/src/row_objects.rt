@@ -13,6 +13,7 @@ use trace_text::values::say_text;
 use trace_text::{Number, Numbering, say_item_object};
 use uds_difference::Row;
 use uds_exchange::Meaning;
+use uds_rules::Rules;
 
 /// Says the objects of all rows of two sessions.
 pub(crate) fn say_objects<S: TextSink>(
@@ -20,17 +21,24 @@ pub(crate) fn say_objects<S: TextSink>(
     left: NamedSession<'_>,
     right: NamedSession<'_>,
     rows: &[Row],
+    rules: &Rules,
     out: &mut S,
 )
-    ensures { S.says out.old (objects_text shortest rows.now left.entry.items.now right.entry.items.now) out.new }
+    ensures { S.says out.old (objects_text rules.now shortest rows.now left.entry.items.now right.entry.items.now) out.new }
 {
-    say_rows(left, right, rows, out);
+    say_rows(left, right, rows, rules, out);
     say_row_counts(shortest, rows, out);
 }
 
 /// Says an object for each row that is a change.
-fn say_rows<S: TextSink>(left: NamedSession<'_>, right: NamedSession<'_>, rows: &[Row], out: &mut S)
-    ensures { S.says out.old (rows_text left.entry.items.now right.entry.items.now 0 false 0 0 rows.now) out.new }
+fn say_rows<S: TextSink>(
+    left: NamedSession<'_>,
+    right: NamedSession<'_>,
+    rows: &[Row],
+    rules: &Rules,
+    out: &mut S,
+)
+    ensures { S.says out.old (rows_text rules.now left.entry.items.now right.entry.items.now 0 false 0 0 rows.now) out.new }
 {
     let mut change_number = 0;
     let mut behind_change = false;
@@ -47,6 +55,7 @@ fn say_rows<S: TextSink>(left: NamedSession<'_>, right: NamedSession<'_>, rows: 
                 left_before,
                 right_before,
                 *row,
+                rules,
                 out,
             );
         }
@@ -77,16 +86,18 @@ fn say_row<S: TextSink>(
     left_before: usize,
     right_before: usize,
     row: Row,
+    rules: &Rules,
     out: &mut S,
 )
     requires left_small { left_before < 2 ^ 63 }
     requires right_small { right_before < 2 ^ 63 }
-    ensures { S.says out.old (object_line (row_members left.now right.now change_number left_before right_before row)) out.new }
+    ensures { S.says out.old
+        (object_line (row_members rules.now left.now right.now change_number left_before right_before row)) out.new }
 {
     say_row_front(change_number, left_before, right_before, row, out);
-    say_left(left, left_before, row, out);
+    say_left(left, left_before, row, rules, out);
     say_text(out, ",\"right\":");
-    say_right(right, right_before, row, out);
+    say_right(right, right_before, row, rules, out);
     say_text(out, "}\n");
 }
 
@@ -145,31 +156,31 @@ impl Part for ShownChange {
 }
 
 /// Says what a row has of the left session.
-fn say_left<S: TextSink>(items: &Meaning, place: usize, row: Row, out: &mut S)
-    ensures { S.says out.old (value_text (left_value items.now place row)) out.new }
+fn say_left<S: TextSink>(items: &Meaning, place: usize, row: Row, rules: &Rules, out: &mut S)
+    ensures { S.says out.old (value_text (left_value rules.now items.now place row)) out.new }
 {
     match row {
-        Row::Same | Row::Changed | Row::OnlyLeft => say_listed(items, place, out),
+        Row::Same | Row::Changed | Row::OnlyLeft => say_listed(items, place, rules, out),
         Row::OnlyRight => say_text(out, "null"),
     }
 }
 
 /// Says what it has of the right one.
-fn say_right<S: TextSink>(items: &Meaning, place: usize, row: Row, out: &mut S)
-    ensures { S.says out.old (value_text (right_value items.now place row)) out.new }
+fn say_right<S: TextSink>(items: &Meaning, place: usize, row: Row, rules: &Rules, out: &mut S)
+    ensures { S.says out.old (value_text (right_value rules.now items.now place row)) out.new }
 {
     match row {
-        Row::Same | Row::Changed | Row::OnlyRight => say_listed(items, place, out),
+        Row::Same | Row::Changed | Row::OnlyRight => say_listed(items, place, rules, out),
         Row::OnlyLeft => say_text(out, "null"),
     }
 }
 
 /// Says the object of the item at a place, or that there is none.
-fn say_listed<S: TextSink>(items: &Meaning, place: usize, out: &mut S)
-    ensures { S.says out.old (value_text (listed_value (slice_get items.now place))) out.new }
+fn say_listed<S: TextSink>(items: &Meaning, place: usize, rules: &Rules, out: &mut S)
+    ensures { S.says out.old (value_text (listed_value rules.now (slice_get items.now place))) out.new }
 {
     match items.item(place) {
-        Some(item) => say_item_object(0, Numbering::Hidden, item, out),
+        Some(item) => say_item_object(0, Numbering::Hidden, rules, item, out),
         None => say_text(out, "null"),
     }
 }

@@ -14,6 +14,7 @@ use text_parts::{Part, say};
 use trace_io::TextSink;
 use trace_text::{Number, Ordinal};
 use uds_difference::{Row, bound_for};
+use uds_rules::Rules;
 
 /// Says the text of these rows of two sessions: nothing where nothing differs.
 pub(crate) fn say_unified<S: TextSink>(
@@ -21,9 +22,13 @@ pub(crate) fn say_unified<S: TextSink>(
     left: NamedSession<'_>,
     right: NamedSession<'_>,
     rows: &[Row],
+    rules: &Rules,
     out: &mut S,
 )
-    ensures { S.says out.old (unified_text left.entry.name.now right.entry.name.now shortest (bound_for (length left.entry.items.now + length right.entry.items.now)) rows.now left.entry.items.now right.entry.items.now) out.new }
+    ensures { S.says out.old
+        (unified_text rules.now left.entry.name.now right.entry.name.now shortest
+        (bound_for (length left.entry.items.now + length right.entry.items.now)) rows.now
+        left.entry.items.now right.entry.items.now) out.new }
 {
     if differs(rows) {
         let bound = u64::from(bound_for(left.items.len() + right.items.len()));
@@ -34,7 +39,7 @@ pub(crate) fn say_unified<S: TextSink>(
                 DiffHeader(left.name, right.name),
             ),
         );
-        say_hunks(left, right, rows, out);
+        say_hunks(left, right, rows, rules, out);
     }
 }
 
@@ -83,9 +88,10 @@ fn say_hunks<S: TextSink>(
     left: NamedSession<'_>,
     right: NamedSession<'_>,
     rows: &[Row],
+    rules: &Rules,
     out: &mut S,
 )
-    ensures { S.says out.old (flat_map (hunk_text left.entry.items.now right.entry.items.now) (hunks rows.now)) out.new }
+    ensures { S.says out.old (flat_map (hunk_text rules.now left.entry.items.now right.entry.items.now) (hunks rows.now)) out.new }
 {
     let mut shown = 0;
     let mut left_before = 0;
@@ -96,7 +102,15 @@ fn say_hunks<S: TextSink>(
             shown -= 1;
         } else if begins_hunk(rest) {
             let length = hunk_length(rest);
-            say_hunk(left, right, left_before, right_before, &rest[..length], out);
+            say_hunk(
+                left,
+                right,
+                left_before,
+                right_before,
+                &rest[..length],
+                rules,
+                out,
+            );
             shown = length - 1;
         }
         left_before += left_in(rows[k]);
@@ -111,11 +125,12 @@ fn say_hunk<S: TextSink>(
     left_before: usize,
     right_before: usize,
     rows: &[Row],
+    rules: &Rules,
     out: &mut S,
 )
     requires left_small { left_before < 2 ^ 63 }
     requires right_small { right_before < 2 ^ 63 }
-    ensures { S.says out.old (hunk_text left.entry.items.now right.entry.items.now (hunk_of left_before right_before rows.now)) out.new }
+    ensures { S.says out.old (hunk_text rules.now left.entry.items.now right.entry.items.now (hunk_of left_before right_before rows.now)) out.new }
 {
     say(
         out,
@@ -133,7 +148,7 @@ fn say_hunk<S: TextSink>(
             " @@\n",
         ),
     );
-    say_lines(left, right, left_before, right_before, rows, out);
+    say_lines(left, right, left_before, right_before, rows, rules, out);
 }
 
 /// Which lines of a list a hunk has.

@@ -17,7 +17,7 @@ rows-init g c = record {
   forward = omega arith;
   below = omega arith;
   left = none-said g.S.TextSink.says c.args.out.now _ _ (g.met.S.TextSink.nothing c.args.out.now)
-      (begins c.args.left.items.now c.args.right.items.now c.args.left_before c.args.right_before c.args.rows.now);
+      (begins c.args.rules.now c.args.left.items.now c.args.right.items.now c.args.left_before c.args.right_before c.args.rows.now);
 }
 
 pub rows-preserved : goal.rows-preserved
@@ -25,6 +25,7 @@ rows-preserved g c =
     let onward = g.met.S.TextSink.onward in
     let xs = c.args.left.items.now in
     let ys = c.args.right.items.now in
+    let rules = c.args.rules.now in
     let rows = c.args.rows.now in
     let k = c.rows.row-index in
     let later = drop (k + 1) rows in
@@ -35,7 +36,7 @@ rows-preserved g c =
             small = omega (arith, inv.small);
             forward = omega arith;
             below = omega (arith, inv.below);
-            left = turn-same g.S.TextSink.says onward xs ys c.args.out.now _ (drop k rows) later c.rows.i c.rows.j c.rows.waiting c.rows.out
+            left = turn-same g.S.TextSink.says onward rules xs ys c.args.out.now _ (drop k rows) later c.rows.i c.rows.j c.rows.waiting c.rows.out
                 (drop-is rows k _ Same c.rows-test.true w.in-Same.is) _ _ inv.left w.say_added.ensures w.say_line.ensures;
           })
       | in-Changed w ↦
@@ -43,7 +44,7 @@ rows-preserved g c =
             small = omega (arith, inv.small);
             forward = omega (arith, inv.forward);
             below = omega (arith, inv.below);
-            left = turn-changed g.S.TextSink.says onward xs ys c.args.out.now _ (drop k rows) later c.rows.i c.rows.j c.rows.waiting c.rows.out
+            left = turn-changed g.S.TextSink.says onward rules xs ys c.args.out.now _ (drop k rows) later c.rows.i c.rows.j c.rows.waiting c.rows.out
                 (drop-is rows k _ Changed c.rows-test.true w.in-Changed.is) _ inv.forward inv.left w.say_line-in-Changed.ensures;
           })
       | in-OnlyLeft w ↦
@@ -51,7 +52,7 @@ rows-preserved g c =
             small = omega (arith, inv.small);
             forward = inv.forward;
             below = omega (arith, inv.below);
-            left = turn-left g.S.TextSink.says onward xs ys c.args.out.now _ (drop k rows) later c.rows.i c.rows.j c.rows.waiting c.rows.out
+            left = turn-left g.S.TextSink.says onward rules xs ys c.args.out.now _ (drop k rows) later c.rows.i c.rows.j c.rows.waiting c.rows.out
                 (drop-is rows k _ OnlyLeft c.rows-test.true w.in-OnlyLeft.is) _ inv.left w.say_line-in-OnlyLeft.ensures;
           })
       | in-OnlyRight w ↦
@@ -59,12 +60,13 @@ rows-preserved g c =
             small = omega (arith, inv.small);
             forward = omega (arith, inv.forward);
             below = omega (arith, inv.below);
-            left = turn-right g.S.TextSink.says onward xs ys c.args.out.now _ (drop k rows) later c.rows.i c.rows.j c.rows.waiting c.rows.out
+            left = turn-right g.S.TextSink.says onward rules xs ys c.args.out.now _ (drop k rows) later c.rows.i c.rows.j c.rows.waiting c.rows.out
                 (drop-is rows k _ OnlyRight c.rows-test.true w.in-OnlyRight.is) inv.forward inv.left;
           })
     ]
 
 pub returns : goal.returns
 returns g c =
-    turn-end g.S.TextSink.says g.met.S.TextSink.onward c.args.left.items.now c.args.right.items.now c.args.out.now _ (drop c.rows.row-index c.args.rows.now) c.args.rows.now c.rows.i c.rows.j
+    turn-end g.S.TextSink.says g.met.S.TextSink.onward c.args.rules.now c.args.left.items.now c.args.right.items.now c.args.out.now _
+    (drop c.rows.row-index c.args.rows.now) c.args.rows.now c.rows.i c.rows.j
     c.rows.waiting c.rows.out (drop_all c.rows.row-index c.args.rows.now c.rows-test.false) _ c.rows.invariant.left c.say_added-2.ensures

@@ -10,6 +10,6 @@ invariant-rows g l = record {
   small : l.i ≤ l.left_before + l.row-index;
   forward : l.waiting ≤ l.j;
   below : l.j ≤ l.right_before + l.row-index;
-  left : IsLeft g.S.TextSink.says l.initial.out (rest_text l.left.items.now l.right.items.now l.i l.j l.waiting (drop l.row-index l.rows))
-      (flat_map line_text (lines_of l.left.items.now l.right.items.now l.left_before l.right_before l.rows)) l.out;
+  left : IsLeft g.S.TextSink.says l.initial.out (rest_text l.rules l.left.items.now l.right.items.now l.i l.j l.waiting (drop l.row-index l.rows))
+      (flat_map line_text (lines_of l.rules l.left.items.now l.right.items.now l.left_before l.right_before l.rows)) l.out;
 }

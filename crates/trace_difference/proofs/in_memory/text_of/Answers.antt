@@ -9,7 +9,7 @@ returns-clause-text c =
     let ys = c.args.compared.now.right.meaning in
     let difference = c.in_ok-difference.difference in
     subst (λ (said : List ℕ). IfOk c.gathered.result (λ text. text.items ≡ said))
-    (difference_is c.args.notation c.args.left_name.now c.args.right_name.now difference.shortest difference.rows.items xs ys c.in_ok-difference.ensures.shortest c.in_ok-difference.ensures.rows)
+    (difference_is c.args.rules.now c.args.notation c.args.left_name.now c.args.right_name.now difference.shortest difference.rows.items xs ys c.in_ok-difference.ensures.shortest c.in_ok-difference.ensures.rows)
     c.gathered.ensures.text
 
 pub returns-clause-refused : goal.returns-clause-refused
@@ -17,6 +17,6 @@ returns-clause-refused c =
     let xs = c.args.compared.now.left.meaning in
     let ys = c.args.compared.now.right.meaning in
     let difference = c.in_ok-difference.difference in
-    needed_where_refused c.args.notation c.args.left_name.now c.args.right_name.now _ c.args.compared.now c.gathered.result
-    (difference_is c.args.notation c.args.left_name.now c.args.right_name.now difference.shortest difference.rows.items xs ys c.in_ok-difference.ensures.shortest c.in_ok-difference.ensures.rows)
+    needed_where_refused c.args.rules.now c.args.notation c.args.left_name.now c.args.right_name.now _ c.args.compared.now c.gathered.result
+    (difference_is c.args.rules.now c.args.notation c.args.left_name.now c.args.right_name.now difference.shortest difference.rows.items xs ys c.in_ok-difference.ensures.shortest c.in_ok-difference.ensures.rows)
     c.gathered.ensures.refused
