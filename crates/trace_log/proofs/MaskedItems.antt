@@ -1,5 +1,5 @@
 -- Rules that leave out no message keep the items of a meaning, each under them.
-use Rattle.std.proofs.Common.{◌≡◌, ℕ, ◌&&◌, Bool, true, false, not, List, [], ◌∷◌, ◌++◌, length, drop, map, Option, Some, None, inl, inr, refl, ap, sym, ◌∙◌}
+use Rattle.std.proofs.Common.{◌≡◌, ℕ, ◌&&◌, Bool, true, false, not, List, [], ◌∷◌, ◌++◌, length, drop, map, Option, Some, inl, inr, refl, ap, sym, ◌∙◌}
 use Rattle.std.specs.Prelude.{option_map}
 use Rattle.std.specs.List.{flat_map}
 use Rattle.std.proofs.lemmas.Bool.{and_parts, cases_Bool, false≢true}
@@ -11,17 +11,16 @@ use Rattle.uds_message.specs.declared.message.Answer.TheVariants.{Final, Pending
 use Rattle.uds_message.specs.declared.message.TesterKind.{TesterKind}
 use Rattle.uds_message.specs.declared.message.TesterKind.TheVariants.{Request, KeepAlive, Other}
 use Rattle.uds_message.specs.Message.{sid, is_request, is_keep_alive, is_final_for, is_pending_for, tester_kind, answer_to}
-use Rattle.uds_exchange.specs.Meaning.{is_from_tester, is_tester_request, is_answer_to, is_pending_reply_to, before_requests, Part, part, parts, answer, strays_in, ItemValue, exchange, stray, stray_of, items_of, meaning}
+use Rattle.uds_exchange.specs.Meaning.{is_from_tester, is_tester_request, is_answer_to, is_pending_reply_to, before_requests, Part, part, parts, answer, strays_in, exchange, stray, stray_of, items_of, meaning}
 use Rattle.uds_rules.specs.declared.rule.Deed.{Deed}
 use Rattle.uds_rules.specs.declared.rule.Deed.TheVariants as deed
 use Rattle.uds_rules.specs.Laws.{IsSameKind}
-use Rattle.uds_rules.specs.Legal.{AreRules}
 use Rattle.uds_rules.specs.Mask.{masked}
 use Rattle.uds_rules.specs.Rule.{RuleValue, masks, speaks_of, made_by, made_of}
 use Rattle.uds_rules.specs.Under.{sent_as, under}
 use Rattle.uds_rules.proofs.Promises.{mask_keeps_kind}
 use Rattle.trace_log.specs.Laws.{MasksKeepItems}
-use Rattle.trace_log.specs.MaskedItems.{only_mask, made_or_same, message_under, item_by, item_under}
+use Rattle.trace_log.specs.MaskedItems.{only_mask, made_or_same, message_under, item_by}
 
 -- ---- what a message is, by its kind
 

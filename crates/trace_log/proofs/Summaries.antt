@@ -1,5 +1,5 @@
 -- The summary of a log that was received to its end.
-use Rattle.std.proofs.Common.{◌≡◌, ℕ, ◌+◌, ◌-◌, ◌<◌, ◌^◌, min, nat_lt, Bool, List, [], ◌∷◌, length, arith, refl, ap, ◌∙◌, Option, cond}
+use Rattle.std.proofs.Common.{◌≡◌, ℕ, ◌+◌, ◌<◌, ◌^◌, min, nat_lt, Bool, List, [], ◌∷◌, length, arith, refl, ap, ◌∙◌, Option, cond}
 use Rattle.std.proofs.lemmas.Bool.{ltb-true, and_parts}
 use Rattle.std.proofs.lemmas.List.Sums.{sum_by-append}
 use Rattle.direction.specs.declared.Dir.{Dir}

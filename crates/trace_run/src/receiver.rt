@@ -174,7 +174,13 @@ impl<M: Machine, W: Target> Receiver<M, W> {
                     dir,
                     event,
                 };
-                hand_on(&self.config, &mut self.counts, &mut self.telling, target, frame)
+                hand_on(
+                    &self.config,
+                    &mut self.counts,
+                    &mut self.telling,
+                    target,
+                    frame,
+                )
             }
             Err(_refused) => Err(Fault::Memory),
         }
@@ -202,12 +208,24 @@ fn hand_on<M: Machine, W: Target>(
         Verdict::Message(message) => {
             let verdict = Verdict::Message(message);
             let event = Event { verdict, ended };
-            count_and_tell(config, counts, telling, target, FrameEvent { event, ..frame })
+            count_and_tell(
+                config,
+                counts,
+                telling,
+                target,
+                FrameEvent { event, ..frame },
+            )
         }
         Verdict::Stored => {
             let verdict = Verdict::Stored;
             let event = Event { verdict, ended };
-            count_and_tell(config, counts, telling, target, FrameEvent { event, ..frame })
+            count_and_tell(
+                config,
+                counts,
+                telling,
+                target,
+                FrameEvent { event, ..frame },
+            )
         }
         Verdict::Began | Verdict::Flow | Verdict::Dropped(_) => {
             count_and_tell(config, counts, telling, target, frame)

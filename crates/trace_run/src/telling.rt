@@ -120,11 +120,7 @@ impl<M: Machine> Telling<M> {
 
 /// The message that is shown of a frame of this direction, judged. Inlined, since most frames complete none.
 #[inline(always)]
-fn judged_message<'a>(
-    judge: &mut Judge,
-    dir: Dir,
-    shown: Option<&'a [u8]>,
-) -> Option<Judged<'a>>
+fn judged_message<'a>(judge: &mut Judge, dir: Dir, shown: Option<&'a [u8]>) -> Option<Judged<'a>>
     ensures next { (messages : List Message) → length messages < 2 ^ 62 → IsJudgeOf messages judge.old
         → IsJudgeOf (messages ++ sent_as dir (option_map (λ bytes. bytes.now) shown.entry)) judge.new }
     ensures judged { (messages : List Message) → length messages < 2 ^ 62 → HasCounted messages judge.old

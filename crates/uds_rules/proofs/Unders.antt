@@ -15,7 +15,7 @@ use Rattle.uds_rules.specs.declared.rule.Deed.{Deed}
 use Rattle.uds_rules.specs.declared.rule.Deed.TheVariants as deed
 use Rattle.uds_rules.specs.Rule.{RuleValue, begins_with, speaks_of, made_by, made_of}
 use Rattle.uds_rules.specs.Legal.{AreApart, is_apart_from, are_apart}
-use Rattle.uds_rules.specs.Under.{sent_as, under_one, under, left_out}
+use Rattle.uds_rules.specs.Under.{sent_as, under_one, under}
 use Rattle.uds_rules.specs.Laws.{UnderGoesOn, LeftOutGoesOn, LeftOutAreTheRest, NoRulesKeepAll, UnderTwice, WhatIsLeftStays, WhatStaysIsLeft, stays, is_made_of}
 use Rattle.uds_rules.proofs.Masks.{masked_twice}
 use Rattle.uds_rules.proofs.Apart.{apart_shares_no_message}
