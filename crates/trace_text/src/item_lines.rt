@@ -185,12 +185,7 @@ impl<'a> Part for Answer<'a> {
         if is_negative_response(reply) {
             say(
                 out,
-                (
-                    "negative ",
-                    ResponseCode(response_code(reply)),
-                    " ",
-                    bytes,
-                ),
+                ("negative ", ResponseCode(response_code(reply)), " ", bytes),
             );
         } else {
             say(out, ("positive ", bytes));

@@ -134,7 +134,7 @@ impl<'a> Part for OpenItem<'a> {
     ghost use Rattle.uds_exchange.specs.ItemSeen.{item_value};
     ghost use Rattle.trace_text.specs.proving.OpenItems.{open_item};
 
-    ghost text = { λ open. open_item open.rules.now (item_value open.item) };
+    ghost text = { λ words. open_item words.rules.now (item_value words.item) };
 
     #[inline(always)]
     fn say<S: TextSink>(self, out: &mut S) {
@@ -233,10 +233,7 @@ impl<'a> Part for OpenAnswer<'a> {
                 ),
             );
         } else {
-            say(
-                out,
-                ("\",\"outcome\":\"positive\",\"answer\":\"", bytes),
-            );
+            say(out, ("\",\"outcome\":\"positive\",\"answer\":\"", bytes));
         }
     }
 }
