@@ -34,12 +34,7 @@ pub(crate) fn say_comparison_object<S: TextSink>(
 }
 
 /// Says the object of two logs that differ first in this place, with the items of both there.
-fn say_shown_object<S: TextSink>(
-    compared: &Compared,
-    place: usize,
-    rules: &Rules,
-    out: &mut S,
-)
+fn say_shown_object<S: TextSink>(compared: &Compared, place: usize, rules: &Rules, out: &mut S)
     ensures { S.says out.old
         (object_line
         (different_members place (shown_members rules.now place compared.now.left.meaning compared.now.right.meaning)))
