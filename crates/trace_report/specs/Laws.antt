@@ -95,8 +95,8 @@ ended_at time place = record place { last = record place.last { micros = time } 
 
 -- the time of a message that is no reply is that of its last frame: when the first one came is not told
 abbrev pub TimeIsOfTheLastFrame : Type 0
-TimeIsOfTheLastFrame = (origin time : ℕ) (is : MessageRole) (d : Dir) (place : MessagePlace) (bytes : List ℕ) → asked_at is ≡ None
-    → message_row origin is d (begun_at time place) bytes ≡ message_row origin is d place bytes
+TimeIsOfTheLastFrame = (rules : List RuleValue) (origin time : ℕ) (is : MessageRole) (d : Dir) (place : MessagePlace) (bytes : List ℕ) → asked_at is ≡ None
+    → message_row rules origin is d (begun_at time place) bytes ≡ message_row rules origin is d place bytes
 
 -- a reply came as long after its request as its first frame did, whenever its last one came
 abbrev pub AfterIsToTheFirstFrame : Type 0

@@ -1,6 +1,7 @@
 pub mod Durations
 pub mod Letters
 pub mod Data
+pub mod RuledData
 pub mod Targets
 pub mod Roles
 pub mod Rows

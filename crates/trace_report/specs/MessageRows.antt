@@ -3,11 +3,12 @@ use Rattle.std.specs.Prelude.{ℕ, ◌==◌, ◌&&◌, Bool, true, List, [], ◌
 use Rattle.std.specs.Fmt.{decimal}
 use Rattle.direction.specs.declared.Dir.{Dir}
 use Rattle.uds_message.specs.Message.{sid, response_code}
+use Rattle.uds_rules.specs.Rule.{RuleValue}
 use Rattle.trace_report.specs.declared.row.MessagePlace.{MessagePlace}
 use Rattle.trace_report.specs.declared.roles.MessageRole.{MessageRole}
 use Rattle.trace_report.specs.Targets.{target_if}
 use Rattle.trace_report.specs.declared.targets.LinkTarget.TheVariants.{Item}
-use Rattle.trace_report.specs.Data.{data_text}
+use Rattle.trace_report.specs.RuledData.{ruled_data}
 use Rattle.trace_report.specs.Durations.{milliseconds_between, seconds_between}
 use Rattle.trace_text.specs.Words.{direction_text, service_text, code_text}
 use Rattle.trace_report.specs.Rows.{cell_front, cell_end, item_header, item_repeated, row_front}
@@ -105,8 +106,8 @@ abbrev pub note_text : MessageRole → MessagePlace → ℕ → List ℕ
 note_text is place count =
     if nat_lt 1 place.frames then frames_note count place.frames (asked_at is) place.first.micros else single_note (asked_at is) place.first.micros
 
--- the full row of a message, where `origin` is the time of the first frame of the two sides
-abbrev pub message_row : ℕ → MessageRole → Dir → MessagePlace → List ℕ → List ℕ
-message_row origin is d place bytes =
-    message_front true origin is place ++ cell_front d ++ role_words is d bytes ++ data_text bytes ++ note_text is place (length bytes)
+-- the full row of a message that rules have left, where `origin` is the time of the first frame of the two sides
+abbrev pub message_row : List RuleValue → ℕ → MessageRole → Dir → MessagePlace → List ℕ → List ℕ
+message_row rules origin is d place bytes =
+    message_front true origin is place ++ cell_front d ++ role_words is d bytes ++ ruled_data rules bytes ++ note_text is place (length bytes)
     ++ cell_end d arrow.Headed

@@ -35,7 +35,7 @@ front_before title (e ∷ rest) = []
 
 -- the text of rows behind those of the frames T, where `origin` is the time of the first frame
 abbrev pub rows_after : ℕ → List RuleValue → ℕ → List Entry → List RowValue → List ℕ
-rows_after limit rules origin T rows = rows_text origin (blocks_of (rows_of limit rules T)) rows
+rows_after limit rules origin T rows = rows_text rules origin (blocks_of (rows_of limit rules T)) rows
 
 -- what is told of the frame e after the frames T: its rows, and before the first frame the front of the page
 abbrev pub frame_text : PageTitleValue → ℕ → List RuleValue → List Entry → Entry → List ℕ

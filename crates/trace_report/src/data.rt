@@ -10,16 +10,16 @@ use trace_io::TextSink;
 use trace_text::{Byte, Number};
 
 /// All bytes of a message are shown where these are not more.
-const MOST_SHOWN: usize = 64;
+pub(crate) const MOST_SHOWN: usize = 64;
 
 /// The bytes of a message behind the first ones are folded where it has not more than so many, and else not shown.
-const MOST_FOLDED: usize = 512;
+pub(crate) const MOST_FOLDED: usize = 512;
 
 /// So many bytes of a message are its first ones.
-const SHOWN_FIRST: usize = 32;
+pub(crate) const SHOWN_FIRST: usize = 32;
 
 /// Says a blank and two digits for each byte: of eight bytes at once, as long as there are eight.
-fn say_bytes_behind<S: TextSink>(bytes: &[u8], out: &mut S)
+pub(crate) fn say_bytes_behind<S: TextSink>(bytes: &[u8], out: &mut S)
     ensures { S.says out.old (bytes_behind bytes.now) out.new }
 {
     let mut rest = bytes;

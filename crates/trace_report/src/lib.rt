@@ -16,7 +16,7 @@
 //!
 //! | Part | Files | Definitions |
 //! |---|---|---|
-//! | times and bytes, as rows show them | `durations`, `letters`, `data` | `Durations`, `Letters`, `Data` |
+//! | times and bytes, as rows show them | `durations`, `letters`, `data`, `ruled_data` | `Durations`, `Letters`, `Data`, `RuledData` |
 //! | what a row tells | `targets`, `roles`, `row` | `Targets`, `Roles`, `Rows` |
 //! | what is counted, and where links lead | `counting`, `sorts`, `tally` | `Sorts`, `Linked` |
 //! | the text of a row | `cells`, `message_rows`, `message_words`, `brief_rows`, `missing_rows`, `missing_words` | `Rows`, `MessageRows`, `BriefRows`, `MissingRows` |
@@ -67,6 +67,7 @@ mod refusal;
 mod reporter;
 mod roles;
 mod row;
+mod ruled_data;
 mod session;
 mod sessions;
 mod sorts;

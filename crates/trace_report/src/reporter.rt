@@ -27,6 +27,7 @@ use text_parts::{Part, say};
 use trace_io::{Source, Target, TextSink};
 use trace_log::{Config, Fault, Summary};
 use trace_run::{Glimpse, Machine, NoAnswer, Seen, run_lenient};
+use uds_rules::Rules;
 
 /// Reads a log and writes its session as a page of HTML, with this style and the name of the log: each row as its frame comes, and
 /// at the end the verdict, which the style shows first.
@@ -58,6 +59,7 @@ pub fn report<R: Source, W: Target>(
             unit: config.unit(),
             max_bytes: config.max_bytes(),
         },
+        rules: config.rules(),
         times: None,
         follower: Follower::start(),
         chart: Chart::start(),
@@ -69,6 +71,8 @@ pub fn report<R: Source, W: Target>(
 #[derive(Drop)]
 pub(crate) struct Reporter<'a> {
     pub title: PageTitle<'a>,
+    /// The rules that the messages are under.
+    pub rules: &'a Rules,
     /// The times of the first frame so far and of the last one, if there are frames.
     pub times: Option<Times>,
     pub follower: Follower,
@@ -105,7 +109,7 @@ impl<'a> Machine for Reporter<'a> {
         let times = times_with(self.times, seen.micros);
         self.times = Some(times);
         let rows = self.follower.take(seen);
-        self.chart.say_rows(times.first, rows, out);
+        self.chart.say_rows(self.rules, times.first, rows, out);
         Ok(())
     }
 
@@ -117,12 +121,13 @@ impl<'a> Machine for Reporter<'a> {
     ) -> Result<Summary, NoAnswer> {
         let Reporter {
             title,
+            rules,
             times,
             follower,
             mut chart,
         } = self;
         say_front_before(&title, times, out);
-        chart.say_rows(first_of(times), follower.end(pair), out);
+        chart.say_rows(rules, first_of(times), follower.end(pair), out);
         let closing = PageEnd {
             blocks: chart.blocks,
             found: Findings {
@@ -144,6 +149,7 @@ impl<'a> Machine for Reporter<'a> {
     ) {
         let Reporter {
             title,
+            rules: _,
             times,
             follower: _,
             chart,

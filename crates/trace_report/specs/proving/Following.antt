@@ -129,6 +129,7 @@ times_of (e ∷ rest) = Some (record { first = e.micros; last = last_time e.micr
 pub record Reports (rules : List RuleValue) (title : PageTitleValue) (T : List Entry) (reporter : Reporter) : Type 0 where
   pub few : length T ≤ 2 ^ 62
   pub same : title_of reporter.title ≡ title
+  pub under : reporter.rules.now ≡ rules
   pub times : reporter.times ≡ times_of T
   pub follows : Follows rules T reporter.follower
   pub chart : IsChartOf (rows_of MESSAGE_LIMIT rules T) reporter.chart

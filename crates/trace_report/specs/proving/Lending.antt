@@ -1,6 +1,8 @@
 -- Devices of proof: what the code lends of a session, without where its bytes lie in memory.
-use Rattle.std.specs.Prelude.{ℕ, Option, Some, None}
+use Rattle.std.specs.Prelude.{ℕ, Bool, List, Option, Some, None}
+use Rattle.trace_report.specs.RuledData.{places_behind}
 use Rattle.trace_report.specs.Verdict.{FindingsValue}
+use Rattle.trace_report.specs.declared.ruled_data.Places.{Places}
 use Rattle.trace_report.specs.declared.times.Times.{Times}
 use Rattle.trace_report.specs.declared.verdict.Findings.{Findings}
 
@@ -18,3 +20,7 @@ last_of_times (Some times) = times.last
 abbrev pub findings_value : Findings → FindingsValue
 findings_value found =
     record { tally = found.tally.now; summary = found.summary.now; first = first_of_times found.times; last = last_of_times found.times }
+
+-- of the bytes of a message, whether each is masked, up to the last place of its mask
+abbrev pub places_in : Places → List Bool
+places_in places = places_behind places.before places.mask.places

@@ -25,6 +25,6 @@ returns-clause-says g c = λ rules start T known stand.
     (c.say_front_before.ensures T known.times) in
     g.met.S.TextSink.onward _ _ _ _ _ (g.met.S.TextSink.onward _ _ _ _ _ front
     (subst (λ text. g.S.TextSink.says c.say_front_before.new.out text c.say_rows.new.out)
-    (λ i. rows_text (origin i) (blocks_of (rows_of MESSAGE_LIMIT rules T)) (rows i)) (c.say_rows.ensures.says (rows_of MESSAGE_LIMIT rules T) low known.chart)))
+    (λ i. rows_text (known.under i) (origin i) (blocks_of (rows_of MESSAGE_LIMIT rules T)) (rows i)) (c.say_rows.ensures.says (rows_of MESSAGE_LIMIT rules T) low known.chart)))
     (subst (λ text. g.S.TextSink.says c.say_rows.new.out text c.say.new.out)
     (λ i. page_end (chart.blocks i) (record { tally = chart.tally i; summary = c.args.summary.now; first = first i; last = last i })) c.say.ensures)

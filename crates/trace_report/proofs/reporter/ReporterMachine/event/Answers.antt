@@ -25,6 +25,7 @@ returns-clause-ok g c = λ rules start T e seen known.
       record {
         few = omega (arith, seen.event.few, length-append T (e ∷ []));
         same = known.same;
+        under = known.under;
         times = times;
         follows = c.take-rows.ensures.next rules T e seen known.follows;
         chart =
@@ -32,5 +33,5 @@ returns-clause-ok g c = λ rules start T e seen known.
       },
       g.met.S.TextSink.onward _ _ _ _ _ front
           (subst (λ text. g.S.TextSink.says c.say_front_before.new.out text c.say_rows.new.out)
-          (λ i. rows_text (origin i) (blocks_of (rows_of MESSAGE_LIMIT rules T)) (rows i)) (c.say_rows.ensures.says (rows_of MESSAGE_LIMIT rules T) low known.chart)),
+          (λ i. rows_text (known.under i) (origin i) (blocks_of (rows_of MESSAGE_LIMIT rules T)) (rows i)) (c.say_rows.ensures.says (rows_of MESSAGE_LIMIT rules T) low known.chart)),
     )
