@@ -4,6 +4,7 @@ use Rattle.std.specs.Fmt.{decimal}
 use Rattle.std.specs.List.{flat_map}
 use Rattle.can_log.specs.Digits.{hexadecimal}
 use Rattle.trace_report.specs.Letters.{letters_text}
+use Rattle.trace_report.specs.StandardNames.{names_text}
 
 -- a blank and two digits for a byte
 abbrev pub byte_behind : ℕ → List ℕ
@@ -58,8 +59,12 @@ brief_data bytes =
     if nat_le (length bytes) shown_first then bytes_apart bytes else brief_cut (take shown_first bytes) (length bytes - shown_first)
 
 -- the bytes of a message, as far as its row shows them
-abbrev pub data_text : List ℕ → List ℕ
-data_text bytes =
+abbrev pub shown_data : List ℕ → List ℕ
+shown_data bytes =
     if nat_le (length bytes) most_shown then short_data bytes
     else if nat_le (length bytes) most_folded then folded_data (take shown_first bytes) (drop shown_first bytes)
     else cut_data (take shown_first bytes) (length bytes - shown_first)
+
+-- the bytes of a message, as far as its row shows them, and the names behind them
+abbrev pub data_text : List ℕ → List ℕ
+data_text bytes = shown_data bytes ++ names_text bytes

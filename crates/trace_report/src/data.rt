@@ -3,6 +3,7 @@ ghost use Rattle.std.specs.Prelude.{◌≡◌, ◌<◌, ◌≤◌, length, take}
 ghost use Rattle.trace_report.specs.Data.{bytes_behind};
 
 use crate::letters::LettersText;
+use crate::standard_names::NamesText;
 use can_log::digits_of_bytes;
 use std::simd::prelude::*;
 use text_parts::{Either, Part, say};
@@ -93,7 +94,7 @@ impl<'a> Part for BytesApart<'a> {
     }
 }
 
-/// The bytes of a message, as far as its row shows them.
+/// The bytes of a message, as far as its row shows them, and the names that the standards have for the first ones.
 #[derive(Clone, Copy)]
 pub struct Data<'a>(pub &'a [u8]);
 
@@ -101,6 +102,20 @@ impl<'a> Part for Data<'a> {
     ghost use Rattle.trace_report.specs.Data.{data_text};
 
     ghost text = { λ bytes. data_text bytes.0.now };
+
+    fn say<S: TextSink>(self, out: &mut S) {
+        say(out, (ShownData(self.0), NamesText(self.0)));
+    }
+}
+
+/// The bytes of a message, as far as its row shows them.
+#[derive(Clone, Copy)]
+struct ShownData<'a>(&'a [u8]);
+
+impl<'a> Part for ShownData<'a> {
+    ghost use Rattle.trace_report.specs.Data.{shown_data};
+
+    ghost text = { λ bytes. shown_data bytes.0.now };
 
     fn say<S: TextSink>(self, out: &mut S) {
         let bytes = self.0;
