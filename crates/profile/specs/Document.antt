@@ -10,8 +10,8 @@ use Rattle.toml.specs.declared.value.Value.{Value}
 use Rattle.profile.specs.declared.document.DocumentFault.{DocumentFault}
 use Rattle.profile.specs.declared.document.DocumentFault.TheVariants as fault
 
--- Line and column of the place behind bytes, from this line and column on. A column counts characters: a byte that goes on
--- with one of UTF-8, of 80 to BF, counts nothing.
+-- Line and column of the place behind bytes, from this line and column on. A column counts characters: a byte that goes
+-- on with one of UTF-8, of 80 to BF, counts nothing.
 abbrev pub place_behind : ℕ → ℕ → List ℕ → ℕ × ℕ
 place_behind line column [] = (line, column)
 place_behind line column (byte ∷ rest) =

@@ -23,7 +23,7 @@ abbrev pub unless : Option WrongValue → Result ProfileValue WrongValue → Res
 unless None profile = profile
 unless (Some wrong) profile = Err wrong
 
--- The profile that a document is, or the first thing that is wrong in it: a key by itself, the rules beside one another, a
--- unit.
+-- The profile that a document is, or the first thing that is wrong in it: a key by itself, the rules beside one
+-- another, a unit.
 abbrev pub profile_of : Members → Result ProfileValue WrongValue
 profile_of document = unless (wrong_keys document) (both (profile_rules document) (profile_units document))

@@ -12,8 +12,8 @@ use Rattle.profile.specs.UnitWrong.{UnitWrongValue, unknown_key, not_a_name, no_
 use Rattle.profile.specs.declared.unit_wrong.UnitKey.{UnitKey}
 use Rattle.profile.specs.declared.unit_wrong.UnitKey.TheVariants as unit_key
 
--- The identifier that a text spells, as a line of a log spells one: exactly three hexadecimal digits a base identifier, and
--- exactly eight an extended one, in either case. Any other text spells none.
+-- The identifier that a text spells, as a line of a log spells one: exactly three hexadecimal digits a base identifier,
+-- and exactly eight an extended one, in either case. Any other text spells none.
 unfoldable pub identifier_of : List ℕ → Option Id
 identifier_of text =
     if list_all is_ascii_hexdigit text && ((length text == 3) || (length text == 8)) then Some (line.identifier_of text)

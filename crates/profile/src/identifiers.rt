@@ -7,8 +7,8 @@ ghost use Rattle.profile.specs.UnitKeys as Spec;
 
 use can_log::Id;
 
-/// The identifier that exactly three or exactly eight hexadecimal digits spell, in either case: a base identifier, or an
-/// extended one.
+/// The identifier that exactly three or exactly eight hexadecimal digits spell, in either case: a base identifier, or
+/// an extended one.
 #[tactic(auto, unfolding(crate::specs::UnitKeys::identifier_of))]
 pub fn identifier_of(text: &str) -> Option<Id>
     ensures { result ≡ Spec.identifier_of text.now }

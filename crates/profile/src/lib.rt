@@ -10,8 +10,8 @@
 //! unit = "7E8"
 //! ```
 //!
-//! A profile is a function of what the TOML says, and so is the first thing that is wrong in it: the keys, each by itself, in
-//! the order of their bytes; then the rules beside one another; then the units, in their order.
+//! A profile is a function of what the TOML says, and so is the first thing that is wrong in it: the keys, each by
+//! itself, in the order of their bytes; then the rules beside one another; then the units, in their order.
 #![tactic(auto)]
 
 mod document;

@@ -30,8 +30,8 @@ pub enum ProfileFault<'a> {
     Wrong(Wrong<'a>),
 }
 
-/// The profile that a document is, or the first thing that is wrong in it: the keys, each by itself, in the order of their
-/// bytes; the rules beside one another; the units, in their order.
+/// The profile that a document is, or the first thing that is wrong in it: the keys, each by itself, in the order of
+/// their bytes; the rules beside one another; the units, in their order.
 pub fn profile_of<'a>(alloc: Global, document: &'a Table) -> Result<Profile, ProfileFault<'a>>
     ensures { Reads (Spec.profile_of (table_view document.now)) result }
 {

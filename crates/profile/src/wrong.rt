@@ -25,7 +25,8 @@ pub enum Wrong<'a> {
     BadRule(RuleKey, &'a str, RuleFault),
     /// More than 64 rules.
     ManyRules,
-    /// Two rules speak of one message: their places, from 0, in the order drops, masks ([`rule_text`](crate::rule_text)).
+    /// Two rules speak of one message: their places, from 0, in the order drops, masks
+    /// ([`rule_text`](crate::rule_text)).
     Shared(usize, usize),
     /// More than 64 units.
     ManyUnits,

@@ -46,8 +46,8 @@ no_longer whole said last text fits more parts is begins =
 some_of : (few many : ℕ) → 0 < few → few ≤ many → 0 < many
 some_of few many some within = omega (arith, some, within)
 
--- the command of the canonical script, which says nothing of a refusal, and keeps held messages; the rules are those of the
--- settings
+-- the command of the canonical script, which says nothing of a refusal, and keeps held messages; the rules are those of
+-- the settings
 abbrev canonical_command : Settings → Command Summary
 canonical_command settings =
     command (canonical_script settings.rules settings) says_no_refusal (answers_canonical settings.rules settings)

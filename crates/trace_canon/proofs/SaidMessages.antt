@@ -34,8 +34,8 @@ extent_from first last = record { first = first; last = last }
 abbrev pub placed_at : ℕ → Step → Message → FrameExtent → PlacedMessage
 placed_at number step sent extent = record { number = number; step = step; sent = sent; extent = extent }
 
--- what is said of a message that rules left of the one that a frame completed, from the place of its first frame to this one,
--- is its line
+-- what is said of a message that rules left of the one that a frame completed, from the place of its first frame to
+-- this one, is its line
 pub judged_said : (rules : List RuleValue) (T : List Entry) (e : Entry) (seen : Seen) (judged : Judged) → IsSeen rules T e seen
     → CompletesJudged rules T e judged → (notation own_notation : Notation) (own_rules : List RuleValue) (first : FramePlace)
     → own_notation ≡ notation → own_rules ≡ rules → first ≡ place_of (first_frame T e)

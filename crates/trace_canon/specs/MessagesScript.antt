@@ -1,5 +1,5 @@
--- What `messages` writes: a line for each message that is delivered and that rules leave, in the order of delivery, in words
--- or as an object of JSON, with the places of the first frame of the message and of its last one.
+-- What `messages` writes: a line for each message that is delivered and that rules leave, in the order of delivery, in
+-- words or as an object of JSON, with the places of the first frame of the message and of its last one.
 use Rattle.std.specs.Prelude.{ℕ, false, List, [], ◌++◌, codes, Option, Some, None}
 use Rattle.std.specs.Fmt.{decimal}
 use Rattle.direction.specs.Dir.{Message}

@@ -27,8 +27,8 @@ reading_to_order limit settings = record {
   max_bytes = settings.max_bytes;
 }
 
--- how a log is read whose items are collected: memory is needed for a message of several frames, for one that is masked,
--- or for one that is complete
+-- how a log is read whose items are collected: memory is needed for a message of several frames, for one that is
+-- masked, or for one that is complete
 abbrev pub reading_to_collect : ℕ → Settings → WayOfReading
 reading_to_collect limit settings = record {
   unrefused = IsNotRefusedWithin limit settings;

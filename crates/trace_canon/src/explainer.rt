@@ -20,8 +20,8 @@ use trace_run::{Glimpse, Machine, NoAnswer, Seen, run_lenient};
 use trace_text::{Notation, Remark, say_remark};
 
 /// Reads a log and writes a line for each reception that ended without its message and for each frame that was dropped,
-/// as they come; then the receptions that stand at the end, and the counts. In words or as objects of JSON. It tells of the
-/// log as it is: it knows no rules, and counts none of their messages as left out.
+/// as they come; then the receptions that stand at the end, and the counts. In words or as objects of JSON. It tells of
+/// the log as it is: it knows no rules, and counts none of their messages as left out.
 ///
 /// The target is not flushed.
 pub fn explain<R: Source, W: Target>(

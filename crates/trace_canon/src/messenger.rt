@@ -20,9 +20,9 @@ use trace_text::{Notation, Number, RuledBytes, Sender};
 use uds_exchange::Judged;
 use uds_rules::Rules;
 
-/// Reads a log and writes a line for each message that is delivered and that rules leave, as it comes, in words or as an
-/// object of JSON: the number that [`list`](crate::list) gives its item, its role in that item, its direction, the lines
-/// and the time stamps of its first frame and its last one, and its bytes.
+/// Reads a log and writes a line for each message that is delivered and that rules leave, as it comes, in words or as
+/// an object of JSON: the number that [`list`](crate::list) gives its item, its role in that item, its direction, the
+/// lines and the time stamps of its first frame and its last one, and its bytes.
 ///
 /// The target is not flushed.
 pub fn messages<R: Source, W: Target>(

@@ -51,8 +51,8 @@ pub fn normalise<R: Source, W: Target>(
         → OnOk result ((text : List ℕ) → W.taken target.new ≡ W.taken target.old ++ text
         → IsCanonicalFor MESSAGE_LIMIT config.now log text) }
 
-    // For a recording of messages the canonical log of their meaning under the rules is written; and a summary that counts
-    // nothing dropped, ended or unfinished certifies that the log is one.
+    // For a recording of messages the canonical log of their meaning under the rules is written; and a summary that
+    // counts nothing dropped, ended or unfinished certifies that the log is one.
     ensures recording { (log : List ℕ) → AgreesWith R.Source source.old source.new log
         → OnOk result ((M : List Message) → Records MESSAGE_LIMIT config.now log M
         → W.taken target.new

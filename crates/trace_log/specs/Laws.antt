@@ -94,8 +94,8 @@ pub record IsOwnCanonicalLog (limit : ℕ) (settings : Settings) (text : List �
   pub own : accepted.text ≡ text
   pub clean : IsCleanSummary accepted.summary
 
--- The text is a canonical log of the log: it is accepted, is its own canonical log, under the rules and without them, has
--- the meaning of the log, and nothing of it is dropped, ended, left unfinished or left out.
+-- The text is a canonical log of the log: it is accepted, is its own canonical log, under the rules and without them,
+-- has the meaning of the log, and nothing of it is dropped, ended, left unfinished or left out.
 pub record IsCanonicalFor (limit : ℕ) (settings : Settings) (log text : List ℕ) : Type 0 where
   pub accepted : Accepted
   pub outcome : IsOutcome limit settings text (Ok accepted)
@@ -121,15 +121,16 @@ pub record Records (limit : ℕ) (settings : Settings) (log : List ℕ) (M : Lis
   pub means : LogMeans log meanings
   pub recording : IsRecording limit (trace settings meanings) M
 
--- where the trace of an accepted log is a recording of some messages, its text is the canonical log of their meaning under
--- the rules: so all recordings of these messages have one canonical log
+-- where the trace of an accepted log is a recording of some messages, its text is the canonical log of their meaning
+-- under the rules: so all recordings of these messages have one canonical log
 abbrev pub RecordingHasCanonicalLog : Type 0
 RecordingHasCanonicalLog = (limit : ℕ) (settings : Settings) (log : List ℕ) (accepted : Accepted) (M : List Message)
     → IsOutcome limit settings log (Ok accepted) → Records limit settings log M
     → accepted.text ≡ canonical_log limit settings (flattened (meaning (under settings.rules M)))
 
--- where the summary of a log counts nothing dropped, ended or unfinished, its trace is a recording of what it delivers, each
--- message of its own frames, and each frame that carries a message belongs to one: so such a summary is a certificate
+-- where the summary of a log counts nothing dropped, ended or unfinished, its trace is a recording of what it delivers,
+-- each message of its own frames, and each frame that carries a message belongs to one: so such a summary is a
+-- certificate
 abbrev pub CleanSummaryIsCertificate : Type 0
 CleanSummaryIsCertificate = (limit : ℕ) (settings : Settings) (log : List ℕ) (meanings : List (Option Stamped)) → 64 ≤ limit
     → (summary_of limit settings log meanings).dropped ≡ 0 → (summary_of limit settings log meanings).ended ≡ 0 → (summary_of limit settings log meanings).unfinished ≡ 0
@@ -238,8 +239,8 @@ abbrev pub LargerLimitKeeps : Type 0
 LargerLimitKeeps = (limit larger : ℕ) (settings : Settings) (log : List ℕ) (accepted : Accepted) → 64 ≤ limit → limit ≤ larger
     → IsOutcome limit settings log (Ok accepted) → IsOutcome larger settings log (Ok accepted)
 
--- The log is legal, and its trace is a recording of the messages that it delivers: each is given its own frames, and each
--- frame that carries a message belongs to exactly one.
+-- The log is legal, and its trace is a recording of the messages that it delivers: each is given its own frames, and
+-- each frame that carries a message belongs to exactly one.
 pub record IsCertified (limit : ℕ) (settings : Settings) (log : List ℕ) : Type 0 where
   pub meanings : List (Option Stamped)
   pub means : LogMeans log meanings

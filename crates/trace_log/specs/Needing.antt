@@ -42,8 +42,8 @@ abbrev pub CompletesMasked : ℕ → List RuleValue → List Entry → Entry →
 CompletesMasked limit rules T e =
     (bytes : List ℕ) × ((verdict limit T e).verdict ≡ message bytes) × (is_masked rules bytes ≡ true)
 
--- The bytes of the frame are kept, or it completes a message that is masked: so for a frame a run may need memory before
--- anything is made of its message.
+-- The bytes of the frame are kept, or it completes a message that is masked: so for a frame a run may need memory
+-- before anything is made of its message.
 abbrev pub IsKeptOrMasked : ℕ → List RuleValue → List Entry → Entry → Type 0
 IsKeptOrMasked limit rules T e = IsKeptForMessage limit T e ⊎ CompletesMasked limit rules T e
 

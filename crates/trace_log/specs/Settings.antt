@@ -10,8 +10,8 @@ use Rattle.uds_rules.specs.Rule.{RuleValue}
 use Rattle.trace_log.specs.declared.fault.ConfigFault.{ConfigFault}
 use Rattle.trace_log.specs.declared.fault.ConfigFault.TheVariants.{IdRange, SameId, LimitRange}
 
--- the identifiers of the two sides, the most bytes of a log and of its canonical log, and the rules that its messages are
--- under
+-- the identifiers of the two sides, the most bytes of a log and of its canonical log, and the rules that its messages
+-- are under
 pub record Settings : Type 0 where
   pub tester : Id
   pub unit : Id

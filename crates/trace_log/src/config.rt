@@ -17,8 +17,8 @@ const LARGEST_BASE_ID: u16 = 0x7FF;
 /// The largest extended identifier, of 29 bits.
 const LARGEST_EXTENDED_ID: u32 = 0x1FFF_FFFF;
 
-/// The identifiers of the tester and the unit, the most bytes of a log and of its canonical log, and the rules that messages
-/// are under. The rules make it large: it is handed on by reference.
+/// The identifiers of the tester and the unit, the most bytes of a log and of its canonical log, and the rules that
+/// messages are under. The rules make it large: it is handed on by reference.
 #[derive(Clone, Copy, Debug, PartialEq, Eq)]
 pub struct Config {
     /// The tester's identifier, and then the unit's.
@@ -44,8 +44,8 @@ impl Config {
     ghost use Rattle.trace_log.specs.Settings.{AreSettings, Configures, without_rules, id_of, direction_of};
 
     /// The configuration with these parts, and no rules. A base identifier is at most 7FF, an extended one at most
-    /// 1FFFFFFF, and the two sides don't have the same one: equal numbers of different formats are different identifiers.
-    /// The limit is 1 to [`LARGEST_LIMIT`]. Of several faults the first of [`ConfigFault`] is answered.
+    /// 1FFFFFFF, and the two sides don't have the same one: equal numbers of different formats are different
+    /// identifiers. The limit is 1 to [`LARGEST_LIMIT`]. Of several faults the first of [`ConfigFault`] is answered.
     pub fn new(tester: Id, unit: Id, max_bytes: u64) -> Result<Config, ConfigFault>
         ensures { Configures tester unit max_bytes result }
     {

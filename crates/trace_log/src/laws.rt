@@ -26,8 +26,8 @@ pub fn masks_keep_items()
     ensures { MasksKeepItems }
 {}
 
-/// A canonical log is accepted, is its own canonical log, under the rules and without them, and has the meaning of the log
-/// that it was made of; nothing of it is dropped, ended, left unfinished or left out.
+/// A canonical log is accepted, is its own canonical log, under the rules and without them, and has the meaning of the
+/// log that it was made of; nothing of it is dropped, ended, left unfinished or left out.
 pub fn canonical_is_canonical()
     ensures { CanonicalIsCanonical }
 {}

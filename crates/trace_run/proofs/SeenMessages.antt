@@ -77,7 +77,8 @@ module _ (rules : List RuleValue) (T : List Entry) (e : Entry) where
       messages_under_more rules MESSAGE_LIMIT T e
       ∙ ap (λ told. messages_under rules MESSAGE_LIMIT T ++ under rules told) (told_by T e d event dir_is is)
 
-  -- The frame e completed a message, of which rules made this one, behind those of the frames T; and this becomes of it.
+  -- The frame e completed a message, of which rules made this one, behind those of the frames T; and this becomes of
+  -- it.
   pub record CompletesJudged (judged : Judged) : Type 0 where
     pub next : messages_under rules MESSAGE_LIMIT (T ++ e ∷ []) ≡ messages_under rules MESSAGE_LIMIT T ++ sent judged ∷ []
     pub dir : e.dir ≡ judged.dir

@@ -1,4 +1,5 @@
--- What a machine is handed of a frame: what it did after the frames before it, and what becomes of its message under rules.
+-- What a machine is handed of a frame: what it did after the frames before it, and what becomes of its message under
+-- rules.
 use Rattle.std.specs.Prelude.{◌≡◌, ℕ, ◌^◌, ◌<◌, List, [], ◌∷◌, length, Option, Some, None}
 use Rattle.direction.specs.Dir.{Message}
 use Rattle.direction.specs.declared.Dir.{Dir}
@@ -29,8 +30,8 @@ IsJudgmentOf M came None = came ≡ []
 IsJudgmentOf M came (Some judged) =
     (came ≡ sent judged ∷ []) × IsJudgedAfter M judged × (judged.item_number ≡ number_after M (sent judged))
 
--- This is seen of the frame e after the frames T: what it did, which rules don't change, and what rules leave of the message
--- that it completed, if it completed one, as that is judged behind those before.
+-- This is seen of the frame e after the frames T: what it did, which rules don't change, and what rules leave of the
+-- message that it completed, if it completed one, as that is judged behind those before.
 pub record IsSeen (rules : List RuleValue) (T : List Entry) (e : Entry) (seen : Seen) : Type 0 where
   pub event : IsEventOf T e seen.line seen.micros seen.dir seen.event
   pub message :

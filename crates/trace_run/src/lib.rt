@@ -35,9 +35,9 @@
 //! }
 //! ```
 //!
-//! Here `dots` is a `Script` of its own: of a frame that completed a message which the rules leave a dot, of another one
-//! nothing, and nothing at the end. That `event` says this is what its proof shows. The machine keeps nothing, so `stands`
-//! asks nothing of it.
+//! Here `dots` is a `Script` of its own: of a frame that completed a message which the rules leave a dot, of another
+//! one nothing, and nothing at the end. That `event` says this is what its proof shows. The machine keeps nothing, so
+//! `stands` asks nothing of it.
 //!
 //! The machine sees no device: [`run`] (`driver`) joins the two ends, and makes each fault of theirs one of
 //! [`Fault`](trace_log::Fault).

@@ -87,7 +87,8 @@ pub struct Seen<'a> {
     pub dir: Dir,
     /// What it did to the receptions.
     pub event: Event<'a>,
-    /// What rules leave of the message that it completed, if it completed one and they leave it, with what becomes of it.
+    /// What rules leave of the message that it completed, if it completed one and they leave it, with what becomes of
+    /// it.
     pub message: Option<Judged<'a>>,
 }
 

@@ -24,8 +24,8 @@ use trace_io::Target;
 use trace_log::{Config, Fault, Summary};
 use uds_exchange::{Judge, Judged};
 
-/// What a frame did, with its line, its time in microseconds and its direction: a [`Seen`] whose message is under no rules
-/// and not judged yet.
+/// What a frame did, with its line, its time in microseconds and its direction: a [`Seen`] whose message is under no
+/// rules and not judged yet.
 #[derive(Clone, Copy)]
 pub(crate) struct FrameEvent<'a> {
     pub line: u64,

@@ -1,5 +1,5 @@
--- The text of a meaning under rules: a line for each item, numbered from 1 or without a number, in words or as an object of
--- JSON. The messages are as the rules left them.
+-- The text of a meaning under rules: a line for each item, numbered from 1 or without a number, in words or as an
+-- object of JSON. The messages are as the rules left them.
 use Rattle.std.specs.Prelude.{ℕ, ◌+◌, List, [], ◌∷◌, ◌++◌, codes, Option, Some, None, if◌then◌else◌}
 use Rattle.std.specs.Fmt.{decimal}
 use Rattle.uds_exchange.specs.Meaning.{ItemValue, exchange, stray}

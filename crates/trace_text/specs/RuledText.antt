@@ -1,4 +1,5 @@
--- The bytes of a message that rules have left, in digits: a byte that they mask, and what they cut off, are told by marks.
+-- The bytes of a message that rules have left, in digits: a byte that they mask, and what they cut off, are told by
+-- marks.
 use Rattle.std.specs.Prelude.{ℕ, ◌==◌, ◌&&◌, Bool, List, [], ◌∷◌, ◌++◌, length, take, drop, codes, Option, Some, None, if◌then◌else◌}
 use Rattle.can_log.specs.Digits.{hexadecimal}
 use Rattle.uds_rules.specs.Mask.{MaskValue}
@@ -9,8 +10,8 @@ use Rattle.trace_text.specs.Words.{bytes_text}
 abbrev pub place_text : Bool → ℕ → List ℕ
 place_text is_masked byte = if is_masked then codes ".." else hexadecimal 2 byte
 
--- What stands behind the places: bytes that are left; or `*` where none is and what follows is cut off, whether there was
--- something to cut off or not.
+-- What stands behind the places: bytes that are left; or `*` where none is and what follows is cut off, whether there
+-- was something to cut off or not.
 abbrev pub end_text : Bool → List ℕ → List ℕ
 end_text cuts bytes = bytes_text bytes ++ (if cuts && (length bytes == 0) then codes "*" else [])
 

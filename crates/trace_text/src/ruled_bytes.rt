@@ -6,8 +6,9 @@ use text_parts::{Either, Part, When, say};
 use trace_io::TextSink;
 use uds_rules::{Mask, Rules};
 
-/// Two hexadecimal digits for each byte of a message that rules have left; but `..` for one that they mask, and `*` where the
-/// message ends and they cut off what follows. The message is as the rules left it, so that equal messages have equal texts.
+/// Two hexadecimal digits for each byte of a message that rules have left; but `..` for one that they mask, and `*`
+/// where the message ends and they cut off what follows. The message is as the rules left it, so that equal messages
+/// have equal texts.
 #[derive(Clone, Copy)]
 pub struct RuledBytes<'a> {
     pub rules: &'a Rules,

@@ -50,8 +50,8 @@ abbrev pub is_made_of : Option (List ℕ) → List ℕ → Bool
 is_made_of None message = false
 is_made_of (Some shown) message = pointwise nat_eq shown message
 
--- One message is of the kind of the other: a request, the keep-alive, final or pending for the same services, or none of
--- these. It asks for silence where that does. It is not longer, and empty only if that is.
+-- One message is of the kind of the other: a request, the keep-alive, final or pending for the same services, or none
+-- of these. It asks for silence where that does. It is not longer, and empty only if that is.
 pub record IsSameKind (message shown : List ℕ) : Type 0 where
   pub kind : tester_kind shown ≡ tester_kind message
   pub answers : (service : ℕ) → answer_to service shown ≡ answer_to service message
@@ -65,8 +65,8 @@ pub record IsSameKind (message shown : List ℕ) : Type 0 where
 abbrev pub MaskKeepsKind : Type 0
 MaskKeepsKind = (rules : List RuleValue) → AreRules rules → (message shown : List ℕ) → made_of rules message ≡ Some shown → IsSameKind message shown
 
--- What a mask shows at a place behind the prefix, where this byte stands: none where what follows the places is cut off, 0
--- where the place is masked, and else the byte.
+-- What a mask shows at a place behind the prefix, where this byte stands: none where what follows the places is cut
+-- off, 0 where the place is masked, and else the byte.
 abbrev pub shown_at : MaskValue → ℕ → Option ℕ → Option ℕ
 shown_at mask place byte =
     if mask.cuts && nat_le (length mask.places) place then None

@@ -1,7 +1,8 @@
 -- A mask, and what it makes of the bytes behind a prefix.
 use Rattle.std.specs.Prelude.{ℕ, Bool, List, [], ◌∷◌, length, take, if◌then◌else◌}
 
--- What stands behind a prefix: of each place whether its byte is masked, and whether what follows the last one is cut off.
+-- What stands behind a prefix: of each place whether its byte is masked, and whether what follows the last one is cut
+-- off.
 pub record MaskValue : Type 0 where
   pub places : List Bool
   pub cuts : Bool

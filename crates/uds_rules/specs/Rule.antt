@@ -24,7 +24,8 @@ abbrev pub made_by : Deed → List ℕ → List ℕ → Option (List ℕ)
 made_by deed.Drop prefix message = None
 made_by (deed.Mask mask) prefix message = Some (prefix ++ masked mask (drop (length prefix) message))
 
--- What rules make of a message: what the first of them makes that speaks of it. One that no rule speaks of stays as it is.
+-- What rules make of a message: what the first of them makes that speaks of it. One that no rule speaks of stays as it
+-- is.
 abbrev pub made_of : List RuleValue → List ℕ → Option (List ℕ)
 made_of [] message = Some message
 made_of (rule ∷ rules) message = if speaks_of rule message then made_by rule.deed rule.prefix message else made_of rules message

@@ -1,5 +1,5 @@
-//! What holds of messages under rules and of the texts of rules, whatever applies or reads them. Each law is its contract;
-//! a call does nothing.
+//! What holds of messages under rules and of the texts of rules, whatever applies or reads them. Each law is its
+//! contract; a call does nothing.
 
 ghost use Rattle.uds_rules.specs.Laws.{UnderGoesOn, LeftOutGoesOn, LeftOutAreTheRest, NoRulesKeepAll, UnderTwice, WhatIsLeftStays, WhatStaysIsLeft, RuleSpeaksAlone, ApartSharesNoMessage, ClashSharesMessage, MaskKeepsKind, MaskedByPlaces, NoByteIsMadeUp, NoByteIsAdded, PrefixIsReadBack, PatternIsReadBack, ReadAsSpelled};
 

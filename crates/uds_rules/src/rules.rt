@@ -128,8 +128,8 @@ impl Rules {
         mask_in(self.as_slice(), message)
     }
 
-    /// What the rules make of a message. A masked copy is laid into `room`, and for that alone memory can be refused: with
-    /// the same `room` for each message only one longer than all before takes any.
+    /// What the rules make of a message. A masked copy is laid into `room`, and for that alone memory can be refused:
+    /// with the same `room` for each message only one longer than all before takes any.
     pub fn apply(&self, message: &[u8], room: &mut Vec<u8>) -> Result<Ruled, AllocError>
         ensures ok { IfOk result (λ ruled. IsRuled (made_of self.now message.now) message.now ruled room.new.items) }
         ensures err { OnErr result (is_masked self.now message.now ≡ true) }

@@ -42,8 +42,8 @@ StopsFor strict rules needs T e fault.Write = ⊥
 abbrev pub IsFrameEvent : List Entry → Entry → FrameEvent → Type 0
 IsFrameEvent T e frame = IsEventOf T e frame.line frame.micros frame.dir frame.event
 
--- A machine and a target as they were: since then frames are told to the one under these rules, and their text is written
--- to the other.
+-- A machine and a target as they were: since then frames are told to the one under these rules, and their text is
+-- written to the other.
 pub record Start (M W : Type 0) : Type 0 where
   pub rules : List RuleValue
   pub machine : M
@@ -114,7 +114,8 @@ module _ {A M W : Type 0} (machine : MachineGhosts M A) (target : TargetGhosts W
     pub kept : (start : Start M W) (earlier : List Entry) → HasWrittenAtLeast start earlier before old
         → HasWrittenAtLeast start earlier after new
 
-  -- The frame e was told under these rules after the frames T, or the run stopped at it. Whatever was written before is.
+  -- The frame e was told under these rules after the frames T, or the run stopped at it. Whatever was written before
+  -- is.
   pub record TellsFrame {B : Type 0} (rules : List RuleValue) (T : List Entry) (e : Entry)
       (before : Telling M) (old : W) (result : Result B Fault) (after : Telling M) (new : W) : Type 0 where
     pub ok : OnOk result ((start : Start M W) → start.rules ≡ rules

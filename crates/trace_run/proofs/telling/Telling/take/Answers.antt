@@ -1,5 +1,5 @@
--- The run stops for the length that the frame announces; or rules make of its message what they make, or are refused memory
--- for it; then it is judged, and the machine says its text, or is refused memory.
+-- The run stops for the length that the frame announces; or rules make of its message what they make, or are refused
+-- memory for it; then it is judged, and the machine says its text, or is refused memory.
 use Rattle.std.proofs.Common.{◌++◌, ◌+◌, [], ◌≡◌, ap, sym, subst, ◌∙◌, None, Some, inl, inr}
 use Rattle.isotp_receive.specs.declared.TheConstants.{MESSAGE_LIMIT}
 use Rattle.isotp_receive.specs.EventSeen.{seen_event}
