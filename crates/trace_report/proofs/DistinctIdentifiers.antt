@@ -145,9 +145,10 @@ identifiers_stand_once settings meanings few =
     let told = items_within_messages (messages_under settings.rules MESSAGE_LIMIT T) in
     let items = length (meaning (messages_under settings.rules MESSAGE_LIMIT T)) in
     let low : items < 2 ^ 64 = omega (arith, frames, sent, left, told, few) in
-    let some : lines ≤ 2 ^ 64 = omega (arith, few) in
-    (stand-once items lines 2 (all_rows MESSAGE_LIMIT settings.rules T) low some (all-placed settings.rules T lines placed),
-    stand-once items lines 0 (rows_of MESSAGE_LIMIT settings.rules T) low some placed)
+    let some : lines ≤ 2 ^ 64 = omega (arith, few) in (
+      stand-once items lines 2 (all_rows MESSAGE_LIMIT settings.rules T) low some (all-placed settings.rules T lines placed),
+      stand-once items lines 0 (rows_of MESSAGE_LIMIT settings.rules T) low some placed,
+    )
 
 -- The links of a verdict.
 
@@ -206,6 +207,7 @@ links_have_targets settings meanings =
     let T = trace settings meanings in
     let lines = 1 + length meanings in
     let items = length (meaning (messages_under settings.rules MESSAGE_LIMIT T)) in
-    let placed = rows-placed settings.rules T 1 lines (trace-grows settings 1 meanings) in
-    (has-each items lines 2 (all_rows MESSAGE_LIMIT settings.rules T) (all-placed settings.rules T lines placed),
-    has-each items lines 0 (rows_of MESSAGE_LIMIT settings.rules T) placed)
+    let placed = rows-placed settings.rules T 1 lines (trace-grows settings 1 meanings) in (
+      has-each items lines 2 (all_rows MESSAGE_LIMIT settings.rules T) (all-placed settings.rules T lines placed),
+      has-each items lines 0 (rows_of MESSAGE_LIMIT settings.rules T) placed,
+    )

@@ -3,6 +3,8 @@ mod Tallies
 mod Steps
 mod FrameCounting
 mod Meeting
+mod SpokenCounts
+mod Marks
 mod HowKept
 mod BytesBehind
 mod WordPlaces

@@ -22,6 +22,7 @@ use Rattle.trace_report.specs.Looks.{has_front, look_told, signs}
 use Rattle.trace_report.specs.Page.{all_rows}
 use Rattle.trace_report.specs.MessageRows.{message_row, note_text}
 use Rattle.trace_report.specs.Style.{page_style}
+use Rattle.trace_report.specs.RulesStyle.{ruled_style}
 use Rattle.trace_report.specs.Letters.{letters}
 use Rattle.trace_report.specs.declared.row.MessagePlace.{MessagePlace}
 use Rattle.trace_report.specs.declared.roles.MessageRole.{MessageRole}
@@ -56,6 +57,10 @@ LettersAreHarmless = (bytes : List ℕ) → AllByRecursion (λ b. (is_harmless b
 -- and so does a comment, which could hide what stands behind it
 abbrev pub StyleHoldsNoTag : Type 0
 StyleHoldsNoTag = list_any (λ b. b == code "<") page_style ≡ false
+
+-- and neither does what it has besides under rules
+abbrev pub RuledStyleHoldsNoTag : Type 0
+RuledStyleHoldsNoTag = list_any (λ b. b == code "<") ruled_style ≡ false
 
 -- no element of the list is equal to one behind it
 abbrev pub AreDistinct : {X : Type 0} → List X → Type 0
@@ -95,12 +100,12 @@ ended_at time place = record place { last = record place.last { micros = time } 
 
 -- the time of a message that is no reply is that of its last frame: when the first one came is not told
 abbrev pub TimeIsOfTheLastFrame : Type 0
-TimeIsOfTheLastFrame = (origin time : ℕ) (is : MessageRole) (d : Dir) (place : MessagePlace) (bytes : List ℕ) → asked_at is ≡ None
-    → message_row origin is d (begun_at time place) bytes ≡ message_row origin is d place bytes
+TimeIsOfTheLastFrame = (rules : List RuleValue) (origin time : ℕ) (is : MessageRole) (d : Dir) (place : MessagePlace) (bytes : List ℕ)
+    → asked_at is ≡ None → message_row rules origin is d (begun_at time place) bytes ≡ message_row rules origin is d place bytes
 
 -- a reply came as long after its request as its first frame did, whenever its last one came
 abbrev pub AfterIsToTheFirstFrame : Type 0
-AfterIsToTheFirstFrame = (time count : ℕ) (is : MessageRole) (place : MessagePlace) → note_text is (ended_at time place) count ≡ note_text is place count
+AfterIsToTheFirstFrame = (time : ℕ) (count : Option ℕ) (is : MessageRole) (place : MessagePlace) → note_text is (ended_at time place) count ≡ note_text is place count
 
 -- how long after its request a reply came counts from the last request that was complete before, and each request is so with
 -- its last frame

@@ -17,6 +17,8 @@ pub mod Looks
 pub mod Causes
 pub mod Verdict
 pub mod Style
+pub mod RulesStyle
+pub mod RuleWords
 pub mod LogNames
 pub mod Front
 pub mod Help

@@ -14,6 +14,7 @@ use Rattle.trace_report.specs.declared.tally.Tally.{Tally}
 use Rattle.trace_log.specs.declared.fault.Fault.{Fault}
 use Rattle.trace_log.specs.declared.fault.Fault.TheVariants as fault
 use Rattle.trace_log.specs.declared.summary.Summary.{Summary}
+use Rattle.uds_rules.specs.Rule.{RuleValue}
 
 -- a text, where what it says is so
 abbrev pub clause : Bool → List ℕ → List ℕ
@@ -118,8 +119,11 @@ answers_text asked refused missing =
 abbrev pub answers_of : SortCounts → List ℕ
 answers_of counts = answers_text counts.requests counts.negatives counts.unanswered
 
--- What was found of a log: the tally of its rows, its counts, and the times of its first frame and of its last one.
+-- What was found of a log: the rules that it is under, of how many messages each spoke, the tally of its rows, its counts, and
+-- the times of its first frame and of its last one.
 pub record FindingsValue : Type 0 where
+  pub rules : List RuleValue
+  pub spoken : List ℕ
   pub tally : Tally
   pub summary : Summary
   pub first : ℕ

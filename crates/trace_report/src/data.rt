@@ -1,13 +1,16 @@
-//! The bytes of messages, as far as rows show them.
+//! The bytes of messages that rules have left, as far as rows show them.
 ghost use Rattle.std.specs.Prelude.{◌≡◌, ◌<◌, ◌≤◌, length, take};
-ghost use Rattle.trace_report.specs.Data.{bytes_behind};
+ghost use Rattle.trace_report.specs.Data as Spec;
+ghost use Rattle.trace_report.specs.Data.{bytes_behind, marked_brief, marked_data};
 
 use crate::letters::LettersText;
+use crate::marks::Marks;
 use can_log::digits_of_bytes;
 use std::simd::prelude::*;
-use text_parts::{Either, Part, say};
+use text_parts::{Either, Part, When, say};
 use trace_io::TextSink;
 use trace_text::{Byte, Number};
+use uds_rules::{Mask, Rules};
 
 /// All bytes of a message are shown where these are not more.
 const MOST_SHOWN: usize = 64;
@@ -93,14 +96,169 @@ impl<'a> Part for BytesApart<'a> {
     }
 }
 
-/// The bytes of a message, as far as its row shows them.
+/// Two digits for each byte, or `..` where it is masked, and a blank between.
 #[derive(Clone, Copy)]
-pub struct Data<'a>(pub &'a [u8]);
+struct MarkedApart<'a>(Marks, &'a [u8]);
+
+impl<'a> Part for MarkedApart<'a> {
+    ghost use Rattle.trace_report.specs.Data.{marked_apart};
+    ghost use Rattle.trace_report.specs.proving.Marking.{marks_in};
+
+    ghost text = { λ bytes. marked_apart (marks_in bytes.0) bytes.1.now };
+
+    fn say<S: TextSink>(self, out: &mut S) {
+        let MarkedApart(marks, bytes) = self;
+        if let Some((first, rest)) = bytes.split_first() {
+            let (is_masked, behind) = marks.split_first();
+            say(
+                out,
+                (
+                    Either(is_masked, "..", Byte(*first)),
+                    MarkedBehind(behind, rest),
+                ),
+            );
+        }
+    }
+}
+
+/// A blank and two digits for each byte, or `..` where it is masked.
+#[derive(Clone, Copy)]
+struct MarkedBehind<'a>(Marks, &'a [u8]);
+
+impl<'a> Part for MarkedBehind<'a> {
+    ghost use Rattle.trace_report.specs.Data.{marked_behind};
+    ghost use Rattle.trace_report.specs.proving.Marking.{marks_in};
+
+    ghost text = { λ bytes. marked_behind (marks_in bytes.0) bytes.1.now };
+
+    fn say<S: TextSink>(self, out: &mut S) {
+        let MarkedBehind(all_marks, bytes) = self;
+        let mut marks = all_marks;
+        let mut rest = bytes;
+        'bytes: while let Some((first, others)) = rest.split_first() {
+            let (is_masked, behind) = marks.split_first();
+            say(out, (" ", Either(is_masked, "..", Byte(*first))));
+            marks = behind;
+            rest = others;
+        }
+    }
+}
+
+/// Whether a message with this mask from this place on ends with its places, and what follows them is cut off.
+fn ends_cut(mask: Mask, start: usize, message: &[u8]) -> bool
+    ensures { result ≡ Spec.ends_cut (mask, start) message.now }
+{
+    mask.cuts() && message.len().saturating_sub(start) == mask.len()
+}
+
+/// What stands behind the last byte of a message with this mask from this place on.
+#[derive(Clone, Copy)]
+struct CutMark<'a>(Mask, usize, &'a [u8]);
+
+impl<'a> Part for CutMark<'a> {
+    ghost use Rattle.trace_report.specs.Data.{cut_mark};
+
+    ghost text = { λ mark. cut_mark (mark.0, mark.1) mark.2.now };
+
+    fn say<S: TextSink>(self, out: &mut S) {
+        let CutMark(mask, start, message) = self;
+        say(out, When(ends_cut(mask, start, message), " *"));
+    }
+}
+
+/// How many bytes a message had that rules have left, where they cut off none.
+pub fn known_length(rules: &Rules, message: &[u8]) -> Option<u64>
+    ensures { result ≡ Spec.known_length rules.now message.now }
+{
+    let count = message.len() as u64;
+    match rules.mask_of(message) {
+        Some((mask, start)) if ends_cut(mask, start, message) => None,
+        Some(_) | None => Some(count),
+    }
+}
+
+/// The bytes of a message that rules have left, as far as its row shows them: `..` stands for each that they mask, and `*`
+/// where the message ends and they cut off what follows.
+#[derive(Clone, Copy)]
+pub struct Data<'a> {
+    pub rules: &'a Rules,
+    pub message: &'a [u8],
+}
 
 impl<'a> Part for Data<'a> {
     ghost use Rattle.trace_report.specs.Data.{data_text};
 
-    ghost text = { λ bytes. data_text bytes.0.now };
+    ghost text = { λ shown. data_text shown.rules.now shown.message.now };
+
+    fn say<S: TextSink>(self, out: &mut S) {
+        let Data { rules, message } = self;
+        match rules.mask_of(message) {
+            Some((mask, start)) => say_marked_data(mask, start, message, out),
+            None => say(out, PlainData(message)),
+        }
+    }
+}
+
+/// Says the bytes of a message with this mask from this place on.
+#[inline(never)]
+fn say_marked_data<S: TextSink>(mask: Mask, start: usize, message: &[u8], out: &mut S)
+    ensures { S.says out.old (marked_data (mask, start) message.now) out.new }
+{
+    let marks = Marks::of(mask, start);
+    let cut = CutMark(mask, start, message);
+    if message.len() <= MOST_SHOWN {
+        say(
+            out,
+            (
+                "<code>",
+                (MarkedApart(marks, message), cut),
+                "</code>",
+                LettersText(message),
+            ),
+        );
+    } else {
+        let (front, rest) = message.split_at(SHOWN_FIRST);
+        let more = Number(rest.len() as u64);
+        let first = MarkedApart(marks, front);
+        if message.len() <= MOST_FOLDED {
+            let behind = MarkedApart(marks.skip(SHOWN_FIRST), rest);
+            say(
+                out,
+                (
+                    "<code>",
+                    first,
+                    "</code> <details><summary>",
+                    more,
+                    " bytes more</summary><code>",
+                    (behind, cut),
+                    "</code>",
+                    LettersText(rest),
+                    "</details>",
+                ),
+            );
+        } else {
+            say(
+                out,
+                (
+                    "<code>",
+                    first,
+                    "</code> <i>",
+                    more,
+                    " bytes more, not shown</i>",
+                ),
+            );
+        }
+    }
+}
+
+/// The bytes of a message without a mask, as far as its row shows them.
+#[derive(Clone, Copy)]
+struct PlainData<'a>(&'a [u8]);
+
+impl<'a> Part for PlainData<'a> {
+    ghost use Rattle.trace_report.specs.Data.{plain_data};
+
+    ghost text = { λ bytes. plain_data bytes.0.now };
 
     fn say<S: TextSink>(self, out: &mut S) {
         let bytes = self.0;
@@ -143,14 +301,59 @@ impl<'a> Part for Data<'a> {
     }
 }
 
-/// The bytes of a message, as far as a brief row shows them.
+/// The bytes of a message that rules have left, as far as a brief row shows them.
 #[derive(Clone, Copy)]
-pub(crate) struct BriefData<'a>(pub &'a [u8]);
+pub(crate) struct BriefData<'a> {
+    pub rules: &'a Rules,
+    pub message: &'a [u8],
+}
 
 impl<'a> Part for BriefData<'a> {
     ghost use Rattle.trace_report.specs.Data.{brief_data};
 
-    ghost text = { λ bytes. brief_data bytes.0.now };
+    ghost text = { λ shown. brief_data shown.rules.now shown.message.now };
+
+    fn say<S: TextSink>(self, out: &mut S) {
+        let BriefData { rules, message } = self;
+        match rules.mask_of(message) {
+            Some((mask, start)) => say_marked_brief(mask, start, message, out),
+            None => say(out, PlainBrief(message)),
+        }
+    }
+}
+
+/// Says the bytes of a message with this mask from this place on, as far as a brief row shows them.
+#[inline(never)]
+fn say_marked_brief<S: TextSink>(mask: Mask, start: usize, message: &[u8], out: &mut S)
+    ensures { S.says out.old (marked_brief (mask, start) message.now) out.new }
+{
+    let marks = Marks::of(mask, start);
+    if message.len() <= SHOWN_FIRST {
+        let cut = CutMark(mask, start, message);
+        say(out, (MarkedApart(marks, message), cut));
+    } else {
+        let (front, rest) = message.split_at(SHOWN_FIRST);
+        let more = rest.len() as u64;
+        say(
+            out,
+            (
+                MarkedApart(marks, front),
+                " and ",
+                Number(more),
+                MoreWords(more),
+            ),
+        );
+    }
+}
+
+/// The bytes of a message without a mask, as far as a brief row shows them.
+#[derive(Clone, Copy)]
+struct PlainBrief<'a>(&'a [u8]);
+
+impl<'a> Part for PlainBrief<'a> {
+    ghost use Rattle.trace_report.specs.Data.{plain_brief};
+
+    ghost text = { λ bytes. plain_brief bytes.0.now };
 
     fn say<S: TextSink>(self, out: &mut S) {
         let bytes = self.0;

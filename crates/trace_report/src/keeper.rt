@@ -17,6 +17,7 @@ ghost use Rattle.trace_log.specs.declared.summary.Summary.{Summary as SummaryVal
 use crate::follower::{Follower, NewRows};
 use crate::kept_rows::KeptRows;
 use crate::row::SessionRow;
+use crate::rule_counts::{RuleCounts, count_message, no_counts};
 use crate::session::KeptSession;
 use crate::sessions::KeptSessions;
 use crate::times::{Times, times_with};
@@ -25,6 +26,7 @@ use std::alloc::{AllocError, Global};
 use trace_io::{Source, TextSink};
 use trace_log::{CompareFault, Config, Fault, Summary};
 use trace_run::{Glimpse, Machine, NoAnswer, Nowhere, Seen, run};
+use uds_rules::Rules;
 
 /// Reads two logs, the first one whole before the second, and answers what both say. No announcement and no canonical
 /// log is too long for it.
@@ -89,9 +91,11 @@ fn keep_session<R: Source>(
     ensures never_write { IfErr result (λ fault. fault ≢ Fault.Write) }
 {
     let machine = Keeper {
+        rules: config.rules(),
         times: None,
         follower: Follower::start(),
         rows: KeptRows::new(alloc),
+        spoken: no_counts(config.rules()),
     };
     match run(alloc, config, machine, source, &mut Nowhere::new()) {
         Ok(heard) => match finished(heard) {
@@ -110,6 +114,8 @@ pub(crate) struct Heard {
     pub last: NewRows<'static>,
     pub summary: Summary,
     pub times: Option<Times>,
+    /// Of how many messages each rule spoke.
+    pub spoken: RuleCounts,
 }
 
 /// What a log says of which this was heard.
@@ -123,9 +129,10 @@ fn finished(heard: Heard) -> Result<KeptSession, AllocError>
         last,
         summary,
         times,
+        spoken,
     } = heard;
     keep_rows(&mut rows, last)?;
-    Ok(KeptSession::of(rows, summary, times))
+    Ok(KeptSession::of(rows, summary, times, spoken))
 }
 
 /// Keeps new rows behind those before.
@@ -151,16 +158,19 @@ fn keep_row_if(rows: &mut KeptRows, row: Option<SessionRow<'_>>) -> Result<(), A
     }
 }
 
-/// Keeps the rows of a session.
+/// Keeps the rows of a session, under these rules.
 #[derive(Drop)]
-pub(crate) struct Keeper {
+pub(crate) struct Keeper<'a> {
+    pub rules: &'a Rules,
     /// The times of the first frame so far and of the last one, if there are frames.
     pub times: Option<Times>,
     pub follower: Follower,
     pub rows: KeptRows,
+    /// Of how many messages each rule spoke.
+    pub spoken: RuleCounts,
 }
 
-impl Machine for Keeper {
+impl<'a> Machine for Keeper<'a> {
     ghost use Rattle.std.specs.Prelude.{⊤};
     ghost use Rattle.trace_report.specs.proving.Heard.{Keeps, answers_heard, quiet_script};
 
@@ -182,6 +192,7 @@ impl Machine for Keeper {
     #[inline(always)]
     fn event<S: TextSink>(&mut self, seen: Seen<'_>, _out: &mut S) -> Result<(), AllocError> {
         self.times = Some(times_with(self.times, seen.micros));
+        count_message(self.rules, seen.event.verdict, &mut self.spoken);
         let rows = self.follower.take(seen);
         keep_rows(&mut self.rows, rows)?;
         Ok(())
@@ -194,15 +205,18 @@ impl Machine for Keeper {
         _out: &mut S,
     ) -> Result<Heard, NoAnswer> {
         let Keeper {
+            rules: _,
             times,
             follower,
             rows,
+            spoken,
         } = self;
         Ok(Heard {
             rows,
             last: follower.end(pair),
             summary: *summary,
             times,
+            spoken,
         })
     }
 

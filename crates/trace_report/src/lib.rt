@@ -16,12 +16,13 @@
 //!
 //! | Part | Files | Definitions |
 //! |---|---|---|
-//! | times and bytes, as rows show them | `durations`, `letters`, `data` | `Durations`, `Letters`, `Data` |
+//! | times and bytes, as rows show them | `durations`, `letters`, `marks`, `data` | `Durations`, `Letters`, `Data` |
 //! | what a row tells | `targets`, `roles`, `row` | `Targets`, `Roles`, `Rows` |
 //! | what is counted, and where links lead | `counting`, `sorts`, `tally` | `Sorts`, `Linked` |
 //! | the text of a row | `cells`, `message_rows`, `message_words`, `brief_rows`, `missing_rows`, `missing_words` | `Rows`, `MessageRows`, `BriefRows`, `MissingRows` |
 //! | the chart: rows one after another, in blocks that fold | `blocks`, `block_fronts`, `chart` | `Blocks`, `Chart` |
 //! | the rows of a frame, by what the frames before it were | `follower`, `extents`, `frames`, `times` | `Events` |
+//! | the rules that a page is under | `rule_counts`, `rule_words`, `rules_style` | `RuleWords`, `RulesStyle` |
 //! | the verdict of a log | `verdict_head`, `verdict`, `links`, `counts`, `reasons` | `Links`, `Counts`, `Verdict` |
 //! | why a log is refused | `looks`, `first_bytes`, `cause`, `refusal` | `Looks`, `Causes`, `Verdict` |
 //! | what stands before the rows and behind them | `style`, `log_names`, `front`, `help` | `Style`, `LogNames`, `Front`, `Help` |
@@ -58,6 +59,7 @@ mod letters;
 mod links;
 mod log_names;
 mod looks;
+mod marks;
 mod message_rows;
 mod message_words;
 mod missing_rows;
@@ -67,6 +69,9 @@ mod refusal;
 mod reporter;
 mod roles;
 mod row;
+mod rule_counts;
+mod rule_words;
+mod rules_style;
 mod session;
 mod sessions;
 mod sorts;
@@ -81,7 +86,7 @@ pub use blocks::begins_exchange;
 pub use cause::{CauseLine, RefusalCause, RefusalCauseText, cause_of};
 pub use cells::{CellEnd, CellFront};
 pub use counts::Counts;
-pub use data::{BytesApart, Data, MoreWords};
+pub use data::{BytesApart, Data, MoreWords, known_length};
 pub use durations::Seconds;
 pub use front::{Identifiers, PageStart, Shapes};
 pub use help::{HelpHeading, Legend, Limits, Tail};
@@ -100,6 +105,8 @@ pub use refusal::Refusal;
 pub use reporter::report;
 pub use roles::{MessageRole, asked_at, begins_item, is_answer_role, is_request_role};
 pub use row::{Arrow, MessagePlace, Missing, SentMessage, SessionRow};
+pub use rule_words::{MessagesWord, RuleText, RulesEnd, RulesStart, RulesWord};
+pub use rules_style::RulesStyle;
 pub use session::KeptSession;
 pub use sessions::KeptSessions;
 pub use style::report_style;

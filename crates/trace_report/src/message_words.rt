@@ -41,10 +41,10 @@ impl<'a> Part for RoleWords<'a> {
     }
 }
 
-/// The note on a message of so many bytes: how many frames carry them, and how long after its request the first of them
-/// came, if it replies to one.
+/// The note on a message of so many bytes, where it is known how many it has: how many frames carry them, and how long after
+/// its request the first of them came, if it replies to one.
 #[derive(Clone, Copy)]
-pub struct Note(pub MessageRole, pub MessagePlace, pub u64);
+pub struct Note(pub MessageRole, pub MessagePlace, pub Option<u64>);
 
 impl Part for Note {
     ghost use Rattle.trace_report.specs.MessageRows.{note_text};
@@ -60,8 +60,8 @@ impl Part for Note {
                 out,
                 (
                     "<br><i>",
-                    Number(count),
-                    " bytes in ",
+                    CarriedWords(count),
+                    "in ",
                     Number(place.frames),
                     " frames",
                     FurtherNote(asked, first),
@@ -70,6 +70,22 @@ impl Part for Note {
             );
         } else if let Some(asked) = asked {
             say(out, (" <i>", After(asked, first), "</i>"));
+        }
+    }
+}
+
+/// How many bytes several frames carry, where that is known.
+#[derive(Clone, Copy)]
+struct CarriedWords(Option<u64>);
+
+impl Part for CarriedWords {
+    ghost use Rattle.trace_report.specs.MessageRows.{carried_words};
+
+    ghost text = { λ words. carried_words words.0 };
+
+    fn say<S: TextSink>(self, out: &mut S) {
+        if let Some(count) = self.0 {
+            say(out, (Number(count), " bytes "));
         }
     }
 }

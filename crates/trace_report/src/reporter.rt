@@ -19,6 +19,8 @@ use crate::follower::Follower;
 use crate::front::{Front, PageTitle};
 use crate::help::Help;
 use crate::refusal::StopLine;
+use crate::rule_counts::{RuleCounts, count_message, no_counts};
+use crate::rule_words::RulesSection;
 use crate::times::{Times, first_of, times_with};
 use crate::verdict::{Findings, RefusedVerdict, VerdictSection};
 use isotp_receive::Pair;
@@ -28,8 +30,8 @@ use trace_io::{Source, Target, TextSink};
 use trace_log::{Config, Fault, Summary};
 use trace_run::{Glimpse, Machine, NoAnswer, Seen, run_lenient};
 
-/// Reads a log and writes its session as a page of HTML, with this style and the name of the log: each row as its frame comes, and
-/// at the end the verdict, which the style shows first.
+/// Reads a log and writes its session as a page of HTML, with this style and the name of the log: each row as its frame comes, of
+/// what the rules leave of its message, and at the end the rules and the verdict, which the style shows first.
 ///
 /// The target is not flushed.
 pub fn report<R: Source, W: Target>(
@@ -57,10 +59,12 @@ pub fn report<R: Source, W: Target>(
             tester: config.tester(),
             unit: config.unit(),
             max_bytes: config.max_bytes(),
+            rules: config.rules(),
         },
         times: None,
         follower: Follower::start(),
         chart: Chart::start(),
+        spoken: no_counts(config.rules()),
     };
     run_lenient(alloc, config, machine, source, target)
 }
@@ -73,6 +77,8 @@ pub(crate) struct Reporter<'a> {
     pub times: Option<Times>,
     pub follower: Follower,
     pub chart: Chart,
+    /// Of how many messages each rule spoke.
+    pub spoken: RuleCounts,
 }
 
 impl<'a> Machine for Reporter<'a> {
@@ -104,8 +110,10 @@ impl<'a> Machine for Reporter<'a> {
         say_front_before(&self.title, self.times, out);
         let times = times_with(self.times, seen.micros);
         self.times = Some(times);
+        let rules = self.title.rules;
+        count_message(rules, seen.event.verdict, &mut self.spoken);
         let rows = self.follower.take(seen);
-        self.chart.say_rows(times.first, rows, out);
+        self.chart.say_rows(rules, times.first, rows, out);
         Ok(())
     }
 
@@ -120,12 +128,15 @@ impl<'a> Machine for Reporter<'a> {
             times,
             follower,
             mut chart,
+            spoken,
         } = self;
         say_front_before(&title, times, out);
-        chart.say_rows(first_of(times), follower.end(pair), out);
+        chart.say_rows(title.rules, first_of(times), follower.end(pair), out);
         let closing = PageEnd {
             blocks: chart.blocks,
             found: Findings {
+                rules: title.rules,
+                spoken: spoken.as_slice(),
                 tally: &chart.tally,
                 summary,
                 times,
@@ -147,6 +158,7 @@ impl<'a> Machine for Reporter<'a> {
             times,
             follower: _,
             chart,
+            spoken,
         } = self;
         say_front_before(&title, times, out);
         let closing = RefusedEnd {
@@ -154,6 +166,8 @@ impl<'a> Machine for Reporter<'a> {
             cause: cause_of(why, title.max_bytes, glimpse),
             blocks: chart.blocks,
             found: Findings {
+                rules: title.rules,
+                spoken: spoken.as_slice(),
                 tally: &chart.tally,
                 summary,
                 times,
@@ -191,6 +205,7 @@ impl<'a> Part for PageEnd<'a> {
             (
                 BlockEnd(self.blocks.count),
                 "</main>\n",
+                RulesSection(self.found.rules, self.found.spoken),
                 VerdictSection(self.found),
                 Help,
             ),
@@ -225,6 +240,7 @@ impl<'a> Part for RefusedEnd<'a> {
                 BlockEnd(self.blocks.count),
                 StopLine(self.why),
                 "</main>\n",
+                RulesSection(self.found.rules, self.found.spoken),
                 verdict,
                 Help,
             ),

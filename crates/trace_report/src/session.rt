@@ -3,16 +3,19 @@ ghost use Rattle.std.specs.Prelude.{◌≡◌};
 ghost use Rattle.trace_report.specs.proving.Lending.{first_of_times, last_of_times};
 
 use crate::kept_rows::KeptRows;
+use crate::rule_counts::RuleCounts;
 use crate::times::{Times, first_of, last_of};
 use std::marker::Model;
 use trace_log::Summary;
 
-/// What a log says, kept. Contracts see its rows, its counts, and the times of its first frame and its last one.
+/// What a log says, kept. Contracts see its rows, its counts, the times of its first frame and its last one, and of how many of
+/// its messages each rule spoke.
 #[derive(Debug, Drop)]
 pub struct KeptSession {
     rows: KeptRows,
     summary: Summary,
     times: Option<Times>,
+    spoken: RuleCounts,
 }
 
 impl Model for KeptSession {
@@ -21,21 +24,29 @@ impl Model for KeptSession {
 
     ghost Value = { SessionValue };
 
-    ghost view = { λ s. record { rows = s.rows; summary = s.summary; first = first_of_times s.times; last = last_of_times s.times } };
+    ghost view = { λ s. record { rows = s.rows; summary = s.summary; first = first_of_times s.times; last = last_of_times s.times; spoken = s.spoken.items } };
 }
 
 impl KeptSession {
-    /// What is kept of a log: its rows, its counts, and the times of its first frame and its last one, if it has frames.
-    pub(crate) fn of(rows: KeptRows, summary: Summary, times: Option<Times>) -> KeptSession
+    /// What is kept of a log: its rows, its counts, the times of its first frame and its last one, if it has frames, and of how
+    /// many messages each rule spoke.
+    pub(crate) fn of(
+        rows: KeptRows,
+        summary: Summary,
+        times: Option<Times>,
+        spoken: RuleCounts,
+    ) -> KeptSession
         ensures rows { result.rows ≡ rows }
         ensures summary { result.summary ≡ summary }
         ensures first { result.first ≡ first_of_times times }
         ensures last { result.last ≡ last_of_times times }
+        ensures spoken { result.spoken ≡ spoken.items }
     {
         KeptSession {
             rows,
             summary,
             times,
+            spoken,
         }
     }
 
@@ -65,5 +76,12 @@ impl KeptSession {
         ensures { result ≡ self.now.last }
     {
         last_of(self.times)
+    }
+
+    /// Of how many of its messages each rule spoke, in the order of the rules.
+    pub fn spoken(&self) -> &[u64]
+        ensures { result.now ≡ self.now.spoken }
+    {
+        self.spoken.as_slice()
     }
 }

@@ -16,10 +16,14 @@ use text_parts::{Either, Part, say};
 use trace_io::TextSink;
 use trace_log::{Fault, Summary};
 use trace_text::Stamp;
+use uds_rules::Rules;
 
-/// What was found of a log: the tally of its rows, its counts, and the times of its first frame and its last one.
+/// What was found of a log: the rules that it is under, of how many messages each spoke, the tally of its rows, its counts, and
+/// the times of its first frame and its last one.
 #[derive(Clone, Copy)]
 pub(crate) struct Findings<'a> {
+    pub rules: &'a Rules,
+    pub spoken: &'a [u64],
     pub tally: &'a Tally,
     pub summary: &'a Summary,
     pub times: Option<Times>,
@@ -79,6 +83,7 @@ impl<'a> Part for Findings<'a> {
             tally,
             summary,
             times,
+            ..
         } = self;
         say(
             out,

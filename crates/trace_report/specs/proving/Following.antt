@@ -6,7 +6,7 @@ use Rattle.direction.specs.declared.Dir.TheVariants.{Tester, Unit}
 use Rattle.isotp_receive.specs.declared.TheConstants.{MESSAGE_LIMIT}
 use Rattle.isotp_receive.specs.StandingReception.{StandingReception, stands}
 use Rattle.isotp_receive.specs.Trace.{Entry, same_direction}
-use Rattle.isotp_receive.specs.Verdict.{EventValue, VerdictValue, message, began, stored, flowed, dropped}
+use Rattle.isotp_receive.specs.Verdict.{EventValue, VerdictValue, message, began, stored, flowed, dropped, messages}
 use Rattle.uds_exchange.specs.Judging.{one_more, step_after}
 use Rattle.uds_exchange.specs.Judging.{open_number_if_any}
 use Rattle.uds_exchange.specs.Order.{open_request}
@@ -21,6 +21,7 @@ use Rattle.trace_report.specs.Front.{PageTitleValue}
 use Rattle.trace_report.specs.Page.{last_time}
 use Rattle.trace_report.specs.Rows.{RowValue, row_of}
 use Rattle.trace_report.specs.Rows as row
+use Rattle.trace_report.specs.RuleWords.{spoken_counts}
 use Rattle.trace_report.specs.Sorts.{tally_of}
 use Rattle.trace_report.specs.declared.chart.Chart.{Chart}
 use Rattle.trace_report.specs.declared.extents.ReceptionExtents.{ReceptionExtents}
@@ -132,3 +133,4 @@ pub record Reports (rules : List RuleValue) (title : PageTitleValue) (T : List E
   pub times : reporter.times ≡ times_of T
   pub follows : Follows rules T reporter.follower
   pub chart : IsChartOf (rows_of MESSAGE_LIMIT rules T) reporter.chart
+  pub spoken : reporter.spoken.items ≡ spoken_counts title.rules (messages MESSAGE_LIMIT T)

@@ -29,8 +29,9 @@ returns-clause-ok g c = λ rules start T e seen known.
         follows = c.take-rows.ensures.next rules T e seen known.follows;
         chart =
             subst (λ (l : List RowValue). IsChartOf l c.say_rows.new.self) (ap (λ l. rows_of MESSAGE_LIMIT rules T ++ l) rows ∙ sym (rows_next MESSAGE_LIMIT rules T e)) chart;
+        spoken = spoken_next rules T e c.args.seen title.rules _ _ seen title_is c.count_message.ensures known.spoken;
       },
       g.met.S.TextSink.onward _ _ _ _ _ front
           (subst (λ text. g.S.TextSink.says c.say_front_before.new.out text c.say_rows.new.out)
-          (λ i. rows_text (origin i) (blocks_of (rows_of MESSAGE_LIMIT rules T)) (rows i)) (c.say_rows.ensures.says (rows_of MESSAGE_LIMIT rules T) low known.chart)),
+          (λ i. rows_text c.args.self.title.rules.now (origin i) (blocks_of (rows_of MESSAGE_LIMIT rules T)) (rows i)) (c.say_rows.ensures.says (rows_of MESSAGE_LIMIT rules T) low known.chart)),
     )

@@ -1,0 +1,179 @@
+//! What a page says of the rules that it is under.
+use text_parts::{Either, Part, say};
+use trace_io::TextSink;
+use trace_text::{HexBytes, Number};
+use uds_rules::{Deed, Mask, Rule, Rules};
+
+/// What a page of a log says above its verdict of the rules that it is under, with these counts of messages: nothing, where
+/// there are none.
+#[derive(Clone, Copy)]
+pub(crate) struct RulesSection<'a>(pub &'a Rules, pub &'a [u64]);
+
+impl<'a> Part for RulesSection<'a> {
+    ghost use Rattle.trace_report.specs.RuleWords.{rules_text};
+
+    ghost text = { λ section. rules_text section.0.now section.1.now };
+
+    fn say<S: TextSink>(self, out: &mut S) {
+        let rules = self.0.as_slice();
+        if !rules.is_empty() {
+            say(
+                out,
+                (
+                    RulesStart(rules.len() as u64),
+                    RuleLines(rules, self.1),
+                    RulesEnd,
+                ),
+            );
+        }
+    }
+}
+
+/// The start of what a page says of so many rules.
+#[derive(Clone, Copy)]
+pub struct RulesStart(pub u64);
+
+impl Part for RulesStart {
+    ghost use Rattle.trace_report.specs.RuleWords.{rules_start};
+
+    ghost text = { λ start. rules_start start.0 };
+
+    fn say<S: TextSink>(self, out: &mut S) {
+        say(
+            out,
+            (
+                "<section id=\"rules\">\n<h2>Under ",
+                RulesWord(self.0),
+                "</h2>\n",
+                "<p>Messages that begin so are left out, or masked, before anything else is made of them.</p>\n<ul>\n",
+            ),
+        );
+    }
+}
+
+/// The end of it.
+#[derive(Clone, Copy)]
+pub struct RulesEnd;
+
+impl Part for RulesEnd {
+    ghost use Rattle.trace_report.specs.RuleWords.{rules_end};
+
+    ghost text = { λ end. rules_end };
+
+    fn say<S: TextSink>(self, out: &mut S) {
+        say(out, "</ul>\n</section>\n");
+    }
+}
+
+/// So many rules.
+#[derive(Clone, Copy)]
+pub struct RulesWord(pub u64);
+
+impl Part for RulesWord {
+    ghost use Rattle.trace_report.specs.RuleWords.{rules_word};
+
+    ghost text = { λ word. rules_word word.0 };
+
+    fn say<S: TextSink>(self, out: &mut S) {
+        let several = (Number(self.0), " rules");
+        say(out, Either(self.0 == 1, "1 rule", several));
+    }
+}
+
+/// So many messages.
+#[derive(Clone, Copy)]
+pub struct MessagesWord(pub u64);
+
+impl Part for MessagesWord {
+    ghost use Rattle.trace_report.specs.RuleWords.{messages_word};
+
+    ghost text = { λ word. messages_word word.0 };
+
+    fn say<S: TextSink>(self, out: &mut S) {
+        let several = (Number(self.0), " messages");
+        say(out, Either(self.0 == 1, "1 message", several));
+    }
+}
+
+/// Each rule in its order, and of how many messages of the log it spoke.
+#[derive(Clone, Copy)]
+struct RuleLines<'a>(&'a [Rule], &'a [u64]);
+
+impl<'a> Part for RuleLines<'a> {
+    ghost use Rattle.trace_report.specs.RuleWords.{rule_lines};
+
+    ghost text = { λ lines. rule_lines lines.0.now lines.1.now };
+
+    fn say<S: TextSink>(self, out: &mut S) {
+        let RuleLines(rules, counts) = self;
+        let mut rest = counts;
+        'rules: for rule in rules {
+            let Some((count, others)) = rest.split_first() else {
+                return;
+            };
+            say(out, RuleLine(rule, *count));
+            rest = others;
+        }
+    }
+}
+
+/// A rule, and of how many messages of the log it spoke.
+#[derive(Clone, Copy)]
+struct RuleLine<'a>(&'a Rule, u64);
+
+impl<'a> Part for RuleLine<'a> {
+    ghost use Rattle.trace_report.specs.RuleWords.{rule_line};
+
+    ghost text = { λ line. rule_line line.0.now line.1 };
+
+    fn say<S: TextSink>(self, out: &mut S) {
+        let RuleLine(rule, count) = self;
+        say(
+            out,
+            (
+                "<li><code>",
+                RuleText(rule),
+                "</code>: ",
+                MessagesWord(count),
+                "\n",
+            ),
+        );
+    }
+}
+
+/// A rule, as a profile has it, its digits in upper case.
+#[derive(Clone, Copy)]
+pub struct RuleText<'a>(pub &'a Rule);
+
+impl<'a> Part for RuleText<'a> {
+    ghost use Rattle.trace_report.specs.RuleWords.{rule_text};
+
+    ghost text = { λ rule. rule_text rule.0.now };
+
+    fn say<S: TextSink>(self, out: &mut S) {
+        let prefix = HexBytes(self.0.prefix().bytes());
+        match self.0.deed() {
+            Deed::Drop => say(out, ("drop ", prefix)),
+            Deed::Mask(mask) => say(out, ("mask ", prefix, MaskText(mask))),
+        }
+    }
+}
+
+/// A mask, as a profile has it behind the prefix.
+#[derive(Clone, Copy)]
+struct MaskText(Mask);
+
+impl Part for MaskText {
+    ghost use Rattle.uds_rules.specs.Pattern.{mask_text};
+
+    ghost text = { λ mask. mask_text mask.0 };
+
+    fn say<S: TextSink>(self, out: &mut S) {
+        let mut left = self.0;
+        'places: while let Some((is_masked, behind)) = left.split_first() {
+            say(out, Either(is_masked, "..", "??"));
+            left = behind;
+        }
+        say(out, Either(left.cuts(), "*", ""));
+    }
+}
