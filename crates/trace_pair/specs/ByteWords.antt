@@ -1,25 +1,32 @@
 -- How two messages differ, in words.
-use Rattle.std.specs.Prelude.{ℕ, ◌+◌, ◌-◌, ◌==◌, ◌&&◌, Bool, List, [], ◌++◌, codes, drop, length, min, nat_le, nat_lt, take, Option, Some, None, slice_get, if◌then◌else◌}
+use Rattle.std.specs.Prelude.{ℕ, ◌+◌, ◌-◌, ◌==◌, ◌&&◌, Bool, List, [], ◌++◌, codes, length, min, nat_le, nat_lt, Option, Some, None, slice_get, if◌then◌else◌}
 use Rattle.std.specs.Fmt.{decimal}
 use Rattle.std.specs.List.{position_or_len}
-use Rattle.can_log.specs.Digits.{hexadecimal}
 use Rattle.byte_columns.specs.declared.column.Column.{Column}
 use Rattle.byte_columns.specs.Columns.{beside, differing, differs}
-use Rattle.trace_report.specs.Data.{bytes_apart}
+use Rattle.trace_text.specs.RuledText.{place_text}
+use Rattle.trace_report.specs.Data.{mark_at, piece_text}
+use Rattle.uds_rules.specs.Rule.{RuleValue}
 use Rattle.trace_pair.specs.declared.log.PairLog.{PairLog}
 use Rattle.trace_pair.specs.declared.log.PairLog.TheVariants.{A, B}
 use Rattle.trace_pair.specs.Logs.{letter}
 
--- the byte that a log has in a column
-abbrev pub byte_name : Option ℕ → List ℕ
-byte_name None = codes "no byte"
-byte_name (Some byte) = codes "<b>" ++ hexadecimal 2 byte ++ codes "</b>"
+-- the byte that a log has in a column, which is masked or is not
+abbrev pub byte_name : Bool → Option ℕ → List ℕ
+byte_name is_masked None = codes "no byte"
+byte_name is_masked (Some byte) = codes "<b>" ++ place_text is_masked byte ++ codes "</b>"
 
--- the first column that differs, by its number
-abbrev pub first_words : ℕ → Option Column → List ℕ
-first_words place None = []
-first_words place (Some here) =
-    codes " byte " ++ decimal (place + 1) ++ codes ": " ++ byte_name here.left ++ codes " in A, " ++ byte_name here.right ++ codes " in B"
+-- the first column that differs, by its number, where the byte of a log is masked or is not
+abbrev pub first_words_by : Bool → Bool → ℕ → Option Column → List ℕ
+first_words_by left_masked right_masked place None = []
+first_words_by left_masked right_masked place (Some here) =
+    codes " byte " ++ decimal (place + 1) ++ codes ": " ++ byte_name left_masked here.left ++ codes " in A, "
+    ++ byte_name right_masked here.right ++ codes " in B"
+
+-- the first column of two messages that differs: up to there both have the same bytes, so the bytes that they have there
+-- stand at that place of each
+abbrev pub first_words : List RuleValue → List ℕ → List ℕ → ℕ → Option Column → List ℕ
+first_words rules xs ys place here = first_words_by (mark_at rules xs place) (mark_at rules ys place) place here
 
 -- how many more columns differ, where so many do
 abbrev pub others_words : ℕ → List ℕ
@@ -31,8 +38,10 @@ abbrev pub lengths_words : ℕ → ℕ → List ℕ
 lengths_words left right = if left == right then [] else codes "; " ++ decimal left ++ (if left == 1 then codes " byte in A, " else codes " bytes in A, ") ++ decimal right ++ codes " in B"
 
 -- where two messages differ: at which byte first, what both have there, and how many more bytes differ
-abbrev pub both_words : List Column → List ℕ
-both_words columns = first_words (position_or_len differs columns) (slice_get columns (position_or_len differs columns)) ++ others_words (differing columns)
+abbrev pub both_words : List RuleValue → List ℕ → List ℕ → List Column → List ℕ
+both_words rules xs ys columns =
+    first_words rules xs ys (position_or_len differs columns) (slice_get columns (position_or_len differs columns))
+    ++ others_words (differing columns)
 
 -- so many bytes that one message has alone are told
 abbrev pub told_alone : ℕ
@@ -49,21 +58,21 @@ abbrev pub untold_words : ℕ → List ℕ
 untold_words count = if nat_le count told_alone then [] else codes " and " ++ decimal (count - told_alone) ++ codes " more"
 
 -- so many bytes that one log has alone, from this place of its message on
-abbrev pub alone_words : PairLog → ℕ → ℕ → List ℕ → List ℕ
-alone_words log count place bytes =
-    alone_where log count place ++ codes "<b>" ++ bytes_apart (take (min count told_alone) (drop place bytes)) ++ codes "</b>" ++ untold_words count
+abbrev pub alone_words : List RuleValue → PairLog → ℕ → ℕ → List ℕ → List ℕ
+alone_words rules log count place bytes =
+    alone_where log count place ++ codes "<b>" ++ piece_text rules bytes place (min count told_alone) ++ codes "</b>" ++ untold_words count
 
 -- a message has bytes that the other one, which is shorter, has not; and else they are the same, where so many columns differ
 abbrev pub has_alone : List ℕ → List ℕ → ℕ → Bool
 has_alone own other count = nat_lt (length other) (length own) && count == length own - length other
 
 -- where two messages differ: one has bytes more than the other, or they are others
-abbrev pub where_words : List ℕ → List ℕ → List Column → List ℕ
-where_words xs ys columns =
-    if has_alone xs ys (differing columns) then alone_words A (differing columns) (position_or_len differs columns) xs
-    else if has_alone ys xs (differing columns) then alone_words B (differing columns) (position_or_len differs columns) ys
-    else both_words columns
+abbrev pub where_words : List RuleValue → List ℕ → List ℕ → List Column → List ℕ
+where_words rules xs ys columns =
+    if has_alone xs ys (differing columns) then alone_words rules A (differing columns) (position_or_len differs columns) xs
+    else if has_alone ys xs (differing columns) then alone_words rules B (differing columns) (position_or_len differs columns) ys
+    else both_words rules xs ys columns
 
--- how two messages differ: where, and how long they are
-abbrev pub byte_words : List ℕ → List ℕ → List ℕ
-byte_words xs ys = where_words xs ys (beside xs ys) ++ lengths_words (length xs) (length ys)
+-- how two messages that rules have left differ: where, and how long they are
+abbrev pub byte_words : List RuleValue → List ℕ → List ℕ → List ℕ
+byte_words rules xs ys = where_words rules xs ys (beside xs ys) ++ lengths_words (length xs) (length ys)

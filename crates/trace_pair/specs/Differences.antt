@@ -24,7 +24,7 @@ first_unlisted = listed_differences + 1
 -- the change of a number in a line, with a link to it
 abbrev pub difference_line : SessionValue → SessionValue → ℕ → Change → List ℕ
 difference_line left right number here =
-    codes "<li>" ++ change_line true number (is_lossy A left here) (is_lossy B right here) (values_in left) (values_in right) here ++ codes "\n"
+    codes "<li>" ++ change_line left.rules true number (is_lossy A left here) (is_lossy B right here) (values_in left) (values_in right) here ++ codes "\n"
 
 -- the start of the fold of so many differences more than stand in the open
 abbrev pub more_start : ℕ → List ℕ

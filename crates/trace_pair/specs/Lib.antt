@@ -11,6 +11,7 @@ pub mod MemoryNeeded
 pub mod Losses
 pub mod ChangeWords
 pub mod Verdict
+pub mod PairRules
 pub mod Recordings
 pub mod Widths
 pub mod Differences

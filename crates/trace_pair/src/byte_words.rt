@@ -1,5 +1,5 @@
 //! How two messages differ, in words.
-ghost use Rattle.std.specs.Prelude.{◌≡◌, drop, slice_get, take};
+ghost use Rattle.std.specs.Prelude.{◌≡◌, slice_get};
 ghost use Rattle.byte_columns.specs.Columns.{differing};
 ghost use Rattle.trace_pair.specs.ByteWords as Spec;
 
@@ -7,25 +7,26 @@ use crate::log::PairLog;
 use byte_columns::{ByteColumns, Column};
 use text_parts::{Either, Part, say};
 use trace_io::TextSink;
-use trace_report::BytesApart;
+use trace_report::{Piece, is_masked_at};
 use trace_text::{Byte, Number, Ordinal};
+use uds_rules::Rules;
 
 /// So many bytes that one message has alone are told.
 const TOLD: usize = 8;
 
 /// How two messages differ.
 #[derive(Clone, Copy)]
-pub(crate) struct ByteWords<'a>(pub &'a [u8], pub &'a [u8]);
+pub(crate) struct ByteWords<'a>(pub &'a Rules, pub &'a [u8], pub &'a [u8]);
 
 impl<'a> Part for ByteWords<'a> {
     ghost use Rattle.trace_pair.specs.ByteWords.{byte_words};
 
-    ghost text = { λ words. byte_words words.0.now words.1.now };
+    ghost text = { λ words. byte_words words.0.now words.1.now words.2.now };
 
     fn say<S: TextSink>(self, out: &mut S) {
-        let ByteWords(left, right) = self;
+        let ByteWords(rules, left, right) = self;
         let columns = ByteColumns::of(left, right);
-        say_where(left, right, &columns, out);
+        say_where(rules, left, right, &columns, out);
         say(
             out,
             LengthsWords {
@@ -37,8 +38,14 @@ impl<'a> Part for ByteWords<'a> {
 }
 
 /// Says where two messages differ: one has bytes more than the other, or they are others.
-fn say_where<S: TextSink>(left: &[u8], right: &[u8], columns: &ByteColumns<'_>, out: &mut S)
-    ensures { S.says out.old (Spec.where_words left.now right.now columns.now) out.new }
+fn say_where<S: TextSink>(
+    rules: &Rules,
+    left: &[u8],
+    right: &[u8],
+    columns: &ByteColumns<'_>,
+    out: &mut S,
+)
+    ensures { S.says out.old (Spec.where_words rules.now left.now right.now columns.now) out.new }
 {
     let count = count_differing(columns);
     let place = columns.first_differing();
@@ -46,6 +53,7 @@ fn say_where<S: TextSink>(left: &[u8], right: &[u8], columns: &ByteColumns<'_>, 
         say(
             out,
             AloneWords {
+                rules,
                 log: PairLog::A,
                 count,
                 place,
@@ -56,6 +64,7 @@ fn say_where<S: TextSink>(left: &[u8], right: &[u8], columns: &ByteColumns<'_>, 
         say(
             out,
             AloneWords {
+                rules,
                 log: PairLog::B,
                 count,
                 place,
@@ -64,7 +73,13 @@ fn say_where<S: TextSink>(left: &[u8], right: &[u8], columns: &ByteColumns<'_>, 
         );
     } else {
         let here = column_at(columns, place);
-        say(out, (FirstWords(place, here), OthersWords(count)));
+        let first = FirstWords {
+            place,
+            left_masked: is_masked_at(rules, left, place),
+            right_masked: is_masked_at(rules, right, place),
+            here,
+        };
+        say(out, (first, OthersWords(count)));
     }
 }
 
@@ -86,6 +101,7 @@ fn has_alone(own: &[u8], other: &[u8], count: usize) -> bool
 /// So many bytes that one log has alone, from a place of its message on.
 #[derive(Clone, Copy)]
 struct AloneWords<'a> {
+    rules: &'a Rules,
     log: PairLog,
     count: usize,
     place: usize,
@@ -95,10 +111,11 @@ struct AloneWords<'a> {
 impl<'a> Part for AloneWords<'a> {
     ghost use Rattle.trace_pair.specs.ByteWords.{alone_words};
 
-    ghost text = { λ words. alone_words words.log words.count words.place words.bytes.now };
+    ghost text = { λ words. alone_words words.rules.now words.log words.count words.place words.bytes.now };
 
     fn say<S: TextSink>(self, out: &mut S) {
         let AloneWords {
+            rules,
             log,
             count,
             place,
@@ -109,20 +126,17 @@ impl<'a> Part for AloneWords<'a> {
             (
                 AloneWhere { log, count, place },
                 "<b>",
-                BytesApart(piece(bytes, place, count.min(TOLD))),
+                Piece {
+                    rules,
+                    message: bytes,
+                    place,
+                    count: count.min(TOLD),
+                },
                 "</b>",
                 UntoldWords(count),
             ),
         );
     }
-}
-
-/// So many bytes of a message from a place on, if it has so many.
-fn piece(bytes: &[u8], place: usize, count: usize) -> &[u8]
-    ensures { result.now ≡ take count (drop place bytes.now) }
-{
-    let behind = &bytes[place.min(bytes.len())..];
-    &behind[..count.min(behind.len())]
 }
 
 /// Where so many bytes stand that one log has alone, from a place of its message on.
@@ -181,26 +195,31 @@ fn column_at(columns: &ByteColumns<'_>, place: usize) -> Option<Column>
     }
 }
 
-/// The first column that differs, at this place.
+/// The first column that differs, at this place, where the byte of a log is masked or is not.
 #[derive(Clone, Copy)]
-struct FirstWords(usize, Option<Column>);
+struct FirstWords {
+    place: usize,
+    left_masked: bool,
+    right_masked: bool,
+    here: Option<Column>,
+}
 
 impl Part for FirstWords {
-    ghost use Rattle.trace_pair.specs.ByteWords.{first_words};
+    ghost use Rattle.trace_pair.specs.ByteWords.{first_words_by};
 
-    ghost text = { λ words. first_words words.0 words.1 };
+    ghost text = { λ words. first_words_by words.left_masked words.right_masked words.place words.here };
 
     fn say<S: TextSink>(self, out: &mut S) {
-        if let Some(here) = self.1 {
+        if let Some(here) = self.here {
             say(
                 out,
                 (
                     " byte ",
-                    Ordinal(self.0),
+                    Ordinal(self.place),
                     ": ",
-                    ByteName(here.left),
+                    ByteName(self.left_masked, here.left),
                     " in A, ",
-                    ByteName(here.right),
+                    ByteName(self.right_masked, here.right),
                     " in B",
                 ),
             );
@@ -208,18 +227,19 @@ impl Part for FirstWords {
     }
 }
 
-/// The byte that a log has in a column.
+/// The byte that a log has in a column, which is masked or is not.
 #[derive(Clone, Copy)]
-struct ByteName(Option<u8>);
+struct ByteName(bool, Option<u8>);
 
 impl Part for ByteName {
     ghost use Rattle.trace_pair.specs.ByteWords.{byte_name};
 
-    ghost text = { λ name. byte_name name.0 };
+    ghost text = { λ name. byte_name name.0 name.1 };
 
     fn say<S: TextSink>(self, out: &mut S) {
-        match self.0 {
-            Some(byte) => say(out, ("<b>", Byte(byte), "</b>")),
+        let ByteName(is_masked, byte) = self;
+        match byte {
+            Some(byte) => say(out, ("<b>", Either(is_masked, "..", Byte(byte)), "</b>")),
             None => say(out, "no byte"),
         }
     }

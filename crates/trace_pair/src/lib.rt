@@ -23,6 +23,7 @@
 //! | two messages byte under byte, in the columns of `byte_columns` | `column_cells`, `column_counts`, `column_words`, `column_lines` | `ColumnLines` |
 //! | how two items differ, in a sentence | `byte_words`, `differ_words` | `ByteWords`, `ItemWords` |
 //! | what stands before the verdict, and behind all | `style`, `title`, `front`, `help` | `Style`, `Titles`, `Page`, `Help` |
+//! | the rules that the page is under | `pair_rules` | `PairRules` |
 //! | the verdict | `lossy_changes`, `same_words`, `verdict_words`, `verdict` | `Verdict` |
 //! | what was found of each log | `dates`, `recordings` | `Recordings` |
 //! | the list of the differences, and what links to them name | `difference_names`, `change_words`, `differences` | `DifferenceNames`, `ChangeWords`, `Differences` |
@@ -67,6 +68,7 @@ mod lossy_changes;
 mod outcome;
 mod page;
 mod pair_bytes;
+mod pair_rules;
 mod recordings;
 mod same_words;
 mod sessions;

@@ -4,7 +4,7 @@ mod Steps
 mod FrameCounting
 mod Meeting
 mod SpokenCounts
-mod Marks
+mod MarkedBytes
 mod HowKept
 mod BytesBehind
 mod WordPlaces

@@ -60,6 +60,24 @@ abbrev pub all_bytes_by : Option (MaskValue × ℕ) → List ℕ → List ℕ
 all_bytes_by None bytes = bytes_apart bytes
 all_bytes_by (Some found) bytes = marked_apart (marks_of found) bytes ++ cut_mark found bytes
 
+-- whether the byte at a place of a message is masked, which has a mask or has none
+abbrev pub mark_by : Option (MaskValue × ℕ) → ℕ → Bool
+mark_by None place = false
+mark_by (Some found) place = is_marked (drop place (marks_of found))
+
+-- whether the byte at a place of a message that rules have left is masked
+abbrev pub mark_at : List RuleValue → List ℕ → ℕ → Bool
+mark_at rules bytes place = mark_by (mask_of rules bytes) place
+
+-- so many bytes of a message from a place on, which has a mask or has none
+abbrev pub piece_by : Option (MaskValue × ℕ) → List ℕ → ℕ → ℕ → List ℕ
+piece_by None bytes place count = bytes_apart (take count (drop place bytes))
+piece_by (Some found) bytes place count = marked_apart (drop place (marks_of found)) (take count (drop place bytes))
+
+-- so many bytes of a message that rules have left, from a place on
+abbrev pub piece_text : List RuleValue → List ℕ → ℕ → ℕ → List ℕ
+piece_text rules bytes place count = piece_by (mask_of rules bytes) bytes place count
+
 -- How much is shown.
 
 -- all bytes of a message are shown where these are not more

@@ -8,13 +8,14 @@ use Rattle.trace_report.specs.Page.{all_rows, first_time, last_time}
 use Rattle.trace_report.specs.Rows.{RowValue}
 use Rattle.trace_report.specs.RuleWords.{spoken_counts}
 
--- What a log says: its rows, its counts, the times of its first frame and of its last one, and of how many of its messages
--- each rule spoke.
+-- What a log says: its rows, its counts, the times of its first frame and of its last one, the rules that it is under, and of
+-- how many of its messages each spoke.
 pub record SessionValue : Type 0 where
   pub rows : List RowValue
   pub summary : Summary
   pub first : ℕ
   pub last : ℕ
+  pub rules : List RuleValue
   pub spoken : List ℕ
 
 -- what a log says under rules that means this trace and has these counts
@@ -24,5 +25,6 @@ session_of limit rules T summary = record {
   summary = summary;
   first = first_time T;
   last = last_time 0 T;
+  rules = rules;
   spoken = spoken_counts rules (messages limit T);
 }

@@ -1,5 +1,5 @@
 //! The bytes of messages that rules have left, as far as rows show them.
-ghost use Rattle.std.specs.Prelude.{◌≡◌, ◌<◌, ◌≤◌, length, take};
+ghost use Rattle.std.specs.Prelude.{◌≡◌, ◌<◌, ◌≤◌, drop, length, take};
 ghost use Rattle.trace_report.specs.Data as Spec;
 ghost use Rattle.trace_report.specs.Data.{bytes_behind, marked_brief, marked_data};
 
@@ -81,7 +81,7 @@ fn eight_behind(bytes: &[u8; 8]) -> [u8; 24]
 
 /// Two digits for each byte, and a blank between.
 #[derive(Clone, Copy)]
-pub struct BytesApart<'a>(pub &'a [u8]);
+struct BytesApart<'a>(pub &'a [u8]);
 
 impl<'a> Part for BytesApart<'a> {
     ghost use Rattle.trace_report.specs.Data.{bytes_apart};
@@ -98,13 +98,13 @@ impl<'a> Part for BytesApart<'a> {
 
 /// Two digits for each byte, or `..` where it is masked, and a blank between.
 #[derive(Clone, Copy)]
-struct MarkedApart<'a>(Marks, &'a [u8]);
+struct MarkedApart<'a>(&'a Marks, &'a [u8]);
 
 impl<'a> Part for MarkedApart<'a> {
     ghost use Rattle.trace_report.specs.Data.{marked_apart};
     ghost use Rattle.trace_report.specs.proving.Marking.{marks_in};
 
-    ghost text = { λ bytes. marked_apart (marks_in bytes.0) bytes.1.now };
+    ghost text = { λ bytes. marked_apart (marks_in bytes.0.now) bytes.1.now };
 
     fn say<S: TextSink>(self, out: &mut S) {
         let MarkedApart(marks, bytes) = self;
@@ -114,7 +114,7 @@ impl<'a> Part for MarkedApart<'a> {
                 out,
                 (
                     Either(is_masked, "..", Byte(*first)),
-                    MarkedBehind(behind, rest),
+                    MarkedBehind(&behind, rest),
                 ),
             );
         }
@@ -123,17 +123,17 @@ impl<'a> Part for MarkedApart<'a> {
 
 /// A blank and two digits for each byte, or `..` where it is masked.
 #[derive(Clone, Copy)]
-struct MarkedBehind<'a>(Marks, &'a [u8]);
+struct MarkedBehind<'a>(&'a Marks, &'a [u8]);
 
 impl<'a> Part for MarkedBehind<'a> {
     ghost use Rattle.trace_report.specs.Data.{marked_behind};
     ghost use Rattle.trace_report.specs.proving.Marking.{marks_in};
 
-    ghost text = { λ bytes. marked_behind (marks_in bytes.0) bytes.1.now };
+    ghost text = { λ bytes. marked_behind (marks_in bytes.0.now) bytes.1.now };
 
     fn say<S: TextSink>(self, out: &mut S) {
         let MarkedBehind(all_marks, bytes) = self;
-        let mut marks = all_marks;
+        let mut marks = *all_marks;
         let mut rest = bytes;
         'bytes: while let Some((first, others)) = rest.split_first() {
             let (is_masked, behind) = marks.split_first();
@@ -151,19 +151,57 @@ fn ends_cut(mask: Mask, start: usize, message: &[u8]) -> bool
     mask.cuts() && message.len().saturating_sub(start) == mask.len()
 }
 
-/// What stands behind the last byte of a message with this mask from this place on.
+/// Whether the byte at a place of a message that rules have left is masked.
+pub fn is_masked_at(rules: &Rules, message: &[u8], place: usize) -> bool
+    ensures { result ≡ Spec.mark_at rules.now message.now place }
+{
+    match rules.mask_of(message) {
+        Some((mask, start)) => {
+            let (is_masked, _behind) = Marks::of(mask, start).skip(place).split_first();
+            is_masked
+        }
+        None => false,
+    }
+}
+
+/// So many bytes of a message that rules have left, from a place on, if it has so many: `..` stands for each that they mask.
 #[derive(Clone, Copy)]
-struct CutMark<'a>(Mask, usize, &'a [u8]);
+pub struct Piece<'a> {
+    pub rules: &'a Rules,
+    pub message: &'a [u8],
+    pub place: usize,
+    pub count: usize,
+}
 
-impl<'a> Part for CutMark<'a> {
-    ghost use Rattle.trace_report.specs.Data.{cut_mark};
+impl<'a> Part for Piece<'a> {
+    ghost use Rattle.trace_report.specs.Data.{piece_text};
 
-    ghost text = { λ mark. cut_mark (mark.0, mark.1) mark.2.now };
+    ghost text = { λ piece. piece_text piece.rules.now piece.message.now piece.place piece.count };
 
     fn say<S: TextSink>(self, out: &mut S) {
-        let CutMark(mask, start, message) = self;
-        say(out, When(ends_cut(mask, start, message), " *"));
+        let Piece {
+            rules,
+            message,
+            place,
+            count,
+        } = self;
+        let bytes = bytes_from(message, place, count);
+        match rules.mask_of(message) {
+            Some((mask, start)) => {
+                let marks = Marks::of(mask, start).skip(place);
+                say(out, MarkedApart(&marks, bytes));
+            }
+            None => say(out, BytesApart(bytes)),
+        }
     }
+}
+
+/// So many bytes of a message from a place on, if it has so many.
+fn bytes_from(message: &[u8], place: usize, count: usize) -> &[u8]
+    ensures { result.now ≡ take count (drop place message.now) }
+{
+    let behind = &message[place.min(message.len())..];
+    &behind[..count.min(behind.len())]
 }
 
 /// How many bytes a message had that rules have left, where they cut off none.
@@ -205,13 +243,13 @@ fn say_marked_data<S: TextSink>(mask: Mask, start: usize, message: &[u8], out: &
     ensures { S.says out.old (marked_data (mask, start) message.now) out.new }
 {
     let marks = Marks::of(mask, start);
-    let cut = CutMark(mask, start, message);
+    let cut = When(ends_cut(mask, start, message), " *");
     if message.len() <= MOST_SHOWN {
         say(
             out,
             (
                 "<code>",
-                (MarkedApart(marks, message), cut),
+                (MarkedApart(&marks, message), cut),
                 "</code>",
                 LettersText(message),
             ),
@@ -219,9 +257,10 @@ fn say_marked_data<S: TextSink>(mask: Mask, start: usize, message: &[u8], out: &
     } else {
         let (front, rest) = message.split_at(SHOWN_FIRST);
         let more = Number(rest.len() as u64);
-        let first = MarkedApart(marks, front);
+        let first = MarkedApart(&marks, front);
         if message.len() <= MOST_FOLDED {
-            let behind = MarkedApart(marks.skip(SHOWN_FIRST), rest);
+            let later = marks.skip(SHOWN_FIRST);
+            let behind = MarkedApart(&later, rest);
             say(
                 out,
                 (
@@ -329,15 +368,15 @@ fn say_marked_brief<S: TextSink>(mask: Mask, start: usize, message: &[u8], out: 
 {
     let marks = Marks::of(mask, start);
     if message.len() <= SHOWN_FIRST {
-        let cut = CutMark(mask, start, message);
-        say(out, (MarkedApart(marks, message), cut));
+        let cut = When(ends_cut(mask, start, message), " *");
+        say(out, (MarkedApart(&marks, message), cut));
     } else {
         let (front, rest) = message.split_at(SHOWN_FIRST);
         let more = rest.len() as u64;
         say(
             out,
             (
-                MarkedApart(marks, front),
+                MarkedApart(&marks, front),
                 " and ",
                 Number(more),
                 MoreWords(more),

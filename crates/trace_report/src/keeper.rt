@@ -7,7 +7,6 @@ ghost use Rattle.trace_canon.specs.Compared.{fault_in};
 ghost use Rattle.trace_log.specs.declared.fault.Fault.{Fault as FaultValue};
 ghost use Rattle.trace_log.specs.Devices.{AgreesWith, bytes_given, ReadFrom, HasLowCounts};
 ghost use Rattle.trace_log.specs.Refusal.{HasNoBadPlaceWithin};
-ghost use Rattle.uds_rules.specs.Rule.{RuleValue};
 ghost use Rattle.trace_report.specs.Kept.{KeepsOne, HasOwnFrame, KeepsTwo};
 ghost use Rattle.trace_report.specs.proving.Following.{row_if, rows_in};
 ghost use Rattle.trace_report.specs.Session.{session_of};
@@ -98,7 +97,7 @@ fn keep_session<R: Source>(
         spoken: no_counts(config.rules()),
     };
     match run(alloc, config, machine, source, &mut Nowhere::new()) {
-        Ok(heard) => match finished(heard) {
+        Ok(heard) => match finished(config.rules(), heard) {
             Ok(session) => Ok(session),
             Err(_refused) => Err(Fault::Memory),
         },
@@ -118,10 +117,10 @@ pub(crate) struct Heard {
     pub spoken: RuleCounts,
 }
 
-/// What a log says of which this was heard.
-fn finished(heard: Heard) -> Result<KeptSession, AllocError>
-    ensures session { IfOk result (λ session. (rules : List RuleValue) (T : List Entry) (summary : SummaryValue)
-        → IsHeardOf rules T summary heard → session ≡ session_of MESSAGE_LIMIT rules T summary) }
+/// What a log under rules says of which this was heard.
+fn finished(rules: &Rules, heard: Heard) -> Result<KeptSession, AllocError>
+    ensures session { IfOk result (λ session. (T : List Entry) (summary : SummaryValue)
+        → IsHeardOf rules.now T summary heard → session ≡ session_of MESSAGE_LIMIT rules.now T summary) }
     ensures refused { IfErr result (λ refused. rows_in heard.last ≢ []) }
 {
     let Heard {
@@ -132,7 +131,7 @@ fn finished(heard: Heard) -> Result<KeptSession, AllocError>
         spoken,
     } = heard;
     keep_rows(&mut rows, last)?;
-    Ok(KeptSession::of(rows, summary, times, spoken))
+    Ok(KeptSession::of(rules, rows, summary, times, spoken))
 }
 
 /// Keeps new rows behind those before.

@@ -86,7 +86,7 @@ pub use blocks::begins_exchange;
 pub use cause::{CauseLine, RefusalCause, RefusalCauseText, cause_of};
 pub use cells::{CellEnd, CellFront};
 pub use counts::Counts;
-pub use data::{BytesApart, Data, MoreWords, known_length};
+pub use data::{Data, MoreWords, Piece, is_masked_at, known_length};
 pub use durations::Seconds;
 pub use front::{Identifiers, PageStart, Shapes};
 pub use help::{HelpHeading, Legend, Limits, Tail};

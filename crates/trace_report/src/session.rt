@@ -7,14 +7,16 @@ use crate::rule_counts::RuleCounts;
 use crate::times::{Times, first_of, last_of};
 use std::marker::Model;
 use trace_log::Summary;
+use uds_rules::Rules;
 
-/// What a log says, kept. Contracts see its rows, its counts, the times of its first frame and its last one, and of how many of
-/// its messages each rule spoke.
+/// What a log says, kept. Contracts see its rows, its counts, the times of its first frame and its last one, the rules that it is
+/// under, and of how many of its messages each spoke.
 #[derive(Debug, Drop)]
 pub struct KeptSession {
     rows: KeptRows,
     summary: Summary,
     times: Option<Times>,
+    rules: Rules,
     spoken: RuleCounts,
 }
 
@@ -24,13 +26,21 @@ impl Model for KeptSession {
 
     ghost Value = { SessionValue };
 
-    ghost view = { λ s. record { rows = s.rows; summary = s.summary; first = first_of_times s.times; last = last_of_times s.times; spoken = s.spoken.items } };
+    ghost view = { λ s. record {
+      rows = s.rows;
+      summary = s.summary;
+      first = first_of_times s.times;
+      last = last_of_times s.times;
+      rules = s.rules;
+      spoken = s.spoken.items;
+    } };
 }
 
 impl KeptSession {
-    /// What is kept of a log: its rows, its counts, the times of its first frame and its last one, if it has frames, and of how
-    /// many messages each rule spoke.
+    /// What is kept of a log under these rules: its rows, its counts, the times of its first frame and its last one, if it has
+    /// frames, and of how many messages each rule spoke.
     pub(crate) fn of(
+        rules: &Rules,
         rows: KeptRows,
         summary: Summary,
         times: Option<Times>,
@@ -40,12 +50,14 @@ impl KeptSession {
         ensures summary { result.summary ≡ summary }
         ensures first { result.first ≡ first_of_times times }
         ensures last { result.last ≡ last_of_times times }
+        ensures rules { result.rules ≡ rules.now }
         ensures spoken { result.spoken ≡ spoken.items }
     {
         KeptSession {
             rows,
             summary,
             times,
+            rules: *rules,
             spoken,
         }
     }
@@ -76,6 +88,13 @@ impl KeptSession {
         ensures { result ≡ self.now.last }
     {
         last_of(self.times)
+    }
+
+    /// The rules that it is under.
+    pub fn rules(&self) -> &Rules
+        ensures { result.now ≡ self.now.rules }
+    {
+        &self.rules
     }
 
     /// Of how many of its messages each rule spoke, in the order of the rules.

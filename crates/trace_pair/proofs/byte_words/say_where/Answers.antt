@@ -11,9 +11,10 @@ returns-then-has_alone g c =
     let xs = c.args.left.now in
     let ys = c.args.right.now in
     let columns = c.args.columns.now in
-    let by = λ (one other : Bool) (count place : ℕ). if one then alone_words A count place xs
-    else if other then alone_words B count place ys
-    else first_words place (slice_get columns place) ++ others_words count in
+    let rules = c.args.rules.now in
+    let by = λ (one other : Bool) (count place : ℕ). if one then alone_words rules A count place xs
+    else if other then alone_words rules B count place ys
+    else first_words rules xs ys place (slice_get columns place) ++ others_words count in
     let one : has_alone c.args.left.now c.args.right.now (differing c.args.columns.now) ≡ true =
     ap (has_alone c.args.left.now c.args.right.now) (sym c.count_differing-count.ensures) ∙ sym c.has_alone.ensures ∙ c.if-has_alone.true in
     subst (λ (text : List ℕ). g.S.TextSink.says c.args.out.now text c.say.new.out)

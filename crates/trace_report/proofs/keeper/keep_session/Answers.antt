@@ -11,7 +11,7 @@ use Rattle.trace_report.proofs.keeper.keep_session.Goals as goal
 pub returns-in-Ok-finished-clause-answer : goal.returns-in-Ok-finished-clause-answer
 returns-in-Ok-finished-clause-answer g c = λ log agrees.
     read_so c.args.config.now log _ [] [] c.in-Ok.heard c.in-Ok-finished.session
-    (c.in-Ok-finished.ensures.session c.args.config.now.rules) (c.in-Ok.ensures.ran.answer log agrees)
+    c.in-Ok-finished.ensures.session (c.in-Ok.ensures.ran.answer log agrees)
 
 pub returns-in-Err-clause-answer : goal.returns-in-Err-clause-answer
 returns-in-Err-clause-answer g c = λ log agrees. unread_so c.args.config.now log _ [] [] c.in-Err.fault (c.in-Err.ensures.ran.answer log agrees)

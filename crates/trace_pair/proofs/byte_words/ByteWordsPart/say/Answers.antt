@@ -5,8 +5,9 @@ use Rattle.trace_pair.proofs.byte_words.ByteWordsPart.say.Goals as goal
 
 pub returns : goal.returns
 returns g c =
-    let left = c.args.self.0.now in
-    let right = c.args.self.1.now in
+    let rules = c.args.self.0.now in
+    let left = c.args.self.1.now in
+    let right = c.args.self.2.now in
     g.met.S.TextSink.onward _ _ _ _ _
-    (subst (λ (text : List ℕ). g.S.TextSink.says c.args.out.now text c.say_where.new.out) (ap (where_words left right) c.of-columns.ensures) c.say_where.ensures)
+    (subst (λ (text : List ℕ). g.S.TextSink.says c.args.out.now text c.say_where.new.out) (ap (where_words rules left right) c.of-columns.ensures) c.say_where.ensures)
     c.say.ensures
