@@ -61,7 +61,8 @@ impl<'a> Part for PairRuleLines<'a> {
         let PairRuleLines(rules, lefts, rights) = self;
         let mut left_counts = lefts;
         let mut right_counts = rights;
-        'rules: for rule in rules {
+        let mut waiting = rules;
+        'rules: while let Some((rule, later)) = waiting.split_first() {
             let Some((left, lefts_behind)) = left_counts.split_first() else {
                 return;
             };
@@ -80,6 +81,7 @@ impl<'a> Part for PairRuleLines<'a> {
                     " of B\n",
                 ),
             );
+            waiting = later;
             left_counts = lefts_behind;
             right_counts = rights_behind;
         }

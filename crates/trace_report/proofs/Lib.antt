@@ -4,6 +4,7 @@ mod Steps
 mod FrameCounting
 mod Meeting
 mod SpokenCounts
+mod CountedRules
 mod MarkedBytes
 mod HowKept
 mod BytesBehind
@@ -20,6 +21,7 @@ mod LineOrder
 mod RowPlaces
 mod RowTargets
 mod DistinctIdentifiers
+mod ListedBytes
 pub mod Harmless
 pub mod PageStyle
 pub mod ToldAnswers

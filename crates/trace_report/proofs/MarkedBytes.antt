@@ -1,6 +1,6 @@
 -- The marks of bytes, one after another.
 use Prim.Native.Nat.{zero, suc}
-use Rattle.std.proofs.Common.{◌≡◌, ℕ, ◌+◌, ◌-◌, ◌<◌, Bool, false, List, [], ◌∷◌, ◌++◌, drop, replicate, arith, refl, ap, sym, ◌∙◌}
+use Rattle.std.proofs.Common.{◌≡◌, ◌≤◌, ℕ, ◌+◌, ◌-◌, ◌<◌, Bool, false, List, [], ◌∷◌, ◌++◌, drop, replicate, arith, refl, ap, sym, ◌∙◌}
 use Rattle.trace_report.specs.Data.{is_marked, marks_behind}
 
 -- the first byte before a mask is none that it changes
@@ -16,10 +16,19 @@ one_less (suc before) places some =
     let less : suc before - 1 ≡ before = omega arith in
     ap (λ n. replicate n false ++ places) less
 
+-- where no byte stands before a mask, its places tell
+pub none_before : (before : ℕ) (places : List Bool) → before ≤ 0 → replicate before false ++ places ≡ places
+none_before zero places none = refl
+none_before (suc before) places none = absurd (omega (arith, none))
+
+none_behind : (count : ℕ) → marks_behind [] ≡ drop count []
+none_behind zero = refl
+none_behind (suc count) = refl
+
 -- the marks behind one more byte
 pub skipped_more : (marks : List Bool) (count : ℕ) → marks_behind (drop count marks) ≡ drop (count + 1) marks
 skipped_more [] zero = refl
-skipped_more [] (suc count) = refl
+skipped_more [] (suc count) = none_behind (suc count + 1)
 skipped_more (mark ∷ marks) zero = refl
 skipped_more (mark ∷ marks) (suc count) =
     skipped_more marks count ∙ ap (λ n. drop n (mark ∷ marks)) (let next : suc (count + 1) ≡ suc count + 1 = omega arith in next)

@@ -1,6 +1,6 @@
 -- What holds of a page, whatever log it is of.
 use Prim.Native.Char.{code}
-use Rattle.std.specs.Prelude.{◌≡◌, ◌≢◌, ◌↔◌, ℕ, ◌==◌, ◌<◌, ◌^◌, ◌&&◌, not, ◌||◌, Bool, true, ⊤, List, [], ◌∷◌, codes, false, length, map, nat_le, ◌++◌, Option, Some, None}
+use Rattle.std.specs.Prelude.{◌≡◌, ◌≢◌, ◌↔◌, ℕ, ◌==◌, ◌<◌, ◌^◌, ◌&&◌, not, ◌||◌, Bool, true, ⊤, List, [], ◌∷◌, codes, false, length, map, nat_le, ◌++◌, Option, Some, None, if◌then◌else◌}
 use Rattle.std.specs.List.{AllByRecursion, list_any}
 use Rattle.can_log.specs.declared.frame.Stamped.{Stamped}
 use Rattle.direction.specs.declared.Dir.{Dir}
@@ -9,7 +9,9 @@ use Rattle.isotp_receive.specs.Trace.{Entry}
 use Rattle.uds_exchange.specs.Meaning.{meaning}
 use Rattle.uds_exchange.specs.declared.step.Step.TheVariants as becomes
 use Rattle.uds_message.specs.Message.{is_negative_response}
-use Rattle.uds_rules.specs.Rule.{RuleValue}
+use Rattle.uds_rules.specs.Rule.{RuleValue, mask_of}
+use Rattle.trace_text.specs.RuledText.{ruled_text}
+use Rattle.trace_report.specs.Data.{all_bytes_by}
 use Rattle.trace_log.specs.Messages.{messages_under}
 use Rattle.trace_log.specs.Settings.{Settings}
 use Rattle.trace_log.specs.Trace.{trace}
@@ -61,6 +63,17 @@ StyleHoldsNoTag = list_any (λ b. b == code "<") page_style ≡ false
 -- and neither does what it has besides under rules
 abbrev pub RuledStyleHoldsNoTag : Type 0
 RuledStyleHoldsNoTag = list_any (λ b. b == code "<") ruled_style ≡ false
+
+-- a text without its blanks
+abbrev pub without_blanks : List ℕ → List ℕ
+without_blanks [] = []
+without_blanks (c ∷ rest) = if c == code " " then without_blanks rest else c ∷ without_blanks rest
+
+-- But for its blanks, the text of all bytes of a message that rules have left is that of `list`: what these mask and cut off is
+-- told as there.
+abbrev pub BytesAreAsListed : Type 0
+BytesAreAsListed = (rules : List RuleValue) (bytes : List ℕ)
+    → without_blanks (all_bytes_by (mask_of rules bytes) bytes) ≡ ruled_text rules bytes
 
 -- no element of the list is equal to one behind it
 abbrev pub AreDistinct : {X : Type 0} → List X → Type 0

@@ -48,7 +48,7 @@ rule_lines (rule ∷ rules) (count ∷ counts) = rule_line rule count ++ rule_li
 abbrev pub rules_start : ℕ → List ℕ
 rules_start count =
     codes "<section id=\"rules\">\n<h2>Under " ++ rules_word count ++ codes "</h2>\n"
-    ++ codes "<p>Messages that begin so are left out, or masked, before anything else is made of them.</p>\n<ul>\n"
+    ++ codes "<p>Messages that begin so are left out, or masked, before anything else is made of them: <code>..</code> is a masked byte, and <code>*</code> stands where what follows is cut off.</p>\n<ul>\n"
 
 -- the end of it
 abbrev pub rules_end : List ℕ

@@ -257,9 +257,9 @@ fn say_marked_data<S: TextSink>(mask: Mask, start: usize, message: &[u8], out: &
     } else {
         let (front, rest) = message.split_at(SHOWN_FIRST);
         let more = Number(rest.len() as u64);
+        let later = marks.skip(SHOWN_FIRST);
         let first = MarkedApart(&marks, front);
         if message.len() <= MOST_FOLDED {
-            let later = marks.skip(SHOWN_FIRST);
             let behind = MarkedApart(&later, rest);
             say(
                 out,

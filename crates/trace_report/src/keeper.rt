@@ -89,15 +89,16 @@ fn keep_session<R: Source>(
     ensures read { ReadFrom R.Source Fault.Read config.now.max_bytes result source.old source.new }
     ensures never_write { IfErr result (λ fault. fault ≢ Fault.Write) }
 {
+    let rules = config.rules();
     let machine = Keeper {
-        rules: config.rules(),
+        rules,
         times: None,
         follower: Follower::start(),
         rows: KeptRows::new(alloc),
-        spoken: no_counts(config.rules()),
+        spoken: no_counts(rules),
     };
     match run(alloc, config, machine, source, &mut Nowhere::new()) {
-        Ok(heard) => match finished(config.rules(), heard) {
+        Ok(heard) => match finished(rules, heard) {
             Ok(session) => Ok(session),
             Err(_refused) => Err(Fault::Memory),
         },

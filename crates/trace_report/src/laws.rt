@@ -1,6 +1,6 @@
 //! What holds of a page, whatever log it is of. A law is its contract; a call does nothing.
 
-ghost use Rattle.trace_report.specs.Laws.{AfterIsFromTheLastFrame, AfterIsToTheFirstFrame, IdentifiersStandOnce, ItemsAreTheMeaning, LettersAreHarmless, LinksHaveTargets, LooksAreTold, NameIsHarmless, NegativeIsNegative, RuledStyleHoldsNoTag, StyleHoldsNoTag, TimeIsOfTheLastFrame};
+ghost use Rattle.trace_report.specs.Laws.{AfterIsFromTheLastFrame, AfterIsToTheFirstFrame, BytesAreAsListed, IdentifiersStandOnce, ItemsAreTheMeaning, LettersAreHarmless, LinksHaveTargets, LooksAreTold, NameIsHarmless, NegativeIsNegative, RuledStyleHoldsNoTag, StyleHoldsNoTag, TimeIsOfTheLastFrame};
 ghost use Rattle.trace_report.specs.Numbers.{LineNumbersArePlaces, RowNumbersArePlaces};
 
 /// The name of a log opens and closes nothing on its page.
@@ -11,6 +11,11 @@ pub fn name_is_harmless()
 /// The letters that are shown for bytes of a message open and close nothing on a page.
 pub fn letters_are_harmless()
     ensures { LettersAreHarmless }
+{}
+
+/// But for its blanks the text of the bytes of a message is that of `list`: masked bytes and what is cut off are told as there.
+pub fn bytes_are_as_listed()
+    ensures { BytesAreAsListed }
 {}
 
 /// The style of a page opens and closes no element, and neither does what it has besides under rules.

@@ -24,6 +24,7 @@ impl Marks {
     }
 
     /// Whether the first byte is masked, and the marks of those behind it.
+    #[tactic(auto, using(crate::proofs::MarkedBytes::none_marked, crate::proofs::MarkedBytes::one_less, crate::proofs::MarkedBytes::none_before))]
     pub(crate) fn split_first(self) -> (bool, Marks)
         ensures first { result.0 ≡ is_marked (marks_in self) }
         ensures behind { marks_in result.1 ≡ marks_behind (marks_in self) }

@@ -52,6 +52,7 @@ pub fn report<R: Source, W: Target>(
         answers_counts needs_none)
         config.now source.old target.old result source.new target.new }
 {
+    let rules = config.rules();
     let machine = Reporter {
         title: PageTitle {
             style,
@@ -59,12 +60,12 @@ pub fn report<R: Source, W: Target>(
             tester: config.tester(),
             unit: config.unit(),
             max_bytes: config.max_bytes(),
-            rules: config.rules(),
+            rules,
         },
         times: None,
         follower: Follower::start(),
         chart: Chart::start(),
-        spoken: no_counts(config.rules()),
+        spoken: no_counts(rules),
     };
     run_lenient(alloc, config, machine, source, target)
 }

@@ -22,7 +22,7 @@ pub(crate) fn no_counts(rules: &Rules) -> RuleCounts
     ensures { result.items ≡ spoken_counts rules.now [] }
 {
     let mut counts = ArrayVec::new();
-    'rules: for _rule in rules.as_slice() {
+    'rules: for _rule in 0..rules.as_slice().len() {
         counts.push(0);
     }
     counts

@@ -45,7 +45,7 @@ impl Part for RulesStart {
                 "<section id=\"rules\">\n<h2>Under ",
                 RulesWord(self.0),
                 "</h2>\n",
-                "<p>Messages that begin so are left out, or masked, before anything else is made of them.</p>\n<ul>\n",
+                "<p>Messages that begin so are left out, or masked, before anything else is made of them: <code>..</code> is a masked byte, and <code>*</code> stands where what follows is cut off.</p>\n<ul>\n",
             ),
         );
     }
@@ -106,12 +106,14 @@ impl<'a> Part for RuleLines<'a> {
 
     fn say<S: TextSink>(self, out: &mut S) {
         let RuleLines(rules, counts) = self;
+        let mut left = rules;
         let mut rest = counts;
-        'rules: for rule in rules {
+        'rules: while let Some((rule, behind)) = left.split_first() {
             let Some((count, others)) = rest.split_first() else {
                 return;
             };
             say(out, RuleLine(rule, *count));
+            left = behind;
             rest = others;
         }
     }

@@ -1,17 +1,22 @@
 -- What was heard of a log is its session; else why it can't be read, or that memory was refused.
-use Rattle.std.proofs.Common.{[], Err, ap}
+use Rattle.std.proofs.Common.{◌≡◌, List, [], Err, ap, subst}
 use Rattle.trace_run.proofs.Promises.{never_write}
 use Rattle.trace_log.proofs.Promises.{given_agrees}
 use Rattle.isotp_receive.specs.declared.TheConstants.{MESSAGE_LIMIT}
+use Rattle.isotp_receive.specs.Trace.{Entry}
+use Rattle.uds_rules.specs.Rule.{RuleValue}
+use Rattle.trace_log.specs.declared.summary.Summary.{Summary}
+use Rattle.trace_report.specs.Session.{session_of}
 use Rattle.trace_log.specs.declared.fault.Fault.{Fault}
-use Rattle.trace_report.specs.proving.Heard.{answers_heard, quiet_command, quiet_script}
+use Rattle.trace_report.specs.proving.Heard.{IsHeardOf, answers_heard, quiet_command, quiet_script}
 use Rattle.trace_report.proofs.HowKept.{fault_of, has_own_where_kept, has_own_where_needed, quiet_says_nothing, read_so, unread_so}
 use Rattle.trace_report.proofs.keeper.keep_session.Goals as goal
 
 pub returns-in-Ok-finished-clause-answer : goal.returns-in-Ok-finished-clause-answer
 returns-in-Ok-finished-clause-answer g c = λ log agrees.
     read_so c.args.config.now log _ [] [] c.in-Ok.heard c.in-Ok-finished.session
-    c.in-Ok-finished.ensures.session (c.in-Ok.ensures.ran.answer log agrees)
+    (subst (λ (l : List RuleValue). (T : List Entry) (summary : Summary) → IsHeardOf l T summary c.in-Ok.heard
+    → c.in-Ok-finished.session ≡ session_of MESSAGE_LIMIT l T summary) c.rules-rules.ensures c.in-Ok-finished.ensures.session) (c.in-Ok.ensures.ran.answer log agrees)
 
 pub returns-in-Err-clause-answer : goal.returns-in-Err-clause-answer
 returns-in-Err-clause-answer g c = λ log agrees. unread_so c.args.config.now log _ [] [] c.in-Err.fault (c.in-Err.ensures.ran.answer log agrees)
