@@ -7,6 +7,7 @@ ghost use Rattle.trace_canon.specs.Compared.{fault_in};
 ghost use Rattle.trace_log.specs.declared.fault.Fault.{Fault as FaultValue};
 ghost use Rattle.trace_log.specs.Devices.{AgreesWith, bytes_given, ReadFrom, HasLowCounts};
 ghost use Rattle.trace_log.specs.Refusal.{HasNoBadPlaceWithin};
+ghost use Rattle.uds_rules.specs.Rule.{RuleValue};
 ghost use Rattle.trace_report.specs.Kept.{KeepsOne, HasOwnFrame, KeepsTwo};
 ghost use Rattle.trace_report.specs.proving.Following.{row_if, rows_in};
 ghost use Rattle.trace_report.specs.Session.{session_of};

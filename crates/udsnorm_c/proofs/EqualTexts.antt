@@ -1,5 +1,5 @@
 -- Two logs have equal meaning exactly where their canonical logs, as they were put, are equal.
-use Rattle.std.proofs.Common.{◌≡◌, ◌⊎◌, ◌≤◌, ◌<◌, ◌^◌, ℕ, ◌+◌, Bool, true, false, List, length, drop, take, Result, Ok, Err, arith, refl, ap, sym, subst, ◌∙◌, inl, inr}
+use Rattle.std.proofs.Common.{◌≡◌, ◌⊎◌, ◌≤◌, ◌<◌, ◌^◌, ℕ, ◌+◌, Bool, true, false, List, [], length, drop, take, Result, Ok, Err, arith, refl, ap, sym, subst, ◌∙◌, inl, inr}
 use Rattle.std.specs.Prelude.{◌↔◌, nat_le, nat_lt, slice_get, if◌then◌else◌}
 use Rattle.std.proofs.lemmas.List.{take_at}
 use Rattle.can_log.specs.declared.frame.Id.{Id}
@@ -98,7 +98,7 @@ item_of_same (Different place) one other differs = (
 
 -- there are settings with the parts of settings
 settings_are_there : (tester unit : Id) (max_bytes : ℕ) (fault : ConfigFault) → Configures tester unit max_bytes (Err fault)
-    → AreSettings (record { tester = tester; unit = unit; max_bytes = max_bytes }) → ⊥
+    → AreSettings (record { tester = tester; unit = unit; max_bytes = max_bytes; rules = [] }) → ⊥
 settings_are_there tester unit max_bytes IdRange (inl none) are = none are.tester
 settings_are_there tester unit max_bytes IdRange (inr none) are = none are.unit
 settings_are_there tester unit max_bytes SameId (of_tester, of_unit, same) are = are.apart same

@@ -196,7 +196,7 @@ held_log : (settings : Settings) (log : List ℕ) (items : List ItemValue) (summ
     → (session : SessionValue) × KeepsOne MESSAGE_LIMIT settings log (Ok session)
 held_log settings log items summary is =
     let meanings = is.outcome.0 in
-    (session_of MESSAGE_LIMIT (trace settings meanings) (summary_of MESSAGE_LIMIT settings log meanings), (meanings, (is.outcome.1.short, is.outcome.1.means), refl))
+    (session_of MESSAGE_LIMIT settings.rules (trace settings meanings) (summary_of MESSAGE_LIMIT settings log meanings), (meanings, (is.outcome.1.short, is.outcome.1.means), refl))
 
 -- two logs compare in one way, which is that of what is held of them
 one_comparison : AgreesWithCompare → (settings : Settings) (left right : List ℕ) (one other : Compared) → Compares MESSAGE_LIMIT settings left right (Ok one)

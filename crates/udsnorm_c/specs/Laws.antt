@@ -1,5 +1,5 @@
 -- What holds of the answers of several calls, and of words.
-use Rattle.std.specs.Prelude.{◌≡◌, ◌↔◌, ◌⊎◌, ◌<◌, ℕ, List, take}
+use Rattle.std.specs.Prelude.{◌≡◌, ◌↔◌, ◌⊎◌, ◌<◌, ℕ, List, [], take}
 use Rattle.direction.specs.declared.Dir.{Dir}
 use Rattle.isotp_receive.specs.declared.TheConstants.{MESSAGE_LIMIT}
 use Rattle.trace_log.specs.Laws.{HaveSameMeaning, IsCertified}
@@ -11,9 +11,9 @@ use Rattle.udsnorm_c.specs.Answered.{CompareAnswers, DiffAnswers, NormaliseAnswe
 use Rattle.udsnorm_c.specs.Answered.{ReportAnswers, ReportPairAnswers}
 use Rattle.udsnorm_c.specs.Spelled.{identifier_of, words_for_c}
 
--- the settings of these numbers
+-- the settings of these numbers, which have no rules
 abbrev pub settings_of : ℕ → ℕ → ℕ → Settings
-settings_of tester unit max_bytes = record { tester = identifier_of tester; unit = identifier_of unit; max_bytes = max_bytes }
+settings_of tester unit max_bytes = record { tester = identifier_of tester; unit = identifier_of unit; max_bytes = max_bytes; rules = [] }
 
 -- A call of `udsnorm_normalise` on the log is done, and this is the text that it put: the first bytes of the buffer, as many
 -- as it answers.
