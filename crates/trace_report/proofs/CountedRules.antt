@@ -34,11 +34,12 @@ count_more counts whole at rule rules message within laid =
     ∙ laid)
 
 -- no rules are left
-pub no_rules_left : (counts whole : List ℕ) (at : ℕ) (rules : List RuleValue) (message : List ℕ) → rules ≡ []
+pub no_rules_left : (counts whole : List ℕ) (at : ℕ) (rules : List RuleValue) (message : List ℕ) → length rules ≡ 0
     → take at counts ++ counts_more rules message (drop at counts) ≡ whole → counts ≡ whole
-no_rules_left counts whole at rules message none laid =
+no_rules_left counts whole at [] message none laid =
     let all : take at counts ++ drop at counts ≡ counts = grind (arith, common_steps) in
-    sym all ∙ ap (λ r. take at counts ++ counts_more r message (drop at counts)) (sym none) ∙ laid
+    sym all ∙ laid
+no_rules_left counts whole at (rule ∷ rules) message none laid = absurd (omega (arith, none))
 
 -- no counts are left
 pub no_counts_left : (counts whole : List ℕ) (at : ℕ) (rules : List RuleValue) (message : List ℕ) → length counts ≤ at
@@ -50,3 +51,16 @@ no_counts_left counts whole at rules message ended laid =
       of_none : (rules : List RuleValue) → counts_more rules message [] ≡ []
       of_none [] = refl
       of_none (rule ∷ rules) = refl
+
+-- counts that are written back are all counts
+long_more : (rules : List RuleValue) (message counts : List ℕ) → length (counts_more rules message counts) ≡ length counts
+long_more [] message counts = refl
+long_more (rule ∷ rules) message [] = refl
+long_more (rule ∷ rules) message (count ∷ counts) = ap suc (long_more rules message counts)
+
+pub refilled : (rules : List RuleValue) (message counts new : List ℕ) → new ≡ counts_more rules message counts
+    → take (length counts) (new ++ drop (length new) counts) ≡ counts_more rules message counts
+refilled rules message counts new is =
+    let long : length new ≡ length counts = ap (λ (l : List ℕ). length l) is ∙ long_more rules message counts in
+    let whole : take (length counts) (new ++ drop (length new) counts) ≡ new = grind (arith, common_steps) in
+    whole ∙ is

@@ -4,6 +4,8 @@ use Prim.Native.Nat.{zero, suc}
 use Rattle.std.proofs.Common.{◌≡◌, ℕ, ◌+◌, ◌-◌, ◌/◌, ◌%◌, ◌<◌, Bool, true, false, List, [], ◌∷◌, ◌++◌, length, take, drop, replicate, Option, Some, None, arith, refl, ap, ap₂, sym, ◌∙◌, append-nil, append_assoc}
 use Rattle.std.specs.Prelude.{codes, ◌==◌, ◌&&◌, if◌then◌else◌}
 use Rattle.std.proofs.lemmas.Bool.Decides.{nat_tests}
+use Rattle.std.proofs.lemmas.List.{length-drop}
+use Rattle.std.proofs.Math.Dec.{eqb-suc-suc, eqb-zero-suc}
 use Rattle.can_log.specs.Digits.{digit, digits, hexadecimal}
 use Rattle.uds_rules.specs.Mask.{MaskValue}
 use Rattle.uds_rules.specs.Rule.{RuleValue, mask_of}
@@ -47,9 +49,9 @@ plain (b ∷ bytes) =
 
 -- ---- with one
 
--- the star behind so many bytes, where so many stand before the mask
-abbrev star : Bool → ℕ → List Bool → List ℕ → List ℕ
-star cuts before places bytes = if cuts && (length bytes - before == length places) then codes " *" else []
+-- the star behind these bytes, where they begin with the mask
+abbrev star : Bool → List Bool → List ℕ → List ℕ
+star cuts places bytes = if cuts && (length bytes == length places) then codes " *" else []
 
 star-kept : (ends : Bool) → without_blanks (if ends then codes " *" else []) ≡ (if ends then codes "*" else [])
 star-kept true = refl
@@ -73,25 +75,26 @@ no-marks (b ∷ bytes) rest =
 
 -- the bytes from the mask on
 from-mask : (cuts : Bool) (places : List Bool) (bytes : List ℕ)
-    → without_blanks (marked_behind places bytes ++ star cuts 0 places bytes) ≡ places_text places cuts bytes
-from-mask cuts [] bytes = no-marks bytes (star cuts 0 [] bytes) ∙ ap (λ l. bytes_text bytes ++ l) (star-kept (cuts && (length bytes == 0)))
-from-mask true (m ∷ places) [] = refl
+    → without_blanks (marked_behind places bytes ++ star cuts places bytes) ≡ places_text places cuts bytes
+from-mask cuts [] bytes = no-marks bytes (star cuts [] bytes) ∙ ap (λ l. bytes_text bytes ++ l) (star-kept (cuts && (length bytes == 0)))
+from-mask true (m ∷ places) [] = ap (λ (is : Bool). without_blanks (if is then codes " *" else [])) (eqb-zero-suc (length places))
 from-mask false (m ∷ places) [] = refl
 from-mask cuts (m ∷ places) (b ∷ bytes) =
-    one-step m b places bytes (star cuts 0 (m ∷ places) (b ∷ bytes)) (places_text places cuts bytes) (from-mask cuts places bytes)
+    let same : (suc (length bytes) == suc (length places)) ≡ (length bytes == length places) = eqb-suc-suc (length bytes) (length places) in
+    ap (λ (is : Bool). without_blanks (marked_behind (m ∷ places) (b ∷ bytes) ++ (if cuts && is then codes " *" else []))) same
+    ∙ one-step m b places bytes (star cuts places bytes) (places_text places cuts bytes) (from-mask cuts places bytes)
 
 -- all bytes behind a blank
 all-behind : (cuts : Bool) (before : ℕ) (places : List Bool) (bytes : List ℕ)
-    → without_blanks (marked_behind (replicate before false ++ places) bytes ++ star cuts before places bytes) ≡ listed cuts before places bytes
+    → without_blanks (marked_behind (replicate before false ++ places) bytes ++ star cuts places (drop before bytes)) ≡ listed cuts before places bytes
 all-behind cuts zero places bytes = from-mask cuts places bytes
 all-behind true (suc before) [] [] = refl
-all-behind true (suc before) (m ∷ places) [] = refl
+all-behind true (suc before) (m ∷ places) [] = ap (λ (is : Bool). without_blanks (if is then codes " *" else [])) (eqb-zero-suc (length places))
 all-behind false (suc before) [] [] = refl
 all-behind false (suc before) (m ∷ places) [] = refl
 all-behind cuts (suc before) places (b ∷ bytes) =
-    let less : suc (length bytes) - suc before ≡ length bytes - before = omega arith in
-    ap (λ n. without_blanks (marked_behind (replicate (suc before) false ++ places) (b ∷ bytes) ++ (if cuts && (n == length places) then codes " *" else []))) less
-    ∙ one-step false b (replicate before false ++ places) bytes (star cuts before places bytes) (listed cuts before places bytes) (all-behind cuts before places bytes)
+    one-step false b (replicate before false ++ places) bytes (star cuts places (drop before bytes)) (listed cuts before places bytes)
+    (all-behind cuts before places bytes)
     ∙ sym (append_assoc (hexadecimal 2 b) (bytes_text (take before bytes)) (places_text places cuts (drop before bytes)))
 
 -- and with none before the first one
@@ -102,7 +105,10 @@ unblanked marks (b ∷ bytes) rest = refl
 by-mask : (found : Option (MaskValue × ℕ)) (bytes : List ℕ) → without_blanks (all_bytes_by found bytes) ≡ text_by found bytes
 by-mask None bytes = plain bytes
 by-mask (Some found) bytes =
-    unblanked (marks_of found) bytes (cut_mark found bytes) ∙ all-behind found.0.cuts found.1 found.0.places bytes
+    unblanked (marks_of found) bytes (cut_mark found bytes)
+    ∙ ap (λ (n : ℕ). without_blanks (marked_behind (marks_of found) bytes ++ (if found.0.cuts && (n == length found.0.places) then codes " *" else [])))
+    (sym (length-drop found.1 bytes))
+    ∙ all-behind found.0.cuts found.1 found.0.places bytes
 
 pub bytes_are_as_listed : BytesAreAsListed
 bytes_are_as_listed rules bytes = by-mask (mask_of rules bytes) bytes

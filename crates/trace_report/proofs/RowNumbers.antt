@@ -25,7 +25,8 @@ use Rattle.uds_exchange.specs.declared.step.Step.TheVariants as becomes
 use Rattle.uds_message.specs.Message.{is_final_for, is_keep_alive, is_negative_response, is_pending_for, sid}
 use Rattle.trace_log.specs.Messages.{messages_under}
 use Rattle.trace_run.proofs.Promises.{messages_next}
-use Rattle.uds_rules.specs.Rule.{RuleValue}
+use Rattle.uds_rules.specs.Rule.{RuleValue, made_of}
+use Rattle.uds_rules.specs.Under.{sent_as, under}
 use Rattle.trace_report.specs.Events.{asked_in, closing_before, closing_rows, end_rows, ended_rows, ends_nothing, is_request_step, left_rows, message_rows, rows_of, standing_row, verdict_rows, waiting_row}
 use Rattle.trace_report.specs.Roles.{role_of_step}
 use Rattle.trace_report.specs.Numbers.{HasPart, IsUnanswered, RowNumbersArePlaces, TellsItsItem}

@@ -21,7 +21,8 @@ use Rattle.uds_exchange.specs.Order.{open_request}
 use Rattle.uds_exchange.specs.declared.step.Step.{Step}
 use Rattle.uds_exchange.specs.declared.step.Step.TheVariants as becomes
 use Rattle.uds_message.specs.Message.{is_keep_alive, is_negative_response, is_suppressing, sid}
-use Rattle.uds_rules.specs.Rule.{RuleValue}
+use Rattle.uds_rules.specs.Rule.{RuleValue, made_of}
+use Rattle.uds_rules.specs.Under.{sent_as, under}
 use Rattle.trace_report.specs.Events.{asked_in, closing_before, closing_rows, ended_rows, ends_nothing, left_rows, message_place, rows_of, standing_row, verdict_rows, waiting_row}
 use Rattle.trace_report.specs.Roles.{other_role, role_of_step}
 use Rattle.trace_report.specs.Linked.{IsAmong, target_at, targets_in}

@@ -9,12 +9,12 @@ use Rattle.trace_report.specs.declared.roles.MessageRole.TheVariants as is
 use Rattle.trace_report.proofs.Steps.{asked_next}
 
 pub time_is_of_the_last_frame : TimeIsOfTheLastFrame
-time_is_of_the_last_frame origin time is.Request d place bytes none = refl
-time_is_of_the_last_frame origin time (is.Positive asked) d place bytes none = absurd (cc)
-time_is_of_the_last_frame origin time (is.Negative asked) d place bytes none = absurd (cc)
-time_is_of_the_last_frame origin time (is.Pending asked) d place bytes none = absurd (cc)
-time_is_of_the_last_frame origin time is.KeepAlive d place bytes none = refl
-time_is_of_the_last_frame origin time is.Stray d place bytes none = refl
+time_is_of_the_last_frame rules origin time is.Request d place bytes none = refl
+time_is_of_the_last_frame rules origin time (is.Positive asked) d place bytes none = absurd (cc)
+time_is_of_the_last_frame rules origin time (is.Negative asked) d place bytes none = absurd (cc)
+time_is_of_the_last_frame rules origin time (is.Pending asked) d place bytes none = absurd (cc)
+time_is_of_the_last_frame rules origin time is.KeepAlive d place bytes none = refl
+time_is_of_the_last_frame rules origin time is.Stray d place bytes none = refl
 
 pub after_is_to_the_first_frame : AfterIsToTheFirstFrame
 after_is_to_the_first_frame time count is place = refl

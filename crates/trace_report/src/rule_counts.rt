@@ -1,5 +1,5 @@
 //! Of how many messages of a log each rule spoke.
-ghost use Rattle.std.specs.Prelude.{◌≡◌, ◌<◌, ◌^◌, List, [], ◌∷◌, ◌++◌, length, if◌then◌else◌};
+ghost use Rattle.std.specs.Prelude.{◌≡◌, ◌≤◌, ◌<◌, ◌^◌, List, [], ◌++◌, length, replicate, if◌then◌else◌};
 ghost use Rattle.direction.specs.Dir.{Message};
 ghost use Rattle.isotp_receive.specs.EventSeen.{seen_verdict};
 ghost use Rattle.isotp_receive.specs.Verdict.{told_message};
@@ -21,8 +21,16 @@ pub(crate) type RuleCounts = ArrayVec<u64, 64>;
 pub(crate) fn no_counts(rules: &Rules) -> RuleCounts
     ensures { result.items ≡ spoken_counts rules.now [] }
 {
+    zeros(rules.as_slice().len())
+}
+
+/// So many counts of nothing.
+fn zeros(count: usize) -> RuleCounts
+    requires { count ≤ 64 }
+    ensures { result.items ≡ replicate count 0 }
+{
     let mut counts = ArrayVec::new();
-    'rules: for _rule in 0..rules.as_slice().len() {
+    'rules: for _done in 0..count {
         counts.push(0);
     }
     counts

@@ -1,11 +1,12 @@
 -- What was heard of a log is its session; else why it can't be read, or that memory was refused.
-use Rattle.std.proofs.Common.{◌≡◌, List, [], Err, ap, subst}
+use Rattle.std.proofs.Common.{◌≡◌, List, [], Err, ap, arith, refl, subst, ◌∙◌}
 use Rattle.trace_run.proofs.Promises.{never_write}
 use Rattle.trace_log.proofs.Promises.{given_agrees}
 use Rattle.isotp_receive.specs.declared.TheConstants.{MESSAGE_LIMIT}
 use Rattle.isotp_receive.specs.Trace.{Entry}
 use Rattle.uds_rules.specs.Rule.{RuleValue}
 use Rattle.trace_log.specs.declared.summary.Summary.{Summary}
+use Rattle.trace_report.specs.RuleWords.{spoken_counts}
 use Rattle.trace_report.specs.Session.{session_of}
 use Rattle.trace_log.specs.declared.fault.Fault.{Fault}
 use Rattle.trace_report.specs.proving.Heard.{IsHeardOf, answers_heard, quiet_command, quiet_script}
@@ -35,3 +36,13 @@ returns-in-Err-clause-memory g c = λ log agrees refused.
 pub returns-in-Err-finished-clause-memory : goal.returns-in-Err-finished-clause-memory
 returns-in-Err-finished-clause-memory g c = λ log agrees refused.
     has_own_where_kept c.args.config.now log _ [] [] c.in-Ok.heard c.in-Err-finished.ensures.refused (c.in-Ok.ensures.ran.answer log agrees)
+
+pub run-requires-clause-machine : goal.run-requires-clause-machine
+run-requires-clause-machine g c = record {
+  few = omega arith;
+  times = refl;
+  follows = c.start.ensures c.args.config.now.rules;
+  rows = c.new.ensures;
+  ruled = c.rules-rules.ensures;
+  spoken = c.no_counts.ensures ∙ ap (λ (l : List RuleValue). spoken_counts l []) c.rules-rules.ensures;
+}

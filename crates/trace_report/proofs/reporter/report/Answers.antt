@@ -1,5 +1,5 @@
 -- The run is by the script of the page, whose title is made of what the call is handed.
-use Rattle.std.proofs.Common.{◌≡◌, subst}
+use Rattle.std.proofs.Common.{◌≡◌, arith, refl, subst}
 use Rattle.isotp_receive.specs.declared.TheConstants.{MESSAGE_LIMIT}
 use Rattle.trace_run.specs.Script.{answers_counts, command, glimpse_of, needs_none}
 use Rattle.trace_run.specs.Ran.{RanLenient}
@@ -18,3 +18,13 @@ returns g c =
           (refused_text title MESSAGE_LIMIT c.args.config.now.rules (glimpse_of g.R.Source c.run_lenient.new.source)) answers_counts needs_none)
           c.args.config.now c.args.source.now c.args.target.now c.run_lenient.result c.run_lenient.new.source c.run_lenient.new.target) title c.run_lenient.ensures.ran;
     }
+
+pub run_lenient-requires-clause-machine : goal.run_lenient-requires-clause-machine
+run_lenient-requires-clause-machine g c = record {
+  few = omega arith;
+  same = refl;
+  times = refl;
+  follows = c.start.ensures c.args.config.now.rules;
+  chart = c.start-2.ensures;
+  spoken = c.no_counts.ensures;
+}

@@ -12,7 +12,7 @@ use Rattle.trace_report.proofs.keeper.KeeperMachine.event.Goals as goal
 pub returns-clause-ok : goal.returns-clause-ok
 returns-clause-ok g c = λ rules start T e seen known.
     let M = messages MESSAGE_LIMIT T in
-    let own = c.args.self.rules.now in
+    let own = c.args.self.now.rules.now in
     let counted = c.count_message.ensures M c.args.seen.dir (few_messages T seen.event.few)
     (known.spoken ∙ ap (λ (l : List RuleValue). spoken_counts l M) (sym known.ruled)) in
     let rows = c.take-rows.ensures.rows rules T e seen known.follows in (

@@ -16,7 +16,7 @@ use Rattle.trace_report.proofs.reporter.ReporterMachine.end.Goals as goal
 pub returns-clause-says : goal.returns-clause-says
 returns-clause-says g c = λ rules start T known stand.
     let ruled : c.args.self.title.rules.now ≡ (title_of start.title).rules = ap (λ (title : PageTitleValue). title.rules) known.same in
-    let spoken = c.as_slice.ensures ∙ known.spoken in
+    let spoken = c.as_slice.ensures.value ∙ known.spoken in
     let rows = c.end.ensures rules T known.follows stand in
     let low : length (rows_of MESSAGE_LIMIT rules T) < 2 ^ 64 - 3 = omega (arith, known.few, few_rows MESSAGE_LIMIT rules T) in
     let chart = subst (λ (l : List RowValue). IsChartOf l c.say_rows.new.self) (ap (λ l. rows_of MESSAGE_LIMIT rules T ++ l) rows)

@@ -21,8 +21,8 @@ use Rattle.trace_report.proofs.reporter.ReporterMachine.event.Goals as goal
 pub returns-clause-ok : goal.returns-clause-ok
 returns-clause-ok g c = λ rules start T e seen known.
     let M = messages MESSAGE_LIMIT T in
-    let page = c.args.self.title.rules.now in
-    let ruled : c.args.self.title.rules.now ≡ (title_of start.title).rules = ap (λ (title : PageTitleValue). title.rules) known.same in
+    let page = c.args.self.now.title.rules.now in
+    let ruled : c.args.self.now.title.rules.now ≡ (title_of start.title).rules = ap (λ (title : PageTitleValue). title.rules) known.same in
     let counted = c.count_message.ensures M c.args.seen.dir (few_messages T seen.event.few)
     (known.spoken ∙ ap (λ (l : List RuleValue). spoken_counts l M) (sym ruled)) in
     let times = c.times_with-times.ensures T e known.times seen.event.micros in

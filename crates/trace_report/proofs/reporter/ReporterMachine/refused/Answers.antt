@@ -12,7 +12,7 @@ pub returns : goal.returns
 returns g c = record {
   says = λ rules start T known.
       let ruled : c.args.self.title.rules.now ≡ (title_of start.title).rules = ap (λ (title : PageTitleValue). title.rules) known.same in
-      let spoken = c.as_slice.ensures ∙ known.spoken in
+      let spoken = c.as_slice.ensures.value ∙ known.spoken in
       let first = first_known T c.args.self.times known.times in
       let last = last_known T c.args.self.times known.times in
       let front = subst (λ (title : PageTitleValue). g.S.TextSink.says c.args.out.now (front_before title T) c.say_front_before.new.out) known.same
