@@ -271,13 +271,7 @@ fn say_data<S: TextSink>(
 }
 
 /// Says the bytes of a message beside the one of the other log, where rules mask neither.
-fn say_beside<S: TextSink>(
-    rules: &Rules,
-    log: PairLog,
-    message: &[u8],
-    other: &[u8],
-    out: &mut S,
-)
+fn say_beside<S: TextSink>(rules: &Rules, log: PairLog, message: &[u8], other: &[u8], out: &mut S)
     ensures { S.says out.old (Spec.beside_text rules.now log message.now other.now) out.new }
 {
     if are_masked(rules, message, other) {

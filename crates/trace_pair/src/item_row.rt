@@ -182,7 +182,12 @@ impl Part for NumberIf {
 
 /// The items of a row: what both have the same stands once.
 #[derive(Clone, Copy)]
-struct ItemsOfRow<'a>(&'a Rules, Row, Option<PlacedItem<'a>>, Option<PlacedItem<'a>>);
+struct ItemsOfRow<'a>(
+    &'a Rules,
+    Row,
+    Option<PlacedItem<'a>>,
+    Option<PlacedItem<'a>>,
+);
 
 impl<'a> Part for ItemsOfRow<'a> {
     ghost use Rattle.std.specs.Prelude.{option_map};

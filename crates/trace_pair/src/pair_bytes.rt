@@ -70,7 +70,13 @@ impl<'a> Part for OfBoth<'a> {
         let OfBoth(rules, one, other) = self;
         say(out, PartedRoleWords(one.sent.role, one.sent.dir, one.bytes));
         if one.bytes == other.bytes {
-            say(out, Data { rules, message: one.bytes });
+            say(
+                out,
+                Data {
+                    rules,
+                    message: one.bytes,
+                },
+            );
         } else {
             say_both_bytes(rules, one.bytes, other.bytes, out);
         }

@@ -21,7 +21,13 @@ impl<'a> Part for ToldMessage<'a> {
     ghost text = { λ t. told_message t.0.now (message_of t.1) };
 
     fn say<S: TextSink>(self, out: &mut S) {
-        let ToldMessage(rules, RowMessage { sent, bytes: message }) = self;
+        let ToldMessage(
+            rules,
+            RowMessage {
+                sent,
+                bytes: message,
+            },
+        ) = self;
         let words = PartedRoleWords(sent.role, sent.dir, message);
         say(out, (words, Data { rules, message }));
     }
