@@ -19,8 +19,12 @@ MAN := $(PREFIX)/share/man/man1/udsnorm.1
 BASH := $(PREFIX)/share/bash-completion/completions/udsnorm
 ZSH := $(PREFIX)/share/zsh/site-functions/_udsnorm
 FISH := $(PREFIX)/share/fish/vendor_completions.d/udsnorm.fish
+PAGES := $(PREFIX)/share/doc/udsnorm
 
-.PHONY: build lib run check attack test gate install install-built install-lib install-built-lib uninstall dist deb wheel interop browser bench rival
+EVIDENCE ?= out/udsnorm-$(VERSION)-evidence.md
+
+.PHONY: build help lib run check attack test gate evidence install install-built install-lib install-built-lib uninstall dist deb wheel interop
+.PHONY: browser bench rival
 
 # Proves the program and what it stands on, and builds it. It says when it starts and when it ends on standard error; what
 # `rt` says is in a file, and shown where the build fails.
@@ -36,6 +40,12 @@ build:
 		exit 1; \
 	fi
 
+# Prints this list: each goal, with the first sentence of what the Makefile says above it.
+help:
+	@awk '/^# / { text = text substr($$0, 2); next } \
+		/^[a-z-]+:/ && text { sub(/:.*/, ""); sub(/[.:] .*|[.:]$$/, "", text); printf "%-19s%s\n", $$0, text } \
+		{ text = "" }' Makefile
+
 # Proves the library for C, and builds it, static and shared, into out/lib. One that needs a newer glibc than the README names
 # is refused.
 lib:
@@ -45,38 +55,43 @@ lib:
 	@scripts/build-library $(LIBRARY_CRATE)/out/libudsnorm_c.a $(LIBRARY)
 	@echo 'udsnorm: built the library: $(LIBRARY)' >&2
 
-# Prints the canonical log of LOG, and nothing else, on standard output. Where the log has none, the program says why, and
+# Prints the canonical log of LOG, and nothing else. Where the log has none, the program says why, and
 # then its exit status is told: make itself ends with 2 whatever it is, since it has no other status for a failure.
 run: build
 	@$(PROGRAM) normalise '$(LOG)' || { status=$$?; echo "udsnorm: exit status $$status" >&2; exit $$status; }
 
-# What a change of CRATE touches, the program first: a line for each step, up to the first that fails.
+# Checks what a change of CRATE touches, the program first: a line for each step, up to the first that fails.
 check:
 	@scripts/check $(CRATE)
 
-# Tries the wrong bodies of attacks/, those of CRATE alone where it is given: the prover has to refuse each. Some 100
-# minutes of one processor in all, and no part of `gate`, which tries those of must-fail/.
+# Tries the wrong bodies of attacks/, those of CRATE alone where it is given. The prover has to refuse each. They take hours
+# of one processor in all, and are no part of `gate`, which tries those of must-fail/.
 attack:
 	@scripts/attack $(CRATE)
 
-# The tests of what is built and of the documents, side by side: tests/run.py has their list.
+# Tests what is built, and the documents. They run side by side: tests/run.py has their list.
 test: build lib
 	@python3 tests/run.py $(PROGRAM) $(LIBRARY)
 
-# Every proof from nothing, every test of a crate, every wrong body refused.
+# Proves everything from nothing, and tries the tests and the wrong bodies of each crate.
 gate:
 	@rt ci
 
-# The program with its manual page and its completions for bash, zsh and fish, and the library for C. DESTDIR is put in
-# front of each path.
+# Writes EVIDENCE, a file for auditors: what was released, and what the gate said of it, which is in the file GATE. It stands
+# beside the release, and says so where GATE is not given.
+evidence:
+	@scripts/evidence '$(EVIDENCE)' $(if $(GATE),'$(GATE)')
+
+# Installs the program with manual page, completions, pages and sample logs, and the library. They go below PREFIX; DESTDIR is put
+# in front of each path.
 install: build lib
 	@$(MAKE) --no-print-directory install-built install-built-lib
 
-# The library alone.
+# Installs the library alone.
 install-lib: lib
 	@$(MAKE) --no-print-directory install-built-lib
 
-# The same of the program as it was built before. The manual page has each command as the program's help tells it.
+# Installs the program as it was built before. The manual page has each command as the program's help tells it.
 install-built:
 	install -D -m 755 $(PROGRAM) $(DESTDIR)$(PREFIX)/bin/udsnorm
 	install -D -m 644 /dev/null $(DESTDIR)$(MAN)
@@ -84,8 +99,9 @@ install-built:
 	install -D -m 644 share/completions/udsnorm.bash $(DESTDIR)$(BASH)
 	install -D -m 644 share/completions/_udsnorm $(DESTDIR)$(ZSH)
 	install -D -m 644 share/completions/udsnorm.fish $(DESTDIR)$(FISH)
+	packaging/pages $(DESTDIR)$(PAGES)
 
-# The library as it was built before, with its header and what pkg-config reads.
+# Installs the library as it was built before, with its header and what pkg-config reads.
 install-built-lib:
 	install -D -m 644 library/udsnorm.h $(DESTDIR)$(HEADER)
 	install -D -m 644 $(LIBRARY)/libudsnorm.a $(DESTDIR)$(LIBDIR)/libudsnorm.a
@@ -94,36 +110,39 @@ install-built-lib:
 	ln -sf $(SONAME) $(DESTDIR)$(LIBDIR)/libudsnorm.so
 	sed 's|@PREFIX@|$(PREFIX)|; s|@LIBDIR@|$(LIBDIR)|; s|@VERSION@|$(VERSION)|' library/udsnorm.pc.in | install -D -m 644 /dev/stdin $(DESTDIR)$(PKG_CONFIG)
 
+# Removes what `install` put there.
 uninstall:
 	rm -f $(DESTDIR)$(PREFIX)/bin/udsnorm $(DESTDIR)$(MAN) $(DESTDIR)$(BASH) $(DESTDIR)$(ZSH) $(DESTDIR)$(FISH)
 	rm -f $(DESTDIR)$(HEADER) $(DESTDIR)$(PKG_CONFIG) $(DESTDIR)$(LIBDIR)/libudsnorm.a
 	rm -f $(DESTDIR)$(LIBDIR)/libudsnorm.so $(DESTDIR)$(LIBDIR)/$(SONAME) $(DESTDIR)$(LIBDIR)/libudsnorm.so.$(VERSION)
+	rm -rf $(DESTDIR)$(PAGES)
 
-# A release for other machines, as a tarball and as Debian packages of the same contents: each prints its path.
+# Makes a release for other machines as a tarball, and prints its path.
 dist: build lib
 	@packaging/dist $(PROGRAM) $(LIBRARY) out
 
+# Makes Debian packages of the same contents, and prints their paths.
 deb: build lib
 	@packaging/deb $(PROGRAM) out
 	@packaging/deb-library $(LIBRARY) out
 
-# What other tools make of canonical logs, and the program of theirs. No part of `test`, since it needs these tools.
+# Tries what other tools make of canonical logs, and the program of theirs. No part of `test`, since it needs these tools.
 interop: build
 	@python3 tests/program/interop.py $(PROGRAM)
 
-# The pages of `udsnorm report` in the browsers that are here. No part of `test`, since it needs them; .ci/run has it too. What
+# Tries the pages of `udsnorm report` in the browsers that are here. No part of `test`, since it needs them; .ci/run has it too. What
 # Debian packages for Python is for Debian's own, where another one comes first.
 browser: build
 	@$(or $(wildcard /usr/bin/python3),python3) tests/pages/browser.py $(PROGRAM)
 
-# The Python package as a wheel, with library and program inside: prints its path.
+# Makes a wheel of the Python package, with library and program inside, and prints its path.
 wheel: build lib
 	@packaging/wheel $(PROGRAM) $(LIBRARY) out
 
-# How fast it is, beside other programs: a table, and no test.
+# Prints how fast it is, beside other programs. A table, and no test.
 bench: build
 	@bench/whole-logs
 
-# The yardstick of bench/rival, built by cargo, writes what the program writes. No part of `test`, since it needs cargo.
+# Tries whether the yardstick of bench/rival, built by cargo, writes what the program writes. No part of `test`, since it needs cargo.
 rival: build
 	@python3 tests/program/rival.py $(PROGRAM)

@@ -6,7 +6,8 @@
  * A call is handed a log of `candump -l` or `-L` in memory, and puts a text about it into memory of the caller. It
  * reads no file, prints nothing, keeps nothing from call to call and has no global state: any number of threads may
  * call at once.
- * What the texts are is said in docs/formats.md, what is proved of the calls in docs/library.md.
+ * What the texts are is said in docs/formats.md, what is proved of the calls in docs/library.md. Where udsnorm is installed,
+ * these pages lie in share/doc/udsnorm below its prefix.
  *
  * Written by hand. tests/library/library.py compares it with the crate udsnorm_c.
  */

@@ -40,8 +40,10 @@ Requires-Python: >=3.9
 Description-Content-Type: text/plain
 
 {(HERE / "README").read_text()}"""
-# The pages that README names, where the wheel has them and where they come to lie below the prefix.
-PAGES = [TOP / "docs" / f"{name}.md" for name in ("library", "python", "recipes", "formats")]
+# What README names, and what the commands on these pages copy: each comes to lie below share/doc/udsnorm of the prefix, as it lies
+# in the repository.
+PAGES = [TOP / "docs" / f"{name}.md" for name in ("library", "python", "questions", "recipes", "formats")]
+SAMPLES = [*sorted((TOP / "examples").iterdir()), HERE / "examples" / "sessions.py"]
 PAGES_AT = f"udsnorm-{VERSION}.data/data/share/doc/udsnorm"
 # A link to a file: its words, and where that lies.
 LINK = re.compile(r"\[([^][]+)\]\(([^)#\s:]+)(?:#[^)\s]*)?\)")
@@ -62,10 +64,15 @@ def soname():
     return f"libudsnorm.so.{(TOP / 'library' / 'SONAME').read_text().strip()}"
 
 
-def page(path):
-    """A page as the wheel has it: of links to files that the wheel lacks there stand the words alone."""
-    names = {one.name for one in PAGES}
-    return LINK.sub(lambda link: link[0] if link[2] in names else link[1], path.read_text(encoding="utf-8"))
+def documents(paths):
+    """What lies in share/doc/udsnorm of these files of the repository: names and bytes. A page has the words alone of a link to a
+    file that is not there."""
+    shipped = {path for file in paths for path in (file, *file.parents)} - {TOP, *TOP.parents}
+    for path in paths:
+        content = path.read_bytes()
+        if path.suffix == ".md":
+            content = LINK.sub(lambda link: link[(path.parent / link[2]).resolve() not in shipped], content.decode()).encode()
+        yield str(path.relative_to(TOP)), content
 
 
 def files():
@@ -75,8 +82,8 @@ def files():
         yield f"udsnorm/{path.relative_to(package)}", path.read_bytes()
     yield f"udsnorm/{soname()}", (library_folder() / soname()).read_bytes()
     yield "udsnorm/udsnorm", program().read_bytes()
-    for path in PAGES:
-        yield f"{PAGES_AT}/{path.name}", page(path).encode()
+    for name, content in documents([*PAGES, *SAMPLES]):
+        yield f"{PAGES_AT}/{name}", content
     yield f"{INFORMATION}/METADATA", METADATA.encode()
     yield f"{INFORMATION}/WHEEL", WHEEL.encode()
     yield f"{INFORMATION}/LICENSE", (TOP / "LICENSE").read_bytes()

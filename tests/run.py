@@ -60,6 +60,8 @@ LIST = [
     Test("program/hints.py", OF_PROGRAM, 1),
     Test("documents/shipped.py", OF_PROGRAM, 1),
     Test("scripts/make_test.py", NOTHING, 1),
+    Test("scripts/make_evidence.py", NOTHING, 6),
+    Test("scripts/make_help.py", NOTHING, 1),
 ]
 
 # One that runs: its process, where it prints, and when it began.

@@ -12,6 +12,8 @@ recorded. What such a log leaves out is told as a warning, `LeftOut`. Settings a
 every call, but that `find` asks for no identifiers.
 
 The interpreter's lock is given up during a call, so threads run side by side.
+
+The pages of the project, as docs/formats.md, and its sample logs lie in share/doc/udsnorm below the prefix.
 """
 
 from __future__ import annotations

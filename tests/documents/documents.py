@@ -532,6 +532,12 @@ def searched_words(cases):
         cases.report(f"{name} has the words that are searched", [f"no {word}" for word in SEARCHED if word not in text])
     told = [re.search(pattern, (TOP / "python" / file).read_text())[1] for file, pattern in DESCRIPTIONS]
     cases.report("the Python package has one description", [] if told[0] == told[1] else told)
+    project, metadata = ((TOP / "python" / file).read_text() for file in ("pyproject.toml", "wheel_builder.py"))
+    keywords = re.findall(r'"([^"]+)"', re.search(r"^keywords = \[(.*)\]", project, re.M)[1])
+    wrong = [] if re.search(r"^Keywords: (.*)$", metadata, re.M)[1].split(",") == keywords else ["other keywords"]
+    classifiers = re.findall(r'^    "(\w.* :: .*)",$', project, re.M)
+    wrong += [] if re.findall(r"^Classifier: (.*)$", metadata, re.M) == classifiers != [] else ["other classifiers"]
+    cases.report("the wheel has the keywords and classifiers of the Python package", wrong)
 
 
 def lines_of_faults(cases):

@@ -1,5 +1,5 @@
 #!/usr/bin/env python3
-"""Tests of README.md, docs/recipes.md and docs/formats.md, and where the folder of the library is given, of docs/python.md and
+"""Tests of README.md, docs/questions.md, docs/recipes.md and docs/formats.md, and where the folder of the library is given, of docs/python.md and
 of what the Python package does: their commands, taken out of the page itself, print what it shows.
 
     tests/documents/recipes.py crates/udsnorm/out/udsnorm [out/lib]
@@ -13,7 +13,8 @@ end where its set-up does. Its blocks are:
   name. One of `candump` needs a bus and is always skipped; `vcan0` is an interface, `package` the Python package with its
   library, and `pandas`, `pytest` and `python-can` are modules of Python;
 - `sh NAME`, `python NAME`: a script, saved as NAME at its place, executable; the prose above says "Save as `NAME`";
-- `yaml`: a job of CI, whose commands stand in blocks of its section, too; the files that it keeps are there at the end.
+- `yaml`: a job of CI, which installs the Debian package first, and whose commands then stand in blocks of its section, too; one
+  has `--strict`, and the files that it keeps are there at the end.
 
 Prints a line for each case and ends with `N passed, M failed`; its status is 1 where a case failed.
 """
@@ -31,11 +32,14 @@ sys.path.insert(0, str(Path(__file__).resolve().parents[1] / "helpers"))
 from cases import Cases
 
 TOP = Path(__file__).resolve().parents[2]
-PAGES = [TOP / "README.md", TOP / "docs" / "recipes.md", TOP / "docs" / "formats.md"]
+PAGES = [TOP / "README.md", *(TOP / "docs" / f"{name}.md" for name in ("questions", "recipes", "formats"))]
 OF_PYTHON = TOP / "docs" / "python.md"
 
 # Modules of Python that blocks ask for, by the names of the tools.
 MODULES = {"pandas": "pandas", "pytest": "pytest", "python-can": "can"}
+
+# How a job of CI installs the program.
+INSTALLS = re.compile(r"(?:sudo )?dpkg -i tools/udsnorm_\*\.deb")
 
 # Follows what each command prints. The next command still finds the status in $?.
 MARK = "\x01"
@@ -174,9 +178,12 @@ def run_page(cases, page, home, environment):
 
 
 def run_job(cases, title, job, commands_run, folder):
-    """A job of CI: its commands were run, and made the files that it keeps."""
-    for command in job_commands(job):
+    """A job of CI: its commands were run, but for the installation, and made the files that it keeps."""
+    first, *others = job_commands(job)
+    cases.report(f"{title}: a job installs the program first", [] if INSTALLS.fullmatch(first) else [first])
+    for command in others:
         cases.report(f"{title}: a job runs {command}", [] if command in commands_run else ["no block has it"])
+    cases.report(f"{title}: a job is strict", [] if any(" --strict " in command for command in others) else [str(others)])
     for name in kept_files(job):
         made = (folder / name).exists() and (folder / name).stat().st_size > 0
         cases.report(f"{title}: a job keeps {name}", [] if made else ["it is not there, or empty"])

@@ -28,12 +28,19 @@ VERSION = (TOP / "VERSION").read_text().rstrip("\n")
 GLIBC = re.search(r"glibc (\d\.\d+) or newer", (TOP / "README.md").read_text())[1]
 LOG = TOP / "examples" / "vin.log"
 CANONICAL = TOP / "examples" / "vin.canonical"
+
+# What lies in share/doc/udsnorm, as it lies in the repository.
+SAMPLES = {"python/examples/sessions.py", *(f"examples/{path.name}" for path in (TOP / "examples").iterdir())}
+PAGES = {"README.md", *(str(path.relative_to(TOP)) for path in (TOP / "docs").rglob("*") if path.is_file())}
+DOCUMENTS = {f"share/doc/udsnorm/{name}" for name in SAMPLES | PAGES}
+
 SHIPPED = {
     "bin/udsnorm",
     "share/man/man1/udsnorm.1",
     "share/bash-completion/completions/udsnorm",
     "share/zsh/site-functions/_udsnorm",
     "share/fish/vendor_completions.d/udsnorm.fish",
+    *DOCUMENTS,
 }
 PACKAGED = {
     "usr/bin/udsnorm",
@@ -44,6 +51,7 @@ PACKAGED = {
     "usr/share/doc/udsnorm/copyright",
     "usr/share/doc/udsnorm/changelog.gz",
     "usr/share/doc/udsnorm/changelog.Debian.gz",
+    *(f"usr/{name}" for name in DOCUMENTS),
 }
 
 # The folder of libraries, and what each package of the library has beside its papers.
@@ -200,8 +208,23 @@ def package(cases, folder):
     output("dpkg-deb", "--extract", file, root)
     cases.report("the files of the package", difference(files_below(root), PACKAGED))
     runs(cases, "its program", root / "usr" / "bin" / "udsnorm")
+    has_what_is_named(cases, root / "usr/share/doc/udsnorm")
     checked(cases, [file])
     installed(cases, [file], PACKAGED, folder / "root", lambda root: runs(cases, "the installed program", root / "usr" / "bin" / "udsnorm"))
+
+
+def has_what_is_named(cases, folder):
+    """The pages that header, docstrings and manual page name are there; and what the pages link to is, from where they lie."""
+    naming = [TOP / "library/udsnorm.h", TOP / "share/man/udsnorm.1.in", TOP / "python/README", *(TOP / "python/udsnorm").rglob("*.py")]
+    names = {name for path in naming for name in re.findall(r"\bdocs/[\w.-]+\.md\b", path.read_text())}
+    wrong = [f"no {name}" for name in sorted(names) if not (folder / name).is_file()]
+    cases.report("the package has each page that header, docstrings and manual page name", wrong if len(names) >= 5 else [str(names)])
+    wrong, count = [], 0
+    for page in folder.rglob("*.md"):
+        links = [link for link in re.findall(r"\]\(([^()#\s]+)(?:#\S*?)?\)", page.read_text()) if ":" not in link]
+        count += len(links)
+        wrong += [f"{page.name}: {link}" for link in links if not (page.parent / link).exists()]
+    cases.report("each link of its pages leads somewhere", wrong if count >= 60 else [f"{count} links"])
 
 
 def packages_of_the_library(cases, library, folder):

@@ -8,6 +8,7 @@ import difference_oracle
 import oracle
 import report_facts
 import report_reader
+import standard_names
 from difference_oracle import ADDED, CHANGED, REMOVED, SAME
 
 # How the program ends over two logs and what it tells then; the items of both, where both can be read, and else the letter of the one that
@@ -431,7 +432,7 @@ def outcome_of(item):
     """What came of a request."""
     told = oracle.answer_text(item).split()[0]
     if told == "negative":
-        return f"refused with {oracle.CODES.get(item.answer[2], f'code_{item.answer[2]:02X}')}"
+        return f"refused with {standard_names.code_told(item.answer[2])}"
     return {"positive": "positive", "silent": "silent, as the request asks", "unanswered": "without an answer"}[told]
 
 

@@ -5,10 +5,14 @@ import re
 import oracle
 import pair_facts
 import pair_reader
+import standard_names
 from difference_oracle import ADDED, CHANGED, REMOVED
 
 # A page lists so many differences.
 LISTED = 50
+
+# The names of the standards behind the bytes of a message.
+NAMES = re.compile(r"</(?:code|samp|details|i)>((?: <i>[A-Za-z][^<]*</i>)+)")
 
 
 def faults(page, ours, theirs):
@@ -20,6 +24,7 @@ def faults(page, ours, theirs):
         *change_faults(read, rows, changes),
         *word_faults(read, rows, changes, ours, theirs),
         *mark_faults(read, ours, theirs),
+        *name_faults(read, ours, theirs),
         *link_faults(read),
     ]
 
@@ -139,6 +144,30 @@ def mark_faults(read, ours, theirs):
         if [told for _, told in row.lines] != counts:
             wrong.append(f"of the bytes of A {row.left}, B {row.right} others are counted")
     return wrong
+
+
+def name_faults(read, ours, theirs):
+    """Whether the names of the standards stand behind the bytes of each message that a row tells as it is."""
+    wrong = []
+    for row in read.rows:
+        one, other = (items[number - 1] if number else None for items, number in ((ours, row.left), (theirs, row.right)))
+        told = "".join(NAMES.findall(row.text))
+        wanted = "".join(map(standard_names.small, plain_messages(one, other, row.kind)))
+        wrong += [] if told == wanted else [f"the names of A {row.left}, B {row.right} are {told!r}, not {wanted!r}"]
+    return wrong
+
+
+def plain_messages(one, other, kind):
+    """The messages of a row that stand there as they are, and not byte under byte, in their order."""
+    if kind != CHANGED:
+        item = one or other
+        return [item.message] if isinstance(item, oracle.Stray) else [message for message in (item.request, item.answer) if message]
+    if isinstance(one, oracle.Stray):
+        return []
+    asked = [one.request] if one.request == other.request else []
+    if bool(one.answer) == bool(other.answer) and (not one.answer or same_outcome(one.answer, other.answer)):
+        return asked + ([one.answer] if one.answer and one.answer == other.answer else [])
+    return asked + [answer for answer in (one.answer, other.answer) if answer]
 
 
 def recording_faults(read, came):

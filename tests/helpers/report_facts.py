@@ -13,6 +13,7 @@ from pathlib import Path
 
 import causes
 import oracle
+import standard_names
 from oracle import GIBIBYTE, SIDES, TESTER, UNIT, Outcome
 from report_reader import Block, Count, Facts, Link, Look, Row, Verdict, golden_words, read, rows_in
 
@@ -141,7 +142,8 @@ def row_told(origin, row, is_brief=False):
 def message_told(origin, row, is_brief):
     lines = (f"{row.first.line}",) if row.first.line == row.last.line else (f"{row.first.line}", f"{row.last.line}")
     begins_item = row.asked is None
-    said = {**said_of_kind(row), **(brief_data(row) if is_brief else data_told(row.data)), **note_told(row, is_brief)}
+    data = brief_data(row) if is_brief else {**data_told(row.data), "names": standard_names.small(row.data)}
+    said = {**said_of_kind(row), **data, **note_told(row, is_brief)}
     identifier = target(row) if begins_item else None
     return Row(row.kind, identifier, f"{row.item}", begins_item, lines, seconds(origin, row.last.micros), row.side, is_brief, said)
 
@@ -151,7 +153,7 @@ def said_of_kind(row):
         case "request":
             return {"service": oracle.SERVICES.get(row.data[0], f"service_{row.data[0]:02X}")}
         case "negative":
-            return {"code": oracle.CODES.get(row.data[2], f"code_{row.data[2]:02X}")}
+            return {"code": standard_names.code_told(row.data[2])}
         case "stray":
             return {"of": row.side}
     return {}

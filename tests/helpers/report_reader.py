@@ -56,7 +56,9 @@ FOLDED = (
     rf" <details><summary>(?P<more>\d+) bytes more</summary><code>(?P<folded>{BYTES})</code>(?: <samp>(?P<letters_>[^<]+)</samp>)?"
     "</details>"
 )
-DATA = rf"<code>(?P<shown>{BYTES})</code>(?: <samp>(?P<letters>[^<]+)</samp>|{FOLDED}| <i>(?P<hidden>\d+) bytes more, not shown</i>)?{NOTE}"
+# A name of the standards begins with a letter; how long after its request a reply came, with a word that begins none.
+NAMES = r"(?P<names>(?: <i>(?!after )[A-Za-z][^<]*</i>)*)"
+DATA = rf"<code>(?P<shown>{BYTES})</code>(?: <samp>(?P<letters>[^<]+)</samp>|{FOLDED}| <i>(?P<hidden>\d+) bytes more, not shown</i>)?{NAMES}{NOTE}"
 BRIEF_DATA = rf"(?P<shown>{BYTES})(?: and (?P<hidden>\d+) (?:(?<= 1 )byte|(?<! 1 )bytes) more)?"
 
 # Of each kind of row how it looks, how its arrow ends, and what it says. `words` are no facts.
@@ -64,7 +66,7 @@ Kind = namedtuple("Kind", "look end form")
 KINDS = {
     "request": Kind("q", "", rf"<b>(?P<service>\w+)</b> <i>request</i> {DATA}"),
     "positive": Kind("ok", "", rf"<b>positive</b> {DATA}"),
-    "negative": Kind("n", "", rf"<b>negative</b> <em>(?P<code>\w+)</em> {DATA}"),
+    "negative": Kind("n", "", rf"<b>negative</b> <em>(?P<code>\w+(?: [0-9A-F]{{2}})?)</em> {DATA}"),
     "pending": Kind("p", "", rf"<b>pending</b> {DATA}"),
     "keep-alive": Kind("p", "", rf"<b>keep-alive</b> {DATA}"),
     "stray": Kind("s", "", rf"<b>stray</b> <i>from the {OF}</i> {DATA}"),

@@ -619,16 +619,21 @@ class Shipped(unittest.TestCase):
         location = Path(re.search(r"^Location: (.*)$", files, re.M)[1])
         ask = "import importlib.metadata as m; print(m.metadata('udsnorm').get_payload())"
         described = run(python, ["-I", "-c", ask]).output.decode()
-        names = re.findall(r"^(\w+\.md) ", described, re.M)
-        self.assertEqual(sorted(names), sorted(re.findall(r"^  \S*share/doc/udsnorm/(\S+)$", files, re.M)))
-        self.assertIn("python.md", names)
+        names = re.findall(r"^(docs/\w+\.md) ", described, re.M)
+        self.assertIn("docs/python.md", names)
+        samples = ["python/examples/sessions.py", *(f"examples/{path.name}" for path in (TOP / "examples").iterdir())]
+        lying = [name for name in re.findall(r"^  \S*share/doc/udsnorm/(\S+)$", files, re.M) if "__pycache__" not in name]
+        self.assertEqual(sorted(names + samples), sorted(lying))
         for name in names:
             shown = re.search(rf"^  (\S*/{name})$", files, re.M)[1]
-            self.assertEqual((location / shown).resolve(), (environment / "share" / "doc" / "udsnorm" / name).resolve())
-            pages = [path.read_text(encoding="utf-8") for path in (location / shown, TOP / "docs" / name)]
+            page = (location / shown).resolve()
+            self.assertEqual(page, (environment / "share" / "doc" / "udsnorm" / name).resolve())
+            pages = [path.read_text(encoding="utf-8") for path in (page, TOP / name)]
             self.assertEqual(*(LINK.sub(r"\1", page) for page in pages))
-            kept = [link for link in LINK.findall(pages[1]) if link[1] in names or re.match("$|https?:", link[1])]
+            kept = [link for link in LINK.findall(pages[1]) if (page.parent / link[1]).exists() or re.match("$|https?:", link[1])]
             self.assertEqual(LINK.findall(pages[0]), kept)
+        for name in samples:
+            self.assertEqual((environment / "share/doc/udsnorm" / name).read_bytes(), (TOP / name).read_bytes(), name)
 
     def test_types(self):
         if not shutil.which("mypy"):

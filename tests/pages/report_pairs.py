@@ -74,7 +74,7 @@ DIFFERENCES = [
     ("a pending reply alone", [REQUEST, PENDING], [REQUEST, PENDING, ANSWER], (1, "changed", "ReadDataByIdentifier 22 F1 90: without an answer in A, positive in B")),
     ("other answers", [REQUEST, ANSWER], [REQUEST, OTHER_ANSWER], (1, "changed", "ReadDataByIdentifier 22 F1 90: answer byte 4: 41 in A, 42 in B")),
     ("a positive answer and a negative one", [REQUEST, ANSWER], [REQUEST, REFUSED], (1, "changed", "ReadDataByIdentifier 22 F1 90: positive in A, refused with requestOutOfRange in B")),
-    ("other response codes", [REQUEST, "7E8#037F2299"], [REQUEST, REFUSED], (1, "changed", "ReadDataByIdentifier 22 F1 90: refused with code_99 in A, with requestOutOfRange in B")),
+    ("other response codes", [REQUEST, "7E8#037F2299"], [REQUEST, REFUSED], (1, "changed", "ReadDataByIdentifier 22 F1 90: refused with reservedForSpecificConditionsNotCorrect 99 in A, with requestOutOfRange in B")),
     ("an answer that is the front of the other", [REQUEST, ANSWER], [REQUEST, "7E8#0362F190"], (1, "changed", "ReadDataByIdentifier 22 F1 90: answer: byte 4 only in A: 41; 4 bytes in A, 3 in B")),
     ("other answers behind pending replies", [REQUEST, PENDING, ANSWER], [REQUEST, PENDING, PENDING, OTHER_ANSWER], (1, "changed", "ReadDataByIdentifier 22 F1 90: answer byte 4: 41 in A, 42 in B")),
     ("an answer before and behind a keep-alive", [REQUEST, KEEP_ALIVE, ANSWER], [REQUEST, ANSWER, KEEP_ALIVE], None),
@@ -110,6 +110,7 @@ PLANTED = [
     ("a loss at a difference", "request_changed", r'(<p><span class="where">.*)(</span></p>\n<div class="two">)', '\\1 <em class="loss">A is not clean here</em>\\2'),
     ("a loss of a fold", "request_changed", r"</i></summary>", '</i> <em class="loss">1 dropped, ended or unfinished in B</em></summary>'),
     ("a mark of a byte that is the same", "request_changed", r'(?s)(<section id="items".*?<div class="hx">.*?<code>)22', "\\1<mark>22</mark>"),
+    ("the name of another level", "two_answers_changed", r'(?s)(<section id="items".*?<i>requestSeed )01', "\\g<1>03"),
     ("folded bytes that one log lacks", "bytes_put_in", r'(?s)(<section id="difference".*?bytes more, the same)', "\\1; 3 bytes only in B"),
     ("a folded byte that differs", "bytes_put_in", r'(?s)(<section id="items".*?bytes more, )the same', "\\g<1>1 of them differs"),
 ]

@@ -67,23 +67,24 @@ OF_LIBRARIES = {
     "uds_difference: proofs": ["uds_exchange: proofs"],
     "shown_rows: proofs": ["uds_difference: proofs"],
     "uds_find: proofs": ["uds_message: proofs"],
+    "uds_names: proofs": ["uds_message: proofs"],
     "trace_log: proofs": ["uds_exchange: proofs"],
     "trace_run: proofs": ["trace_log: proofs"],
     "trace_text: proofs": ["trace_log: proofs"],
     "trace_canon: proofs": ["trace_run: proofs", "trace_text: proofs", "uds_find: proofs"],
-    "trace_report: proofs": ["trace_canon: proofs"],
+    "trace_report: proofs": ["trace_canon: proofs", "uds_names: proofs"],
     "trace_difference: proofs": ["shown_rows: proofs", "trace_canon: proofs"],
     "trace_pair: proofs": ["shown_rows: proofs", "trace_report: proofs"],
 }
 QUICK_TESTS = [*(f"program/{name}" for name in ["command_line", "program", "sessions"]), *(f"documents/{name}" for name in ["shipped", "recipes", "release"])]
-OTHER_TESTS = ["documents/documents", "scripts/make_check", "scripts/make_test"]
+OTHER_TESTS = ["documents/documents", *(f"scripts/{name}" for name in ["make_check", "make_test", "make_evidence", "make_help"])]
 OF_PROGRAM = {"udsnorm: make build": ["trace_pair: proofs", "trace_difference: proofs"], **{f"tests/{test}.py": [] for test in OTHER_TESTS}}
 OF_PROGRAM |= {f"tests/{test}.py": ["udsnorm: make build"] for test in QUICK_TESTS}
 
 # The crates beside the program, each with those below it that are checked.
 UP_TO_LOG = ["uds_message", "uds_exchange", "trace_log"]
 UP_TO_CANON = [*UP_TO_LOG, "uds_find", "trace_run", "trace_text", "trace_canon"]
-PAGES = [*UP_TO_CANON, "uds_difference", "shown_rows", "trace_report", "trace_pair"]
+PAGES = [*UP_TO_CANON, "uds_names", "uds_difference", "shown_rows", "trace_report", "trace_pair"]
 LIBRARIES = [*PAGES, "trace_difference"]
 TEXTS = [*UP_TO_CANON, "uds_difference", "shown_rows", "trace_difference", "tried_sessions"]
 APART = {
@@ -92,7 +93,7 @@ APART = {
     "layer_bench": ["uds_message", "uds_exchange"],
     "session_bench": PAGES,
     "tried_sessions": UP_TO_LOG,
-    "acceptance": ["uds_message", "uds_exchange", "uds_difference", "uds_find"],
+    "acceptance": ["uds_message", "uds_names", "uds_exchange", "uds_difference", "uds_find"],
     "call_acceptance": TEXTS,
     "page_acceptance": [*PAGES, "tried_sessions"],
     "refused_memory": TEXTS,

@@ -2,7 +2,7 @@
 //!
 //! Each crate below is proved by itself, without a test: the gate would prove it again with them. That its definitions say
 //! what was meant is shown here, layer by layer, by worked values: `log_lines`, `device_calls`, `frame_layouts`,
-//! `frame_verdicts`, `message_frames`, `message_kinds`, `profiles`, `pairings`, `credited_answers`,
+//! `frame_verdicts`, `message_frames`, `message_kinds`, `standard_names`, `profiles`, `pairings`, `credited_answers`,
 //! `session_rows`.
 //!
 //! `message_frames` also tries the lengths at which a message has a frame more, and `sizes` those at which a buffer may grow.
@@ -37,3 +37,5 @@ mod rows;
 mod session_rows;
 #[cfg(test)]
 mod sizes;
+#[cfg(test)]
+mod standard_names;

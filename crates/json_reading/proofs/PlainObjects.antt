@@ -179,10 +179,10 @@ messages_are_read_as_meant rules placed =
               tt,
               (
                 plain (codes "start") refl,
-                stamp_plain placed.first.micros,
+                stamp_plain placed.extent.first.micros,
                 (
                   plain (codes "end") refl,
-                  stamp_plain placed.last.micros,
+                  stamp_plain placed.extent.last.micros,
                   (
                     plain (codes "message") refl,
                     message_plain rules placed.sent.1,

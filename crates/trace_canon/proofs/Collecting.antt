@@ -1,8 +1,9 @@
 -- What is kept of a log's messages with one more.
-use Rattle.std.proofs.Common.{◌≡◌, ℕ, ◌<◌, ◌≤◌, true, false, List, [], ◌∷◌, ◌++◌, inl, inr, arith, refl, ap, ◌∙◌}
-use Rattle.std.proofs.lemmas.Bool.{cases_lt, le-leb, lt-leb}
+use Rattle.std.proofs.Common.{◌≡◌, ℕ, ◌+◌, ◌<◌, ◌≤◌, true, false, List, [], ◌∷◌, ◌++◌, Some, None, arith, refl, sym, subst}
+use Rattle.std.proofs.lemmas.Bool.{le-leb, lt-leb}
 use Rattle.direction.specs.Dir.{Message}
 use Rattle.uds_exchange.specs.Meaning.{ItemValue, meaning, flattened}
+use Rattle.trace_canon.specs.declared.collector.Collected.{Collected}
 use Rattle.trace_canon.specs.proving.SessionScript.{Collects}
 use Rattle.trace_log.specs.Settings.{Settings}
 use Rattle.trace_canon.specs.proving.Measuring.{HaveLengths, fits_within}
@@ -24,58 +25,32 @@ fits_not settings items size have over =
 
 module _ (settings : Settings) where
   -- before the first message
-  pub collects_none : Collects settings [] [] 0 settings
-  collects_none = record {
-    same = refl;
-    size = 0;
-    measured = refl;
-    all = λ within. (refl, refl);
-    none = λ over. absurd (omega (arith, over));
-    held = fits_so settings [] 0 refl (omega arith);
-  }
+  pub collects_start : (pairing : List ItemValue) (room : ℕ) → pairing ≡ meaning [] → room ≡ settings.max_bytes
+      → Collects settings [] (Some (record { pairing = pairing; room = room })) settings
+  collects_start pairing room is whole =
+      record { same = refl; size = 0; measured = refl; kept = (is, omega (arith, whole)) }
 
-  module _ (M : List Message) (message : Message) where
-    -- with one more, where what is kept is within the limit
-    pub collects_more : (items : List ItemValue) (known : ℕ) (size : ℕ) → HaveLengths settings (flattened (meaning (M ++ message ∷ []))) size
-        → items ≡ meaning (M ++ message ∷ []) → known ≡ size → size ≤ settings.max_bytes → (config : Settings)
-        → config ≡ settings → Collects settings (M ++ message ∷ []) items known config
-    collects_more items known size have is known_is within config same = record {
-      same = same;
-      size = size;
-      measured = have;
-      all = λ _. (is, known_is);
-      none = λ over. absurd (omega (arith, over, within));
-      held = ap (fits_within settings) is ∙ fits_so settings (meaning (M ++ message ∷ [])) size have within;
-    }
+  module _ (M : List Message) (config : Settings) where
+    module _ (old : Collected) (stood : Collects settings M (Some old) config) where
+      -- with one more, for which there is room
+      pub collects_more : (message : Message) (added : ℕ) (new : Collected)
+          → (HaveLengths config (flattened (meaning M)) stood.size
+          → HaveLengths config (flattened (meaning (M ++ message ∷ []))) (stood.size + added))
+          → (old.pairing ≡ meaning M → new.pairing ≡ meaning (M ++ message ∷ [])) → old.room ≡ new.room + added
+          → Collects settings (M ++ message ∷ []) (Some new) config
+      collects_more message added new grows pairs room = record {
+        same = stood.same;
+        size = stood.size + added;
+        measured =
+            subst (λ (s : Settings). HaveLengths s (flattened (meaning (M ++ message ∷ []))) (stood.size + added)) stood.same
+            (grows (subst (λ (s : Settings). HaveLengths s (flattened (meaning M)) stood.size) (sym stood.same) stood.measured));
+        kept = (pairs stood.kept.0, omega (arith, stood.kept.1, room));
+      }
 
-    -- or no longer is
-    pub collects_no_more : (items : List ItemValue) (known : ℕ) (size : ℕ) → HaveLengths settings (flattened (meaning (M ++ message ∷ []))) size
-        → items ≡ [] → settings.max_bytes < known → settings.max_bytes < size → (config : Settings) → config ≡ settings
-        → Collects settings (M ++ message ∷ []) items known config
-    collects_no_more items known size have is known_over over config same = record {
-      same = same;
-      size = size;
-      measured = have;
-      all = λ within. absurd (omega (arith, over, within));
-      none = λ _. (is, known_over);
-      held = ap (fits_within settings) is ∙ fits_so settings [] 0 refl (omega arith);
-    }
+      -- what is kept is all, and fits
+      pub still_fits : (old.pairing ≡ meaning M) × (fits_within settings (meaning M) ≡ true)
+      still_fits = (stood.kept.0, fits_so settings (meaning M) stood.size stood.measured (omega (arith, stood.kept.1)))
 
-  module _ (M : List Message) (items : List ItemValue) (known : ℕ) (config : Settings) (kept : Collects settings M items known config) where
-    -- where a number within the limit is known, all is kept
-    pub keeps_all : known ≤ settings.max_bytes → (items ≡ meaning M) × (known ≡ kept.size) × (kept.size ≤ settings.max_bytes)
-    keeps_all within = elim (cases_lt settings.max_bytes kept.size) [
-      | inl over ↦ absurd (omega (arith, (kept.none over).1, within))
-      | inr fits ↦ ((kept.all fits).0, (kept.all fits).1, fits)
-    ]
-
-    -- and else the canonical log is too long
-    pub keeps_none : settings.max_bytes < known → (items ≡ []) × (settings.max_bytes < kept.size)
-    keeps_none over = elim (cases_lt settings.max_bytes kept.size) [
-      | inl long ↦ ((kept.none long).0, long)
-      | inr fits ↦ absurd (omega (arith, (kept.all fits).1, fits, over))
-    ]
-
-    -- so it does not fit
-    pub no_longer_fits : settings.max_bytes < known → fits_within settings (meaning M) ≡ false
-    no_longer_fits over = fits_not settings (meaning M) kept.size kept.measured (keeps_none over).1
+    -- where nothing is kept any more, it does not fit
+    pub no_longer_fits : Collects settings M None config → fits_within settings (meaning M) ≡ false
+    no_longer_fits stood = fits_not settings (meaning M) stood.size stood.measured stood.kept

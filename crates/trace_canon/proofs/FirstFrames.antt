@@ -8,31 +8,31 @@ use Rattle.isotp_receive.specs.Places.{bytes_in_first, between, consecutive_fram
 use Rattle.isotp_receive.specs.OnTime.{IsOnTime}
 use Rattle.isotp_receive.specs.OpenReception.{LeavesOpen}
 use Rattle.isotp_receive.proofs.Promises.{get-here, get-left}
-use Rattle.trace_canon.specs.FirstFrames.{starts, last_start}
+use Rattle.trace_canon.specs.FirstFrames.{starts_message, last_start}
 use Rattle.trace_canon.specs.Laws.{BeginsWithItsReception, BeginsWithItsFrame}
 use Rattle.trace_canon.proofs.NextStarts.{last_start_more}
 
 -- where no frame starts a message, the last start is the one before
 none_starts : (d : Dir) (x : Entry) (T : List Entry)
-    → ((position : ℕ) (g : Entry) → At T position g → starts (role d g) ≡ false) → last_start d x T ≡ x
+    → ((position : ℕ) (g : Entry) → At T position g → starts_message (role d g) ≡ false) → last_start d x T ≡ x
 none_starts d x [] none = refl
 none_starts d x (g ∷ rest) none =
     ap (λ b. last_start d (if b then g else x) rest) (none zero g refl) ∙ none_starts d x rest (λ position h there. none (suc position) h there)
 
 -- the last start is the one that no other follows
-last_at : (d : Dir) (x : Entry) (T : List Entry) (begun : ℕ) (f : Entry) → At T begun f → starts (role d f) ≡ true
-    → ((position : ℕ) (g : Entry) → begun < position → At T position g → starts (role d g) ≡ false) → last_start d x T ≡ f
+last_at : (d : Dir) (x : Entry) (T : List Entry) (begun : ℕ) (f : Entry) → At T begun f → starts_message (role d f) ≡ true
+    → ((position : ℕ) (g : Entry) → begun < position → At T position g → starts_message (role d g) ≡ false) → last_start d x T ≡ f
 last_at d x [] begun f there is none = absurd (cc)
 last_at d x (g ∷ rest) zero f there is none =
     let same : g ≡ f = cc in
-    ap (λ b. last_start d (if b then g else x) rest) (ap (λ (y : Entry). starts (role d y)) same ∙ is)
+    ap (λ b. last_start d (if b then g else x) rest) (ap (λ (y : Entry). starts_message (role d y)) same ∙ is)
     ∙ none_starts d g rest (λ position h at. none (suc position) h (omega arith) at) ∙ same
 last_at d x (g ∷ rest) (suc begun) f there is none =
-    last_at d (if starts (role d g) then g else x) rest begun f there is (λ position h later at. none (suc position) h (omega arith) at)
+    last_at d (if starts_message (role d g) then g else x) rest begun f there is (λ position h later at. none (suc position) h (omega arith) at)
 
 -- what leaves a reception open starts no message
 open_by : (start : FirstFrame) (in_first count before : ℕ) (OnTime : Type 0) (r : FrameRole)
-    → LeavesOpen start in_first count before OnTime r → starts r ≡ false
+    → LeavesOpen start in_first count before OnTime r → starts_message r ≡ false
 open_by start in_first count before OnTime (single whole) leaves = absurd leaves
 open_by start in_first count before OnTime (first other) leaves = absurd leaves
 open_by start in_first count before OnTime (consecutive sequence_number can_dl bytes) leaves = refl
@@ -54,11 +54,11 @@ pub begins_with_its_reception : BeginsWithItsReception
 begins_with_its_reception limit T e bytes message =
     let o = message.fit.is_open in
     let next = message.fit.next in
-    let goes_on : starts (role e.dir e) ≡ false =
-    ap (λ (y : Entry). starts (role e.dir y)) (sym (here T e next.entry next.stands)) ∙ ap starts next.kind in
+    let goes_on : starts_message (role e.dir e) ≡ false =
+    ap (λ (y : Entry). starts_message (role e.dir y)) (sym (here T e next.entry next.stands)) ∙ ap starts_message next.kind in
     last_start_more e.dir e T e ∙ ap (λ b. if b then e else last_start e.dir e T) goes_on
     ∙ last_at e.dir e T message.fit.begun o.begins.entry
-    (sym (get-left T (e ∷ []) message.fit.begun o.later) ∙ o.begins.stands) (ap starts o.begins.kind)
+    (sym (get-left T (e ∷ []) message.fit.begun o.later) ∙ o.begins.stands) (ap starts_message o.begins.kind)
     (λ position g later at. open_by o.begins.start (bytes_in_first o.begins.entry.frame.bytes) o.count
     (consecutive_frames_in e.dir (between (T ++ e ∷ []) message.fit.begun position))
     (IsOnTime (T ++ e ∷ []) e.dir message.fit.begun position g) (role e.dir g)
@@ -66,6 +66,6 @@ begins_with_its_reception limit T e bytes message =
 
 pub begins_with_its_frame : BeginsWithItsFrame
 begins_with_its_frame T e bytes one =
-    let starting : starts (role e.dir e) ≡ true =
-    ap (λ (y : Entry). starts (role e.dir y)) (sym (here T e one.entry one.stands)) ∙ ap starts one.kind in
+    let starting : starts_message (role e.dir e) ≡ true =
+    ap (λ (y : Entry). starts_message (role e.dir y)) (sym (here T e one.entry one.stands)) ∙ ap starts_message one.kind in
     last_start_more e.dir e T e ∙ ap (λ b. if b then e else last_start e.dir e T) starting

@@ -10,6 +10,7 @@ pub mod Answered
 pub mod SaidFrames
 pub mod CanonicalSayings
 pub mod CanonicalMachines
+pub mod SaidCanonicalLogs
 pub mod CanonicalScripts
 pub mod MovedStarts
 pub mod NextStarts
@@ -19,6 +20,7 @@ pub mod Collecting
 pub mod SessionScripts
 pub mod WatchScripts
 pub mod CompletedMessages
+pub mod GatheredTexts
 pub mod InMemories
 pub mod Hearings
 pub mod CreditLines

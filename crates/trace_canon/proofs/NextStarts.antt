@@ -22,7 +22,7 @@ use Rattle.isotp_receive.specs.Trace.{Entry, role, own_role, other_role, same_di
 use Rattle.isotp_receive.specs.Verdict.{message, on_layout, on_fit, verdict}
 use Rattle.isotp_receive.proofs.Promises.{one_more, same-self, other-apart, apart-flipped}
 use Rattle.trace_run.specs.Seen.{IsEventOf}
-use Rattle.trace_canon.specs.FirstFrames.{CompletesMessage, place_of, starts, last_start, first_frame}
+use Rattle.trace_canon.specs.FirstFrames.{CompletesMessage, place_of, starts_message, last_start, first_frame}
 use Rattle.trace_canon.specs.ReceptionStarts.{AreStartsAfter, IsBegunAt, reception_start, start_after_event, message_start}
 use Rattle.trace_canon.specs.declared.reception_starts.FramePlace.{FramePlace}
 use Rattle.trace_canon.specs.declared.reception_starts.ReceptionStarts.{ReceptionStarts}
@@ -32,9 +32,9 @@ other d = apart-flipped (other_direction d) d (other-apart d)
 
 -- the last start with one more frame
 pub last_start_more : (d : Dir) (earlier : Entry) (T : List Entry) (e : Entry)
-    → last_start d earlier (T ++ e ∷ []) ≡ (if starts (role d e) then e else last_start d earlier T)
+    → last_start d earlier (T ++ e ∷ []) ≡ (if starts_message (role d e) then e else last_start d earlier T)
 last_start_more d earlier [] e = refl
-last_start_more d earlier (x ∷ T) e = last_start_more d (if starts (role d x) then x else earlier) T e
+last_start_more d earlier (x ∷ T) e = last_start_more d (if starts_message (role d x) then x else earlier) T e
 
 -- where a reception began that stands, if one does
 abbrev at : FramePlace → Option StandingReception → Option FramePlace
@@ -54,7 +54,7 @@ module _ (line micros : ℕ) (here : FramePlace) where
   -- a frame of the direction itself
   own_next : (d : Dir) (own others : Option StandingReception) (place : FramePlace) (read : Result Layout PduFault)
       → start_after_event d d (on_layout MESSAGE_LIMIT d own others micros read) here (at place own)
-      ≡ at (if starts (own_role line micros read) then here else place) (after MESSAGE_LIMIT own micros (own_role line micros read))
+      ≡ at (if starts_message (own_role line micros read) then here else place) (after MESSAGE_LIMIT own micros (own_role line micros read))
   own_next d own others place (Err fault) = rw (same-self d) refl
   own_next d None others place (Ok (layout.single whole)) = rw (same-self d) refl
   own_next d (Some standing) others place (Ok (layout.single whole)) = rw (same-self d) refl
@@ -85,7 +85,7 @@ module _ (line micros : ℕ) (here : FramePlace) where
   -- a frame of the other direction d
   other_next : (d : Dir) (own others : Option StandingReception) (place : FramePlace) (read : Result Layout PduFault)
       → start_after_event (other_direction d) d (on_layout MESSAGE_LIMIT d own others micros read) here (at place others)
-      ≡ at (if starts (other_role read) then here else place) (after MESSAGE_LIMIT others micros (other_role read))
+      ≡ at (if starts_message (other_role read) then here else place) (after MESSAGE_LIMIT others micros (other_role read))
   other_next d own others place (Err fault) = rw (other-apart d) refl
   other_next d None others place (Ok (layout.single whole)) = rw (other-apart d) refl
   other_next d (Some standing) others place (Ok (layout.single whole)) = rw (other-apart d) refl
@@ -109,7 +109,7 @@ module _ (line micros : ℕ) (here : FramePlace) where
   first_found : (d : Dir) (own others : Option StandingReception) (place : FramePlace) (read : Result Layout PduFault) (whole : List ℕ)
       → (on_layout MESSAGE_LIMIT d own others micros read).verdict ≡ message whole
       → message_start d (on_layout MESSAGE_LIMIT d own others micros read) here (at place own)
-      ≡ (if starts (own_role line micros read) then here else place)
+      ≡ (if starts_message (own_role line micros read) then here else place)
   first_found d own others place (Err fault) whole is = absurd (cc is)
   first_found d None others place (Ok (layout.single bytes)) whole is = refl
   first_found d (Some standing) others place (Ok (layout.single bytes)) whole is = rw (same-self d) refl
@@ -166,7 +166,7 @@ own_begun d T line micros frame begun is earlier =
       is earlier,
       one_more MESSAGE_LIMIT d T e,
       last_start_more d earlier T e,
-      place_if (starts (role d e)) e (last_start d earlier T),
+      place_if (starts_message (role d e)) e (last_start d earlier T),
       role_own d line micros frame,
     )
     (own_next line micros (here_at line micros) d (stands MESSAGE_LIMIT d T) (stands MESSAGE_LIMIT (other_direction d) T)
@@ -185,7 +185,7 @@ other_begun d T line micros frame begun is earlier =
       is earlier,
       one_more MESSAGE_LIMIT o T e,
       last_start_more o earlier T e,
-      place_if (starts (role o e)) e (last_start o earlier T),
+      place_if (starts_message (role o e)) e (last_start o earlier T),
       role_other d line micros frame,
     )
     (other_next line micros (here_at line micros) d (stands MESSAGE_LIMIT d T) (stands MESSAGE_LIMIT o T)
@@ -209,7 +209,7 @@ first_of : (d : Dir) (T : List Entry) (line micros : ℕ) (frame : FrameValue) (
 unfolding verdict
 first_of d T line micros frame begun whole is completes =
     let e : Entry = entry_at line micros d frame in
-    rw (is e, last_start_more d e T e, place_if (starts (role d e)) e (last_start d e T), role_own d line micros frame)
+    rw (is e, last_start_more d e T e, place_if (starts_message (role d e)) e (last_start d e T), role_own d line micros frame)
     (first_found line micros (here_at line micros) d (stands MESSAGE_LIMIT d T) (stands MESSAGE_LIMIT (other_direction d) T)
     (place_of (last_start d e T)) (layout_of frame) whole completes)
 

@@ -22,27 +22,32 @@ use Rattle.trace_text.specs.declared.notation.Notation.{Notation}
 use Rattle.trace_text.proofs.Promises.{line_is}
 use Rattle.trace_canon.specs.MessagesScript.{PlacedMessage, judged_at, placed_members, placed_text, placed_behind, left_line, delivered_line}
 use Rattle.trace_canon.specs.FirstFrames.{place_of, first_frame}
+use Rattle.trace_canon.specs.declared.message_parts.FrameExtent.{FrameExtent}
 use Rattle.trace_canon.specs.declared.reception_starts.FramePlace.{FramePlace}
 use Rattle.trace_canon.proofs.NextStarts.{here_at}
 
--- a message in these places
-abbrev pub placed_at : ℕ → Step → Message → FramePlace → FramePlace → PlacedMessage
-placed_at number step sent first last = record { number = number; step = step; sent = sent; first = first; last = last }
+-- frames from one place to another
+abbrev extent_from : FramePlace → FramePlace → FrameExtent
+extent_from first last = record { first = first; last = last }
+
+-- a message of these frames
+abbrev pub placed_at : ℕ → Step → Message → FrameExtent → PlacedMessage
+placed_at number step sent extent = record { number = number; step = step; sent = sent; extent = extent }
 
 -- what is said of a message that rules left of the one that a frame completed, from the place of its first frame to this one,
 -- is its line
 pub judged_said : (rules : List RuleValue) (T : List Entry) (e : Entry) (seen : Seen) (judged : Judged) → IsSeen rules T e seen
     → CompletesJudged rules T e judged → (notation own_notation : Notation) (own_rules : List RuleValue) (first : FramePlace)
     → own_notation ≡ notation → own_rules ≡ rules → first ≡ place_of (first_frame T e)
-    → placed_text own_notation own_rules (judged_at judged first (here_at seen.line seen.micros))
+    → placed_text own_notation own_rules (judged_at judged (extent_from first (here_at seen.line seen.micros)))
     ≡ delivered_line notation MESSAGE_LIMIT rules T e (verdict MESSAGE_LIMIT T e).verdict
 judged_said rules T e seen judged is completes notation own_notation own_rules first same ruled first_is =
     let at = is.event in
     let M = messages_under rules MESSAGE_LIMIT T in
-    let words : placed_text own_notation own_rules (judged_at judged first (here_at seen.line seen.micros))
+    let words : placed_text own_notation own_rules (judged_at judged (extent_from first (here_at seen.line seen.micros)))
     ≡ placed_text notation rules (placed_behind M (sent judged) (first_frame T e) e) =
-    (λ i. placed_text (same i) (ruled i) (placed_at (completes.item i) (completes.step i) (sent judged) (first_is i)
-    (here_at (sym at.line i) (sym at.micros i)))) in
+    (λ i. placed_text (same i) (ruled i) (placed_at (completes.item i) (completes.step i) (sent judged)
+    (extent_from (first_is i) (here_at (sym at.line i) (sym at.micros i))))) in
     words ∙ ap (λ d. placed_text notation rules (placed_behind M (d, judged.bytes.now) (first_frame T e) e)) (sym completes.dir)
     ∙ ap (left_line notation MESSAGE_LIMIT rules T e) (sym completes.made)
     ∙ ap (delivered_line notation MESSAGE_LIMIT rules T e) (sym completes.did)
@@ -68,11 +73,11 @@ nothing_said notation rules T e seen is none =
     silent_line notation rules T e e.dir (verdict MESSAGE_LIMIT T e).verdict (tells_no_message rules T e seen is none)
 
 -- the parts of the object of a message
-abbrev object_parts_of : ℕ → List ℕ → List ℕ → List ℕ → FramePlace → FramePlace → List ℕ
-object_parts_of number role side bytes first last =
+abbrev object_parts_of : ℕ → List ℕ → List ℕ → List ℕ → FrameExtent → List ℕ
+object_parts_of number role side bytes extent =
     codes "{\"item\":" ++ decimal number ++ codes ",\"role\":\"" ++ role ++ codes "\",\"direction\":\"" ++ side
-    ++ (codes "\",\"first_line\":" ++ decimal first.line ++ codes ",\"last_line\":" ++ decimal last.line)
-    ++ (codes ",\"start\":\"" ++ stamp_text first.micros ++ codes "\",\"end\":\"" ++ stamp_text last.micros)
+    ++ (codes "\",\"first_line\":" ++ decimal extent.first.line ++ codes ",\"last_line\":" ++ decimal extent.last.line)
+    ++ (codes ",\"start\":\"" ++ stamp_text extent.first.micros ++ codes "\",\"end\":\"" ++ stamp_text extent.last.micros)
     ++ (codes "\",\"message\":\"" ++ bytes ++ codes "\"}\n")
 
 -- one behind another
@@ -81,12 +86,12 @@ in_order : (a b c d e f g h i j k l m n o p q : List ℕ)
     ≡ a ++ (b ++ (c ++ (d ++ (e ++ (f ++ (g ++ (h ++ (i ++ (j ++ (k ++ (l ++ (m ++ (n ++ (o ++ (p ++ (q ++ []))))))))))))))))
 in_order a b c d e f g h i j k l m n o p q = simp (append_assoc, append-nil)
 
-pub object_parts : (rules : List RuleValue) (number : ℕ) (step : Step) (sent : Message) (first last : FramePlace)
-    → object_parts_of number (role_text step) (direction_text sent.0) (ruled_text rules sent.1) first last
-    ≡ object_line (placed_members rules (placed_at number step sent first last))
-object_parts rules number step sent first last =
+pub object_parts : (rules : List RuleValue) (number : ℕ) (step : Step) (sent : Message) (extent : FrameExtent)
+    → object_parts_of number (role_text step) (direction_text sent.0) (ruled_text rules sent.1) extent
+    ≡ object_line (placed_members rules (placed_at number step sent extent))
+object_parts rules number step sent extent =
     in_order (codes "{\"item\":") (decimal number) (codes ",\"role\":\"") (role_text step) (codes "\",\"direction\":\"") (direction_text sent.0)
-    (codes "\",\"first_line\":") (decimal first.line) (codes ",\"last_line\":") (decimal last.line)
-    (codes ",\"start\":\"") (stamp_text first.micros) (codes "\",\"end\":\"") (stamp_text last.micros)
+    (codes "\",\"first_line\":") (decimal extent.first.line) (codes ",\"last_line\":") (decimal extent.last.line)
+    (codes ",\"start\":\"") (stamp_text extent.first.micros) (codes "\",\"end\":\"") (stamp_text extent.last.micros)
     (codes "\",\"message\":\"") (ruled_text rules sent.1) (codes "\"}\n")
-    ∙ sym (line_is (placed_members rules (placed_at number step sent first last)))
+    ∙ sym (line_is (placed_members rules (placed_at number step sent extent)))

@@ -45,4 +45,4 @@ session_is_the_same settings log given (Err Memory) old new wrote = tt
 pub meaning_given : (settings : Settings) (log : List ℕ) (items : List ItemValue) (summary : Summary)
     → IsAcceptedWith MESSAGE_LIMIT settings log items summary
     → GivesMeaning MESSAGE_LIMIT settings log (Ok items)
-meaning_given settings log items summary is = ((is.accepted, is.outcome), is.means)
+meaning_given settings log items summary is = (summary, is)

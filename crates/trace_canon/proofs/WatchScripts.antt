@@ -1,4 +1,5 @@
--- The lines of items said as soon as these are decided: what is kept and said of one more frame, and that all is the list.
+-- The lines of items said as soon as these are decided: what is kept and said of one more frame, and that all is the
+-- list.
 use Rattle.std.proofs.Common.{◌≡◌, ℕ, ◌+◌, ◌^◌, ◌<◌, ◌≤◌, List, [], ◌∷◌, ◌++◌, length, drop, Result, Ok, Err, arith, refl}
 use Rattle.std.proofs.Common.{ap, sym, subst, ◌∙◌, append-nil, append_assoc, length-append}
 use Rattle.std.proofs.Math.Seq.{drop-append_seam}

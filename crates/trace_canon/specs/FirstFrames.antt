@@ -11,18 +11,18 @@ abbrev pub place_of : Entry → FramePlace
 place_of e = record { line = e.line; micros = e.micros }
 
 -- a frame of this role starts a message: a single frame or a first frame
-abbrev pub starts : FrameRole → Bool
-starts (single whole) = true
-starts (first start) = true
-starts (consecutive sequence_number can_dl bytes) = false
-starts continue_or_wait = false
-starts overflow = false
-starts no_part = false
+abbrev pub starts_message : FrameRole → Bool
+starts_message (single whole) = true
+starts_message (first start) = true
+starts_message (consecutive sequence_number can_dl bytes) = false
+starts_message continue_or_wait = false
+starts_message overflow = false
+starts_message no_part = false
 
 -- the last of these frames that starts a message of the direction; the frame `earlier` where none of them does
 abbrev pub last_start : Dir → Entry → List Entry → Entry
 last_start d earlier [] = earlier
-last_start d earlier (e ∷ rest) = last_start d (if starts (role d e) then e else earlier) rest
+last_start d earlier (e ∷ rest) = last_start d (if starts_message (role d e) then e else earlier) rest
 
 -- The frame completes a message.
 abbrev pub CompletesMessage : ℕ → List Entry → Entry → Type 0

@@ -13,7 +13,7 @@ use Rattle.uds_exchange.specs.declared.step.Step.{Step}
 use Rattle.trace_text.specs.Json.{Members, nothing, member, object_line}
 use Rattle.trace_text.specs.Json as json
 use Rattle.trace_canon.specs.FirstFrames.{first_frame, place_of}
-use Rattle.trace_canon.specs.declared.reception_starts.FramePlace.{FramePlace}
+use Rattle.trace_canon.specs.declared.message_parts.FrameExtent.{FrameExtent}
 use Rattle.trace_text.specs.declared.notation.Notation.{Notation}
 use Rattle.trace_text.specs.declared.notation.Notation.TheVariants.{Text, Json}
 use Rattle.trace_run.specs.Script.{Script}
@@ -21,41 +21,41 @@ use Rattle.trace_text.specs.RuledText.{ruled_text}
 use Rattle.trace_text.specs.Words.{direction_text, role_text, stamp_text}
 
 -- the lines and the stamps of the first frame of a message and of its last one
-abbrev pub extent_text : FramePlace → FramePlace → List ℕ
-extent_text first last =
-    codes " lines " ++ decimal first.line ++ codes " to " ++ decimal last.line
-    ++ codes " at " ++ stamp_text first.micros ++ codes " to " ++ stamp_text last.micros
+abbrev pub extent_text : FrameExtent → List ℕ
+extent_text extent =
+    codes " lines " ++ decimal extent.first.line ++ codes " to " ++ decimal extent.last.line
+    ++ codes " at " ++ stamp_text extent.first.micros ++ codes " to " ++ stamp_text extent.last.micros
 
--- A message that is delivered and that rules leave, with its places.
+-- A message that is delivered and that rules leave, with its item and its frames.
 pub record PlacedMessage : Type 0 where
   -- the number of its item, and its step, which is its role in that item
   pub number : ℕ
   pub step : Step
   -- who sent it, and its bytes
   pub sent : Message
-  -- where its first frame stands, and its last one
-  pub first : FramePlace
-  pub last : FramePlace
+  -- its first frame and its last one
+  pub extent : FrameExtent
 
 -- a message that was judged, from its first frame to its last one
-abbrev pub judged_at : Judged → FramePlace → FramePlace → PlacedMessage
-judged_at judged first last =
-    record { number = judged.item_number; step = judged.step; sent = sent judged; first = first; last = last }
+abbrev pub judged_at : Judged → FrameExtent → PlacedMessage
+judged_at judged extent =
+    record { number = judged.item_number; step = judged.step; sent = sent judged; extent = extent }
 
 -- the line of a placed message in words
 abbrev pub placed_line : List RuleValue → PlacedMessage → List ℕ
 placed_line rules placed =
     decimal placed.number ++ codes " " ++ role_text placed.step ++ codes " " ++ direction_text placed.sent.0
-    ++ extent_text placed.first placed.last ++ codes " " ++ ruled_text rules placed.sent.1 ++ codes "\n"
+    ++ extent_text placed.extent ++ codes " " ++ ruled_text rules placed.sent.1 ++ codes "\n"
 
 -- the members of the object of a placed message
 abbrev pub placed_members : List RuleValue → PlacedMessage → Members
 placed_members rules placed =
     member (codes "item") (json.number placed.number) (member (codes "role") (json.string (role_text placed.step))
     (member (codes "direction") (json.string (direction_text placed.sent.0))
-    (member (codes "first_line") (json.number placed.first.line) (member (codes "last_line") (json.number placed.last.line)
-    (member (codes "start") (json.string (stamp_text placed.first.micros))
-    (member (codes "end") (json.string (stamp_text placed.last.micros))
+    (member (codes "first_line") (json.number placed.extent.first.line)
+    (member (codes "last_line") (json.number placed.extent.last.line)
+    (member (codes "start") (json.string (stamp_text placed.extent.first.micros))
+    (member (codes "end") (json.string (stamp_text placed.extent.last.micros))
     (member (codes "message") (json.string (ruled_text rules placed.sent.1)) nothing)))))))
 
 -- the line of a placed message in a notation
@@ -70,8 +70,7 @@ placed_behind M sent first last =
       number = number_after M sent;
       step = step_after M sent;
       sent = sent;
-      first = place_of first;
-      last = place_of last;
+      extent = record { first = place_of first; last = place_of last };
     }
 
 -- the line of the message that rules left of the one that the frame e completes after the frames T, if they left one

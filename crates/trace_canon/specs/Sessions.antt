@@ -33,8 +33,7 @@ GivesSession limit settings log (Err fault) = TellsOutcome limit settings log fa
 
 -- what a call answers that gives the meaning of an accepted log alone, or why the log is refused
 abbrev pub GivesMeaning : ℕ → Settings → List ℕ → Result (List ItemValue) Fault → Type 0
-GivesMeaning limit settings log (Ok items) =
-    ((accepted : Accepted) × IsOutcome limit settings log (Ok accepted)) × HasMeaning limit settings log items
+GivesMeaning limit settings log (Ok items) = (summary : Summary) × IsAcceptedWith limit settings log items summary
 GivesMeaning limit settings log (Err fault) = TellsOutcome limit settings log fault
 
 -- the run of a call that collects the items of a log and answers so

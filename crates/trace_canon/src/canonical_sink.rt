@@ -42,8 +42,15 @@ pub(crate) fn say_due<S: TextSink>(
     };
     match orderer.take(message, &mut sink) {
         Ok(()) => Ok(()),
-        // A text sink takes all that is said, and a run ends with the first fault: what is left is refused memory.
-        Err(_fault) => Err(AllocError),
+        Err(fault) => Err(refused_memory(fault)),
+    }
+}
+
+/// What a fault of an orderer is whose sink takes all that is put: memory was refused. Such an orderer never fails.
+fn refused_memory(fault: OrderFault<NoFault>) -> AllocError {
+    match fault {
+        OrderFault::Memory | OrderFault::Failed => AllocError,
+        OrderFault::Sink(fault) => match fault {},
     }
 }
 
@@ -64,7 +71,7 @@ pub(crate) fn say_held<S: TextSink>(
         progress,
         config,
     };
-    // A text sink takes all that is said: so this never fails.
+    // The sink takes all that is put, and no memory is asked for: so this never fails.
     let _ = orderer.finish(&mut sink);
 }
 

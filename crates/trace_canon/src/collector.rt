@@ -3,8 +3,12 @@
 //!
 //! Once the canonical log is certainly longer than the limit, it lets go of all that it holds and takes no more. It
 //! reads on, since a later line may still refuse the log, and that refusal is what is told.
-ghost use Rattle.std.specs.Prelude.{◌≡◌};
+ghost use Rattle.std.specs.Prelude.{◌≡◌, ◌+◌, ℕ, List, [], ◌∷◌, ◌++◌};
+ghost use Rattle.direction.specs.Dir.{Message};
 ghost use Rattle.isotp_receive.specs.declared.TheConstants.{MESSAGE_LIMIT};
+ghost use Rattle.uds_exchange.specs.Meaning.{meaning, flattened};
+ghost use Rattle.uds_exchange.specs.Judging.{IsJudgedAfter, sent};
+ghost use Rattle.trace_canon.specs.proving.Measuring.{HaveLengths};
 ghost use Rattle.trace_canon.specs.proving.SessionScript.{is_in_meaning};
 ghost use Rattle.trace_canon.specs.Sessions.{GivesMeaning, GivesSession, RanToCollect};
 ghost use Rattle.trace_log.specs.Devices.{HasLowCounts};
@@ -50,10 +54,11 @@ pub(crate) fn session_of<R: Source>(
     ensures configured { AreSettings config.now }
 {
     let machine = Collector {
-        alloc,
-        pairing: JudgedPairing::new(alloc),
-        length: 0,
         config,
+        collected: Some(Collected {
+            pairing: JudgedPairing::new(alloc),
+            room: config.max_bytes(),
+        }),
     };
     run(alloc, config, machine, source, &mut Nowhere::new())
 }
@@ -61,12 +66,17 @@ pub(crate) fn session_of<R: Source>(
 /// Pairs the messages, and answers with all items at the end.
 #[derive(Drop)]
 pub(crate) struct Collector<'a> {
-    alloc: Global,
-    /// What the messages so far mean, or nothing where their canonical log is too long.
-    pub pairing: JudgedPairing,
-    /// How long the canonical log of these messages is, or a number above the limit.
-    pub length: u64,
     pub config: &'a Config,
+    /// What the messages so far mean, if the canonical log of that is within the limit.
+    pub collected: Option<Collected>,
+}
+
+/// Items whose canonical log is within the limit.
+#[derive(Drop)]
+pub(crate) struct Collected {
+    pub pairing: JudgedPairing,
+    /// By how many bytes their canonical log may still grow.
+    pub room: u64,
 }
 
 impl<'a> Machine for Collector<'a> {
@@ -78,7 +88,7 @@ impl<'a> Machine for Collector<'a> {
     type Answer = Session;
 
     ghost stands = { λ rules start T now.
-        Collects start.config.now (messages_under rules MESSAGE_LIMIT T) now.pairing now.length now.config.now };
+        Collects start.config.now (messages_under rules MESSAGE_LIMIT T) now.collected now.config.now };
 
     ghost script = { λ rules start. silent_script };
 
@@ -105,19 +115,13 @@ impl<'a> Machine for Collector<'a> {
         summary: &Summary,
         _out: &mut S,
     ) -> Result<Session, NoAnswer> {
-        let Collector {
-            pairing,
-            length,
-            config,
-            ..
-        } = self;
-        if length > config.max_bytes() {
-            return Err(NoAnswer::OutputLimit);
+        match self.collected {
+            Some(collected) => Ok(Session {
+                meaning: collected.pairing.finish(),
+                summary: *summary,
+            }),
+            None => Err(NoAnswer::OutputLimit),
         }
-        Ok(Session {
-            meaning: pairing.finish(),
-            summary: *summary,
-        })
     }
 
     fn refused<S: TextSink>(
@@ -130,43 +134,59 @@ impl<'a> Machine for Collector<'a> {
 }
 
 impl<'a> Collector<'a> {
-    ghost use Rattle.std.specs.Prelude.{◌+◌, ℕ, List, [], ◌∷◌, ◌++◌, OnOk};
+    ghost use Rattle.std.specs.Prelude.{List, [], ◌∷◌, ◌++◌, OnOk};
     ghost use Rattle.direction.specs.Dir.{Message};
-    ghost use Rattle.uds_exchange.specs.Meaning.{meaning, flattened};
     ghost use Rattle.uds_exchange.specs.Judging.{IsJudgedAfter, sent};
     ghost use Rattle.trace_log.specs.Settings.{Settings};
     ghost use Rattle.trace_canon.specs.proving.SessionScript.{Collects};
-    ghost use Rattle.trace_canon.specs.proving.Measuring.{HaveLengths};
 
-    /// Takes one more message: what it adds to the length, and the message itself where the canonical log is within the
-    /// limit.
+    /// Takes one more message. Once there is no room for its canonical lines nothing is kept any more.
     fn take(&mut self, message: Judged<'_>) -> Result<(), AllocError>
         ensures { OnOk result ((settings : Settings) (M : List Message) → IsJudgedAfter M message.entry
-            → Collects settings M self.old.pairing self.old.length self.old.config.now
-            → Collects settings (M ++ sent message.entry ∷ []) self.new.pairing self.new.length self.new.config.now) }
+            → Collects settings M self.old.collected self.old.config.now
+            → Collects settings (M ++ sent message.entry ∷ []) self.new.collected self.new.config.now) }
     {
-        let length = self.length.saturating_add(self.added(message));
-        if length > self.config.max_bytes() {
-            self.pairing = JudgedPairing::new(self.alloc);
-            self.length = length;
+        let added = added_length(self.config, message);
+        let Some(collected) = &mut self.collected else {
+            return Ok(());
+        };
+        if collected.room < added {
+            self.collected = None;
             return Ok(());
         }
+        collected.take(message, added)
+    }
+}
+
+impl Collected {
+    ghost use Rattle.std.specs.Prelude.{◌+◌, ◌≤◌, List, [], ◌∷◌, ◌++◌, OnOk};
+    ghost use Rattle.direction.specs.Dir.{Message};
+    ghost use Rattle.uds_exchange.specs.Meaning.{meaning};
+    ghost use Rattle.uds_exchange.specs.Judging.{IsJudgedAfter, sent};
+
+    /// Takes one more message, by which the canonical log grows by so many bytes.
+    fn take(&mut self, message: Judged<'_>, added: u64) -> Result<(), AllocError>
+        requires { added ≤ self.old.room }
+        ensures pairing { OnOk result ((M : List Message) → self.old.pairing ≡ meaning M → IsJudgedAfter M message.entry
+            → self.new.pairing ≡ meaning (M ++ sent message.entry ∷ [])) }
+        ensures room { OnOk result (self.old.room ≡ self.new.room + added) }
+    {
         self.pairing.take(message)?;
-        self.length = length;
+        self.room -= added;
         Ok(())
     }
+}
 
-    /// By how many bytes one more message makes the canonical log longer.
-    fn added(&self, message: Judged<'_>) -> u64
-        ensures { (M : List Message) (size : ℕ) → IsJudgedAfter M message.entry
-            → HaveLengths self.now.config.now (flattened (meaning M)) size
-            → HaveLengths self.now.config.now (flattened (meaning (M ++ sent message.entry ∷ []))) (size + result) }
-    {
-        if is_in_meaning(message.step) {
-            lines_length(self.config, message.dir, message.bytes)
-        } else {
-            0
-        }
+/// By how many bytes one more message makes the canonical log longer.
+fn added_length(config: &Config, message: Judged<'_>) -> u64
+    ensures { (M : List Message) (size : ℕ) → IsJudgedAfter M message.entry
+        → HaveLengths config.now (flattened (meaning M)) size
+        → HaveLengths config.now (flattened (meaning (M ++ sent message.entry ∷ []))) (size + result) }
+{
+    if is_in_meaning(message.step) {
+        lines_length(config, message.dir, message.bytes)
+    } else {
+        0
     }
 }
 

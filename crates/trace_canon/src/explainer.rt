@@ -149,11 +149,16 @@ fn say_end<S: TextSink>(notation: Notation, pair: &Pair, summary: &Summary, out:
     say_remark(notation, Remark::Counts(*summary), out);
 }
 
-/// Says the line of a reception that stands, if one does.
-fn say_unfinished<S: TextSink>(notation: Notation, dir: Dir, begun: Option<(u64, u32)>, out: &mut S)
-    ensures { S.says out.old (unfinished_line notation dir begun) out.new }
+/// Says the line of a reception that stands, by the line and the announced length of its first frame, if one does.
+fn say_unfinished<S: TextSink>(
+    notation: Notation,
+    dir: Dir,
+    beginning: Option<(u64, u32)>,
+    out: &mut S,
+)
+    ensures { S.says out.old (unfinished_line notation dir beginning) out.new }
 {
-    if let Some((line, len)) = begun {
+    if let Some((line, len)) = beginning {
         say_remark(notation, Remark::Unfinished { dir, line, len }, out);
     }
 }

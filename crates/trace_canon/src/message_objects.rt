@@ -2,23 +2,21 @@
 ghost use Rattle.trace_text.specs.Json.{object_line};
 ghost use Rattle.trace_canon.specs.MessagesScript.{judged_at, placed_members};
 
-use crate::message_parts::Role;
-use crate::reception_starts::FramePlace;
+use crate::message_parts::{FrameExtent, Role};
 use text_parts::say;
 use trace_io::TextSink;
 use trace_text::{Number, RuledBytes, Sender, Stamp};
 use uds_exchange::Judged;
 use uds_rules::Rules;
 
-/// Says the line of a message that has its first frame and its last one in these places, as an object.
+/// Says the line of a message, from its first frame to its last one, as an object.
 pub(crate) fn say_message_object<S: TextSink>(
     rules: &Rules,
     message: &Judged<'_>,
-    first: FramePlace,
-    last: FramePlace,
+    extent: FrameExtent,
     out: &mut S,
 )
-    ensures { S.says out.old (object_line (placed_members rules.now (judged_at message.now first last))) out.new }
+    ensures { S.says out.old (object_line (placed_members rules.now (judged_at message.now extent))) out.new }
 {
     say(
         out,
@@ -33,15 +31,15 @@ pub(crate) fn say_message_object<S: TextSink>(
             ),
             (
                 "\",\"first_line\":",
-                Number(first.line),
+                Number(extent.first.line),
                 ",\"last_line\":",
-                Number(last.line),
+                Number(extent.last.line),
             ),
             (
                 ",\"start\":\"",
-                Stamp(first.micros),
+                Stamp(extent.first.micros),
                 "\",\"end\":\"",
-                Stamp(last.micros),
+                Stamp(extent.last.micros),
             ),
             (
                 "\",\"message\":\"",

@@ -21,7 +21,7 @@ impl Part for Role {
     }
 }
 
-/// The lines and the times of the first frame of a message and of its last one.
+/// The first frame of a message and its last one: their lines and their times.
 #[derive(Clone, Copy)]
 pub(crate) struct FrameExtent {
     pub first: FramePlace,
@@ -31,7 +31,7 @@ pub(crate) struct FrameExtent {
 impl Part for FrameExtent {
     ghost use Rattle.trace_canon.specs.MessagesScript.{extent_text};
 
-    ghost text = { λ extent. extent_text extent.first extent.last };
+    ghost text = { λ extent. extent_text extent };
 
     #[inline(always)]
     fn say<S: TextSink>(self, out: &mut S) {

@@ -86,7 +86,8 @@ impl<'a> Machine for Messenger<'a> {
         };
         let first = self.starts.take(here, seen.dir, seen.event);
         if let Some(message) = seen.message {
-            say_message(self.notation, self.rules, &message, first, here, out);
+            let extent = FrameExtent { first, last: here };
+            say_message(self.notation, self.rules, &message, extent, out);
         }
         Ok(())
     }
@@ -109,20 +110,19 @@ impl<'a> Machine for Messenger<'a> {
     ) {}
 }
 
-/// Says the line of a message that has its first frame and its last one in these places.
+/// Says the line of a message, from its first frame to its last one.
 fn say_message<S: TextSink>(
     notation: Notation,
     rules: &Rules,
     message: &Judged<'_>,
-    first: FramePlace,
-    last: FramePlace,
+    extent: FrameExtent,
     out: &mut S,
 )
-    ensures { S.says out.old (placed_text notation rules.now (judged_at message.now first last)) out.new }
+    ensures { S.says out.old (placed_text notation rules.now (judged_at message.now extent)) out.new }
 {
     match notation {
-        Notation::Text => say_message_line(rules, message, first, last, out),
-        Notation::Json => say_message_object(rules, message, first, last, out),
+        Notation::Text => say_message_line(rules, message, extent, out),
+        Notation::Json => say_message_object(rules, message, extent, out),
     }
 }
 
@@ -130,11 +130,10 @@ fn say_message<S: TextSink>(
 fn say_message_line<S: TextSink>(
     rules: &Rules,
     message: &Judged<'_>,
-    first: FramePlace,
-    last: FramePlace,
+    extent: FrameExtent,
     out: &mut S,
 )
-    ensures { S.says out.old (placed_line rules.now (judged_at message.now first last)) out.new }
+    ensures { S.says out.old (placed_line rules.now (judged_at message.now extent)) out.new }
 {
     say(
         out,
@@ -144,7 +143,7 @@ fn say_message_line<S: TextSink>(
             Role(message.step),
             " ",
             Sender(message.dir),
-            FrameExtent { first, last },
+            extent,
             " ",
             RuledBytes {
                 rules,

@@ -57,13 +57,7 @@ pub(crate) fn say_lines<S: TextSink>(
 }
 
 /// Says the lines of the items from one place up to another, which are added.
-fn say_added<S: TextSink>(
-    items: &Meaning,
-    from: usize,
-    to: usize,
-    rules: &Rules,
-    out: &mut S,
-)
+fn say_added<S: TextSink>(items: &Meaning, from: usize, to: usize, rules: &Rules, out: &mut S)
     requires { from ≤ to }
     ensures { S.says out.old (flat_map line_text (added_lines rules.now items.now from (to - from))) out.new }
 {

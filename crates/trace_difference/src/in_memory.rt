@@ -36,7 +36,14 @@ pub fn pair_difference(
 {
     let answer = compare_both(alloc, config, left, right);
     match &answer {
-        Ok(compared) => match text_of(alloc, notation, left_name, right_name, config.rules(), compared) {
+        Ok(compared) => match text_of(
+            alloc,
+            notation,
+            left_name,
+            right_name,
+            config.rules(),
+            compared,
+        ) {
             Ok(text) => Ok(CountedDifference {
                 text,
                 counted: counted_comparison(compared),

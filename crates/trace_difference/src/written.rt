@@ -68,10 +68,24 @@ pub fn say_difference<S: TextSink>(
 {
     match notation {
         Notation::Text => {
-            say_unified(difference.shortest, left, right, &difference.rows, rules, out)
+            say_unified(
+                difference.shortest,
+                left,
+                right,
+                &difference.rows,
+                rules,
+                out,
+            )
         }
         Notation::Json => {
-            say_objects(difference.shortest, left, right, &difference.rows, rules, out)
+            say_objects(
+                difference.shortest,
+                left,
+                right,
+                &difference.rows,
+                rules,
+                out,
+            )
         }
     }
 }

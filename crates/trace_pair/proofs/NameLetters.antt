@@ -2,9 +2,10 @@
 use Rattle.std.proofs.Common.{◌≡◌, ℕ, ◌+◌, ◌≤◌, ◌<◌, List, ◌++◌, length, drop, get_or, Option, option_map, unwrap_or, ap}
 use Rattle.std.proofs.lemmas.List.{drop_all, drop_more}
 use Rattle.text_parts.proofs.Promises.{IsLeft, same-rest, said-whole, say-more}
-use Rattle.trace_text.specs.Words.{code_text, service_text}
+use Rattle.trace_text.specs.Words.{service_text}
 use Rattle.uds_message.specs.Tables.{code_name, service_row}
-use Rattle.trace_pair.specs.LongNames.{letter_behind, letters_behind, parted_code, parted_name, parted_service}
+use Rattle.uds_names.specs.ResponseCodes.{response_code_name}
+use Rattle.trace_pair.specs.LongNames.{further_code, letter_behind, letters_behind, parted_by, parted_code, parted_name, parted_service}
 
 module _ {S : Type 0} (says : S → List ℕ → S → Type 0) (onward : (s m t : S) (a b : List ℕ) → says s a m → says m b t → says s (a ++ b) t)
     (name : List ℕ) (old : S) (whole : List ℕ) (front at : ℕ) (now : S) where
@@ -29,5 +30,9 @@ parted-service service found is = ap (λ (name : Option (List ℕ)). unwrap_or (
 
 -- a response code by what the table has of it
 pub parted-code : (why : ℕ) (found : Option (List ℕ)) → found ≡ code_name why
-    → unwrap_or (option_map parted_name found) (code_text why) ≡ parted_code why
-parted-code why found is = ap (λ (name : Option (List ℕ)). unwrap_or (option_map parted_name name) (code_text why)) is
+    → unwrap_or (option_map parted_name found) (further_code why) ≡ parted_code why
+parted-code why found is = ap (λ (name : Option (List ℕ)). unwrap_or (option_map parted_name name) (further_code why)) is
+
+-- a response code by what the table of the further ones has of it
+pub further-code : (why : ℕ) (found : Option (List ℕ)) → found ≡ response_code_name why → parted_by found why ≡ further_code why
+further-code why found is = ap (λ (name : Option (List ℕ)). parted_by name why) is

@@ -7,8 +7,9 @@ use direction::Dir;
 use text_parts::{Part, When, say};
 use trace_io::TextSink;
 use trace_report::{MessageRole, RoleWords};
-use trace_text::{ResponseCode, ServiceName};
+use trace_text::{Byte, ResponseCode, ServiceName};
 use uds_message::{code_name, response_code, service_name, sid};
+use uds_names::response_code_name;
 
 /// The name of a service, which may be parted, or its identifier where it has none.
 #[derive(Clone, Copy)]
@@ -27,7 +28,7 @@ impl Part for PartedService {
     }
 }
 
-/// The name of a response code, which may be parted, or its number where it has none.
+/// The name of a response code, which may be parted, or what a page tells where `list` has none.
 #[derive(Clone, Copy)]
 pub(crate) struct PartedCode(pub u8);
 
@@ -39,8 +40,39 @@ impl Part for PartedCode {
     fn say<S: TextSink>(self, out: &mut S) {
         match code_name(self.0) {
             Some(name) => say_parted(name.as_bytes(), out),
+            None => say(out, FurtherCode(self.0)),
+        }
+    }
+}
+
+/// A response code of which `list` has no name: by its name and its digits, or by its number where it has none.
+#[derive(Clone, Copy)]
+struct FurtherCode(u8);
+
+impl Part for FurtherCode {
+    ghost use Rattle.trace_pair.specs.LongNames.{further_code};
+
+    ghost text = { λ why. further_code why.0 };
+
+    fn say<S: TextSink>(self, out: &mut S) {
+        match response_code_name(self.0) {
+            Some(name) => say(out, (PartedName(name), " ", Byte(self.0))),
             None => say(out, ResponseCode(self.0)),
         }
+    }
+}
+
+/// A name, which may be parted.
+#[derive(Clone, Copy)]
+struct PartedName<'a>(&'a str);
+
+impl<'a> Part for PartedName<'a> {
+    ghost use Rattle.trace_pair.specs.LongNames.{parted_name};
+
+    ghost text = { λ name. parted_name name.0.now };
+
+    fn say<S: TextSink>(self, out: &mut S) {
+        say_parted(self.0.as_bytes(), out);
     }
 }
 

@@ -7,6 +7,7 @@ use Rattle.trace_text.specs.RuledText.{place_text}
 use Rattle.uds_rules.specs.Mask.{MaskValue}
 use Rattle.uds_rules.specs.Rule.{RuleValue, mask_of}
 use Rattle.trace_report.specs.Letters.{letters_text}
+use Rattle.trace_report.specs.StandardNames.{names_text}
 
 -- a blank and two digits for a byte
 abbrev pub byte_behind : ℕ → List ℕ
@@ -152,9 +153,10 @@ marked_data found bytes =
     (marked_apart (drop shown_first (marks_of found)) (drop shown_first bytes) ++ cut_mark found bytes) (drop shown_first bytes)
     else cut_data (marked_apart (marks_of found) (take shown_first bytes)) (length bytes - shown_first)
 
--- the same of a message which has a mask or has none
+-- the same of a message which has a mask or has none, and behind the bytes of one that has none the names that the standards
+-- have for the first of them
 abbrev pub data_by : Option (MaskValue × ℕ) → List ℕ → List ℕ
-data_by None bytes = plain_data bytes
+data_by None bytes = plain_data bytes ++ names_text bytes
 data_by (Some found) bytes = marked_data found bytes
 
 -- the bytes of a message that rules have left, as far as its row shows them

@@ -39,11 +39,19 @@ others_legend =
 abbrev pub legend_text : List ℕ
 legend_text = codes "<dl class=\"legend\">\n" ++ exchange_legend ++ others_legend ++ codes "</dl>\n"
 
+-- the words of the help on the names behind bytes, and of which edition of a standard they are
+abbrev pub names_words : List ℕ
+names_words =
+    codes "Small words behind the bytes are the names that the standards have for the first ones: the sub-function, and the first data identifier or routine. "
+    ++ codes "They are those of ISO 14229-1:2020, but for 0F to 13 of ReadDTCInformation, which are of its edition of 2013. Only that of 2020 has 56 there, and the response codes 34, 38 to 3A, 50 to 5D and 94. "
+    ++ codes "OBD is ISO 15031-5, KWP2000 is ISO 14230."
+
 -- the words of the help on what a page does not show
 abbrev pub limits_text : List ℕ
 limits_text =
     codes "<p>Frames with other identifiers, padding, the interface, and flow control that is in its place mean nothing here. A message of which no frame was recorded leaves no trace, also in a clean recording. "
-    ++ codes "Grey letters after the bytes are those same bytes as text, with a dot for each that is no letter, digit or blank, nor one of <code>- . / : _</code>."
+    ++ codes "Grey letters after the bytes are those same bytes as text, with a dot for each that is no letter, digit or blank, nor one of <code>- . / : _</code>. "
+    ++ names_words
 
 -- the words of the help on blocks that are folded
 abbrev pub blocks_words : List ℕ

@@ -1,5 +1,6 @@
 pub mod Durations
 pub mod Letters
+pub mod StandardNames
 pub mod Data
 pub mod Targets
 pub mod Roles

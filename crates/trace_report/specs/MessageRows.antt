@@ -10,7 +10,8 @@ use Rattle.trace_report.specs.declared.targets.LinkTarget.TheVariants.{Item}
 use Rattle.uds_rules.specs.Rule.{RuleValue}
 use Rattle.trace_report.specs.Data.{data_text, known_length}
 use Rattle.trace_report.specs.Durations.{milliseconds_between, seconds_between}
-use Rattle.trace_text.specs.Words.{direction_text, service_text, code_text}
+use Rattle.trace_text.specs.Words.{direction_text, service_text}
+use Rattle.trace_report.specs.StandardNames.{page_code}
 use Rattle.trace_report.specs.Rows.{cell_front, cell_end, item_header, item_repeated, row_front}
 use Rattle.trace_report.specs.Roles.{begins_item, asked_at}
 use Rattle.trace_report.specs.declared.row.Arrow.TheVariants as arrow
@@ -58,7 +59,7 @@ request_words service = codes "<b>" ++ service_text service ++ codes "</b> <i>re
 
 -- a negative answer, by the name of its response code
 abbrev pub negative_words : ℕ → List ℕ
-negative_words why = codes "<b>negative</b> <em>" ++ code_text why ++ codes "</em> "
+negative_words why = codes "<b>negative</b> <em>" ++ page_code why ++ codes "</em> "
 
 -- a message of no exchange, by the side that sent it
 abbrev pub stray_words : Dir → List ℕ

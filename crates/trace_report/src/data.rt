@@ -5,6 +5,7 @@ ghost use Rattle.trace_report.specs.Data.{bytes_behind, marked_brief, marked_dat
 
 use crate::letters::LettersText;
 use crate::marks::Marks;
+use crate::standard_names::NamesText;
 use can_log::digits_of_bytes;
 use std::simd::prelude::*;
 use text_parts::{Either, Part, When, say};
@@ -232,7 +233,7 @@ impl<'a> Part for Data<'a> {
         let Data { rules, message } = self;
         match rules.mask_of(message) {
             Some((mask, start)) => say_marked_data(mask, start, message, out),
-            None => say(out, PlainData(message)),
+            None => say(out, (PlainData(message), NamesText(message))),
         }
     }
 }

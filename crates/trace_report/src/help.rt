@@ -162,7 +162,29 @@ impl Part for Limits {
             out,
             (
                 "<p>Frames with other identifiers, padding, the interface, and flow control that is in its place mean nothing here. A message of which no frame was recorded leaves no trace, also in a clean recording. ",
-                "Grey letters after the bytes are those same bytes as text, with a dot for each that is no letter, digit or blank, nor one of <code>- . / : _</code>.",
+                "Grey letters after the bytes are those same bytes as text, with a dot for each that is no letter, digit or blank, nor one of <code>- . / : _</code>. ",
+                NamesWords,
+            ),
+        );
+    }
+}
+
+/// What the names behind bytes are, and of which edition of a standard.
+#[derive(Clone, Copy)]
+struct NamesWords;
+
+impl Part for NamesWords {
+    ghost use Rattle.trace_report.specs.Help.{names_words};
+
+    ghost text = { λ words. names_words };
+
+    fn say<S: TextSink>(self, out: &mut S) {
+        say(
+            out,
+            (
+                "Small words behind the bytes are the names that the standards have for the first ones: the sub-function, and the first data identifier or routine. ",
+                "They are those of ISO 14229-1:2020, but for 0F to 13 of ReadDTCInformation, which are of its edition of 2013. Only that of 2020 has 56 there, and the response codes 34, 38 to 3A, 50 to 5D and 94. ",
+                "OBD is ISO 15031-5, KWP2000 is ISO 14230.",
             ),
         );
     }

@@ -16,7 +16,7 @@
 //!
 //! | Part | Files | Definitions |
 //! |---|---|---|
-//! | times and bytes, as rows show them | `durations`, `letters`, `marks`, `data` | `Durations`, `Letters`, `Data` |
+//! | times and bytes, as rows show them, and the names behind these | `durations`, `letters`, `marks`, `data`, `standard_names` | `Durations`, `Letters`, `Data`, `StandardNames` |
 //! | what a row tells | `targets`, `roles`, `row` | `Targets`, `Roles`, `Rows` |
 //! | what is counted, and where links lead | `counting`, `sorts`, `tally` | `Sorts`, `Linked` |
 //! | the text of a row | `cells`, `message_rows`, `message_words`, `brief_rows`, `missing_rows`, `missing_words` | `Rows`, `MessageRows`, `BriefRows`, `MissingRows` |
@@ -75,6 +75,7 @@ mod rules_style;
 mod session;
 mod sessions;
 mod sorts;
+mod standard_names;
 mod style;
 mod tally;
 mod targets;
@@ -109,6 +110,7 @@ pub use rule_words::{MessagesWord, RuleText, RulesEnd, RulesStart, RulesWord};
 pub use rules_style::RulesStyle;
 pub use session::KeptSession;
 pub use sessions::KeptSessions;
+pub use standard_names::PageCode;
 pub use style::report_style;
 pub use tally::SortCounts;
 pub use verdict::{SpanOf, is_called_clean};

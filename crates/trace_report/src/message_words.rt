@@ -3,10 +3,11 @@
 use crate::durations::Milliseconds;
 use crate::roles::{MessageRole, asked_at};
 use crate::row::MessagePlace;
+use crate::standard_names::PageCode;
 use direction::Dir;
 use text_parts::{Part, say};
 use trace_io::TextSink;
-use trace_text::{Number, ResponseCode, Sender, ServiceName};
+use trace_text::{Number, Sender, ServiceName};
 use uds_message::{response_code, sid};
 
 /// What a message is to its item.
@@ -30,7 +31,7 @@ impl<'a> Part for RoleWords<'a> {
                 out,
                 (
                     "<b>negative</b> <em>",
-                    ResponseCode(response_code(message)),
+                    PageCode(response_code(message)),
                     "</em> ",
                 ),
             ),

@@ -1,5 +1,5 @@
--- An object of JSON (RFC 8259) as it stands in a line of its own: its members in this order, and no space outside strings.
--- A string stands as it is: none that is told has a byte to be escaped.
+-- An object of JSON (RFC 8259) as it stands in a line of its own: its members in this order, and no space outside
+-- strings. A string stands as it is: none that is told has a byte to be escaped.
 use Rattle.std.specs.Prelude.{ℕ, Bool, true, false, List, [], ◌++◌, codes}
 use Rattle.std.specs.Fmt.{decimal}
 

@@ -1,5 +1,5 @@
--- The lines that explain a log: of a reception that ended without its message, of a frame that was dropped, of a reception
--- that stands at the end, and of the counts. Each is written in words or as an object of JSON.
+-- The lines that explain a log: of a reception that ended without its message, of a frame that was dropped, of a
+-- reception that stands at the end, and of the counts. Each is written in words or as an object of JSON.
 use Rattle.std.specs.Prelude.{ℕ, List, [], ◌∷◌, ◌++◌, codes}
 use Rattle.std.specs.Fmt.{decimal}
 use Rattle.std.specs.List.{flat_map}

@@ -36,8 +36,8 @@ pub(crate) fn last_digit(number: u8) -> [u8; 1]
     [digit(number % 16)]
 }
 
-/// The last six decimal digits of a number, with two zeros behind them: eight bytes are one word, so one store, and no covering
-/// load behind it.
+/// The last six decimal digits of a number, with two zeros behind them: eight bytes are one word, so one store, and no
+/// covering load behind it.
 #[tactic(auto, unfolding(can_log::specs::Digits::digits))]
 pub(crate) fn six_decimals(number: u64) -> [u8; 8]
     ensures { result ≡ decimal 6 number ++ 0 ∷ 0 ∷ [] }

@@ -154,7 +154,7 @@ impl<'a> Part for RequestOutcome<'a> {
             None => say(out, "unanswered"),
             Some(reply) => say(
                 out,
-                Answer {
+                WordedAnswer {
                     rules: self.rules,
                     reply,
                 },
@@ -163,21 +163,21 @@ impl<'a> Part for RequestOutcome<'a> {
     }
 }
 
-/// The answer to a request.
+/// The answer to a request, in words.
 #[derive(Clone, Copy)]
-struct Answer<'a> {
+struct WordedAnswer<'a> {
     rules: &'a Rules,
     reply: &'a [u8],
 }
 
-impl<'a> Part for Answer<'a> {
+impl<'a> Part for WordedAnswer<'a> {
     ghost use Rattle.trace_text.specs.ItemLines.{answer_text};
 
     ghost text = { λ answer. answer_text answer.rules.now answer.reply.now };
 
     #[inline(always)]
     fn say<S: TextSink>(self, out: &mut S) {
-        let Answer { rules, reply } = self;
+        let WordedAnswer { rules, reply } = self;
         let bytes = RuledBytes {
             rules,
             message: reply,

@@ -1,12 +1,12 @@
 //! The items of a meaning under rules as objects of JSON. What is said at once goes from one value to the next, quotes
 //! included, since each piece more takes longer to say.
 //!
-//! So an object is cut amid its quotes, in `OpenObject`, which has a `ObjectFront` and an `OpenItem`, and the quote and the brace that
-//! end each object:
+//! So an object is cut amid its quotes, in an `OpenObject`, which has an `ObjectFront` and an `OpenItem`, and the quote
+//! and the brace that end each object:
 //!
 //! ```text
 //! {"item":3,"kind":"exchange","service":"..","request":"22F190","outcome":"positive","answer":"62F190"}
-//! <---- Front -----><----------------------------------- OpenItem ---------------------------------->
+//! <- ObjectFront --><----------------------------------- OpenItem ---------------------------------->
 //!                                                             <-- OpenOutcome, here an OpenAnswer -->
 //! <------------------------------------------- OpenObject ------------------------------------------>
 //! ```

@@ -7,9 +7,10 @@
 //! {"line":9,"event":"dropped","direction":"unit","reason":"consecutive frame unexpected"}
 //! ```
 //!
-//! All are said to a [`TextSink`](trace_io::TextSink), by parts (`text_parts`), which here are numbers, bytes and names;
-//! callers that say one after another have [`values`]. Which text it is, `specs` says, for JSON by the object that is
-//! meant.
+//! All are said to a [`TextSink`](trace_io::TextSink), by parts (`text_parts`), which here are numbers, bytes and
+//! names; callers that say one after another have [`values`]. Which text it is, `specs` says, for JSON by the object
+//! that is meant.
+//!
 //! [`say_items`] says the list of a meaning, [`say_remark`] a line that explains a log; [`laws`] says that equal lists
 //! have equal texts, and only they.
 #![tactic(auto)]

@@ -30,8 +30,8 @@ impl Part for Number {
     }
 }
 
-/// Says a number of at most four digits. It is [`say_number_before`] with nothing behind, apart from it since most numbers are as
-/// short: one text is put in place of three.
+/// Says a number of at most four digits. It is [`say_number_before`] with nothing behind, apart from it since most
+/// numbers are as short: one text is put in place of three.
 #[inline(always)]
 fn say_short_number<S: TextSink>(out: &mut S, number: u32)
     requires { number < 10000 }

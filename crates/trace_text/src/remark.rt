@@ -11,7 +11,8 @@ pub enum Remark {
     Ended { line: u64, ended: Ended },
     /// The frame of this line, which this side sent, was dropped.
     Dropped { line: u64, dir: Dir, reason: Reason },
-    /// A reception stands at the end of the log: its direction, the line of its first frame and the bytes that this announced.
+    /// A reception stands at the end of the log: its direction, the line of its first frame and the bytes that this
+    /// announced.
     Unfinished { dir: Dir, line: u64, len: u32 },
     /// The counts of the log.
     Counts(Summary),

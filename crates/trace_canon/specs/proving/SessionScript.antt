@@ -1,5 +1,5 @@
 -- Devices of proof: what is answered with a log's meaning and its counts, where nothing is said of it.
-use Rattle.std.specs.Prelude.{◌≡◌, ℕ, ◌<◌, ◌≤◌, Bool, true, false, List, [], Ok, Err}
+use Rattle.std.specs.Prelude.{◌≡◌, ℕ, ◌+◌, ◌<◌, Bool, true, false, List, [], Option, Some, None, Ok, Err}
 use Rattle.isotp_receive.specs.declared.TheConstants.{MESSAGE_LIMIT}
 use Rattle.direction.specs.Dir.{Message}
 use Rattle.uds_exchange.specs.Meaning.{ItemValue, meaning, flattened}
@@ -9,6 +9,7 @@ use Rattle.trace_canon.specs.Sessions.{items_of_trace}
 use Rattle.trace_log.specs.Settings.{Settings}
 use Rattle.uds_rules.specs.Rule.{RuleValue}
 use Rattle.trace_run.specs.Script.{Script, Answering}
+use Rattle.trace_canon.specs.declared.collector.Collected.{Collected}
 use Rattle.trace_canon.specs.declared.collector.Session.{Session}
 use Rattle.trace_run.specs.declared.machine.NoAnswer.TheVariants.{OutputLimit}
 use Rattle.trace_canon.specs.proving.Measuring.{HaveLengths, fits_within}
@@ -21,16 +22,19 @@ is_in_meaning step.Removed = false
 is_in_meaning step.Hold = true
 is_in_meaning step.Pass = true
 
--- What is kept of these messages: all that they mean and how long its canonical log is, while that is within the limit;
--- else no item, and that it is longer. So what is held never has a canonical log above the limit.
-pub record Collects (settings : Settings) (M : List Message) (items : List ItemValue) (known : ℕ) (config : Settings)
+-- This is kept of items with a canonical log of this size: all of them, and the room that is left behind it; or
+-- nothing, where it is longer than the limit.
+abbrev pub IsCollectedOf : ℕ → List ItemValue → ℕ → Option Collected → Type 0
+IsCollectedOf limit items size (Some collected) = (collected.pairing ≡ items) × (size + collected.room ≡ limit)
+IsCollectedOf limit items size None = limit < size
+
+-- This is kept of what these messages mean.
+pub record Collects (settings : Settings) (M : List Message) (collected : Option Collected) (config : Settings)
     : Type 0 where
   pub same : config ≡ settings
   pub size : ℕ
   pub measured : HaveLengths settings (flattened (meaning M)) size
-  pub all : size ≤ settings.max_bytes → (items ≡ meaning M) × (known ≡ size)
-  pub none : settings.max_bytes < size → (items ≡ []) × (settings.max_bytes < known)
-  pub held : fits_within settings items ≡ true
+  pub kept : IsCollectedOf settings.max_bytes (meaning M) size collected
 
 -- the script of a machine that says nothing of a log
 abbrev pub silent_script : Script

@@ -1,4 +1,5 @@
--- Devices of proof: the object of an item up to the quote and the brace that end it, whatever the item is, as it is said.
+-- Devices of proof: the object of an item up to the quote and the brace that end it, whatever the item is, as it is
+-- said.
 use Rattle.std.specs.Prelude.{ℕ, List, ◌++◌, codes, Option, Some, None, if◌then◌else◌}
 use Rattle.std.specs.Fmt.{decimal}
 use Rattle.uds_exchange.specs.Meaning.{ItemValue, exchange, stray}

@@ -23,14 +23,14 @@ returns-in-Ok-clause-says g c = λ M stands judged.
 
 pub returns-in-Err-clause-needs : goal.returns-in-Err-clause-needs
 returns-in-Err-clause-needs g c = λ M stands judged.
-    stops_for_memory (SaysPutMessage g.S.TextSink.says) M (sent c.args.message) _ c.take.new.sink c.in-Err._fault
+    stops_for_memory (SaysPutMessage g.S.TextSink.says) M (sent c.args.message) _ c.take.new.sink c.in-Err.fault
     (c.in-Err.ensures.stops M stands judged)
     (λ is. c.take.ensures.needs (c.in-Err.is ∙ ap Err is) M stands judged)
 
 pub returns-in-Err-clause-err : goal.returns-in-Err-clause-err
 returns-in-Err-clause-err g c =
     let S = g.S.TextSink in
-    let same = stays_where_it_stops (SaysPutMessage S.says) _ c.take.new.sink c.in-Err._fault
+    let same = stays_where_it_stops (SaysPutMessage S.says) _ c.take.new.sink c.in-Err.fault
     (λ is. (c.take.ensures.memory (c.in-Err.is ∙ ap Err is)).1) (λ is. (c.take.ensures.failed_only (c.in-Err.is ∙ ap Err is)).2)
     (λ e is. c.take.ensures.front e (c.in-Err.is ∙ ap Err is)) in
     let out_is = c.out-1.given.1 (ap (λ s. s.out.ghost_name) (sym same)) in

@@ -2,14 +2,15 @@
 use Rattle.isotp_receive.specs.declared.TheConstants.{MESSAGE_LIMIT}
 use Rattle.trace_canon.specs.FirstFrames.{CompletesMessage}
 use Rattle.trace_canon.specs.proving.SessionScript.{answers_session, silent_script}
-use Rattle.trace_canon.proofs.Collecting.{collects_none}
+use Rattle.trace_canon.proofs.Collecting.{collects_start}
 use Rattle.trace_run.proofs.Promises.{never_write}
 use Rattle.trace_canon.proofs.SessionScripts.{session_is_the_same, silent_says_nothing}
 use Rattle.trace_log.proofs.Promises.{given_agrees}
 use Rattle.trace_canon.proofs.collector.session_of.Goals as goal
 
 pub run-requires-clause-machine : goal.run-requires-clause-machine
-run-requires-clause-machine g c = rw (c.new.ensures) (collects_none c.args.config.now)
+run-requires-clause-machine g c =
+    collects_start c.args.config.now c.new.result c.max_bytes.result c.new.ensures c.max_bytes.ensures.value
 
 pub returns : goal.returns
 returns g c =

@@ -1,7 +1,8 @@
 -- Over memory no device fails: what the call wrote is the text, and a failed write refused memory.
 use Rattle.std.proofs.Common.{ap, sym, ◌∙◌}
 use Rattle.isotp_receive.specs.declared.TheConstants.{MESSAGE_LIMIT}
-use Rattle.trace_canon.proofs.InMemories.{canonical_in_memory, gathered, ran_in_memory}
+use Rattle.trace_canon.proofs.GatheredTexts.{gathered, ran_in_memory}
+use Rattle.trace_canon.proofs.InMemories.{canonical_in_memory}
 use Rattle.trace_canon.proofs.in_memory.canonical_log.Goals as goal
 
 pub returns : goal.returns

@@ -4,7 +4,8 @@ use Rattle.isotp_receive.specs.declared.TheConstants.{MESSAGE_LIMIT}
 use Rattle.trace_canon.specs.InMemory.{ComparesWithCounts}
 use Rattle.trace_canon.specs.declared.in_memory.CountedComparison.{CountedComparison}
 use Rattle.trace_log.proofs.Promises.{handed_on}
-use Rattle.trace_canon.proofs.InMemories.{agrees_in_memory, comparison_in_memory}
+use Rattle.trace_canon.proofs.GatheredTexts.{agrees_in_memory}
+use Rattle.trace_canon.proofs.InMemories.{comparison_in_memory}
 use Rattle.trace_canon.proofs.in_memory.comparison.Goals as goal
 
 pub returns : goal.returns

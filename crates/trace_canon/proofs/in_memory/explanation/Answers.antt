@@ -5,7 +5,8 @@ use Rattle.trace_log.specs.Settings.{without_rules}
 use Rattle.trace_canon.specs.ExplainScript.{explain_script}
 use Rattle.trace_canon.specs.InMemory.{NeedsMemoryForExplanation}
 use Rattle.trace_run.specs.Script.{needs_none, says_no_refusal}
-use Rattle.trace_canon.proofs.InMemories.{explanation_in_memory, gathered, ran_in_memory, said_in_memory}
+use Rattle.trace_canon.proofs.GatheredTexts.{gathered, ran_in_memory}
+use Rattle.trace_canon.proofs.InMemories.{explanation_in_memory, said_in_memory}
 use Rattle.trace_canon.proofs.in_memory.explanation.Goals as goal
 
 pub returns : goal.returns

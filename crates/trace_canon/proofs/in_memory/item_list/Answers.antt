@@ -3,7 +3,8 @@ use Rattle.std.proofs.Common.{ap, sym, ◌∙◌}
 use Rattle.isotp_receive.specs.declared.TheConstants.{MESSAGE_LIMIT}
 use Rattle.trace_text.specs.ItemLines.{list_text}
 use Rattle.trace_canon.specs.ItemText.{text_over_items}
-use Rattle.trace_canon.proofs.InMemories.{gathered, ran_in_memory, written_in_memory}
+use Rattle.trace_canon.proofs.GatheredTexts.{gathered, ran_in_memory}
+use Rattle.trace_canon.proofs.InMemories.{written_in_memory}
 use Rattle.trace_canon.proofs.in_memory.item_list.Goals as goal
 
 pub returns : goal.returns

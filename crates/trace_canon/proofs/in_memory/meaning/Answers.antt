@@ -1,5 +1,6 @@
 -- The source is no device: so a fault is why the log is refused, or refused memory.
-use Rattle.trace_canon.proofs.InMemories.{agrees_in_memory, meaning_in_memory}
+use Rattle.trace_canon.proofs.GatheredTexts.{agrees_in_memory}
+use Rattle.trace_canon.proofs.InMemories.{meaning_in_memory}
 use Rattle.trace_canon.proofs.in_memory.meaning.Goals as goal
 use Rattle.isotp_receive.specs.declared.TheConstants.{MESSAGE_LIMIT}
 

@@ -4,7 +4,8 @@ use Rattle.isotp_receive.specs.declared.TheConstants.{MESSAGE_LIMIT}
 use Rattle.trace_canon.specs.InMemory.{NeedsMemoryForMessageLines}
 use Rattle.trace_canon.specs.MessagesScript.{messages_script}
 use Rattle.trace_run.specs.Script.{needs_none, says_no_refusal}
-use Rattle.trace_canon.proofs.InMemories.{gathered, message_lines_in_memory, ran_in_memory, said_in_memory}
+use Rattle.trace_canon.proofs.GatheredTexts.{gathered, ran_in_memory}
+use Rattle.trace_canon.proofs.InMemories.{message_lines_in_memory, said_in_memory}
 use Rattle.trace_canon.proofs.in_memory.message_lines.Goals as goal
 
 pub returns : goal.returns

@@ -19,7 +19,8 @@ returns-then-not-settle-clause-ends g c = λ start settings log meanings receive
     let counted = c.summary-summary.ensures settings log meanings received feed judged in
     subst (λ b. Carries W start.target (whole_since M W start settings log meanings) (blank_page (not b)) c.settle.new.target) c.if-not-settle.true
     (carried_at_the_end M W start settings log meanings _ _ _ _ _ c.settle.result c.summary-summary.result tells counted
-    (c.tell_end-answer.ensures.says start.rules start.machine (trace settings meanings) tells.machine_stands received.pair_is) c.settle.ensures.settled)
+    (c.tell_end-answer.ensures.says start.rules start.machine (trace settings meanings) tells.machine_stands received.pair_is)
+    c.settle.ensures.settled)
 
 pub returns-clause-ends : goal.returns-clause-ends
 returns-clause-ends g c = λ start settings log meanings received feed ruled tells.
@@ -32,7 +33,8 @@ returns-clause-ends g c = λ start settings log meanings received feed ruled tel
           (c.in_ok-answer.ensures.answered start.rules start.machine (trace settings meanings) tells.machine_stands received.pair_is),
       subst (λ b. Carries W start.target (whole_since M W start settings log meanings) (blank_page (not b)) c.settle.new.target) c.if-not-settle.false
           (carried_at_the_end M W start settings log meanings _ _ _ _ _ c.settle.result c.summary-summary.result tells counted
-          (c.tell_end-answer.ensures.says start.rules start.machine (trace settings meanings) tells.machine_stands received.pair_is) c.settle.ensures.settled),
+          (c.tell_end-answer.ensures.says start.rules start.machine (trace settings meanings) tells.machine_stands received.pair_is)
+          c.settle.ensures.settled),
     )
 
 pub returns-in_err-answer-clause-ends : goal.returns-in_err-answer-clause-ends
@@ -49,7 +51,8 @@ returns-in_err-answer-clause-ends g c = λ start settings log meanings received 
           (c.in_err-answer.ensures.answered start.rules start.machine (trace settings meanings) tells.machine_stands received.pair_is)),
       subst (λ b. Carries W start.target (whole_since M W start settings log meanings) (blank_page (not b)) c.settle.new.target) c.if-not-settle.false
           (carried_at_the_end M W start settings log meanings _ _ _ _ _ c.settle.result c.summary-summary.result tells counted
-          (c.tell_end-answer.ensures.says start.rules start.machine (trace settings meanings) tells.machine_stands received.pair_is) c.settle.ensures.settled),
+          (c.tell_end-answer.ensures.says start.rules start.machine (trace settings meanings) tells.machine_stands received.pair_is)
+          c.settle.ensures.settled),
     )
 
 pub returns-then-not-settle-clause-more : goal.returns-then-not-settle-clause-more

@@ -44,7 +44,8 @@ begun g c = record {
 near : (g : Over) (c : After-start-receiver g) (log : List ℕ) (given failures failures_now : ℕ)
     → ReadsWhile (TakesFront (of_pairs (HasTaken g.M.Machine g.W.Target)) (c.start-receiver.result, c.args.target.now) log)
     given failures failures_now
-    → ReadsWhile (StopsNothingWithin (g.M.Machine.script c.args.config.now.rules c.args.machine).strict MESSAGE_LIMIT c.args.config.now log) given failures failures_now
+    → ReadsWhile (StopsNothingWithin (g.M.Machine.script c.args.config.now.rules c.args.machine).strict MESSAGE_LIMIT c.args.config.now log)
+    given failures failures_now
 near g c log given failures failures_now reads =
     reads_near c.args.config.now log (g.M.Machine.script c.args.config.now.rules c.args.machine).strict
     (λ meanings now taken. (taken c.args.config.now c.args.machine (begun g c).is).1.within) reads
@@ -107,7 +108,8 @@ ends : (g : Over) (c : After-finish g) (log : List ℕ) (meanings : List (Option
     c.finish.result c.finish.new.target
 ends g c log meanings feed taken =
     let so_far = taken c.args.config.now c.args.machine (begun g ((goal.at.returns-in-Ok g c).After-start-receiver)).is in
-    c.finish.ensures.ends (start_with c.args.config.now.rules c.args.machine c.args.target.now) c.args.config.now log meanings so_far.0.lines feed refl so_far.1
+    c.finish.ensures.ends (start_with c.args.config.now.rules c.args.machine c.args.target.now) c.args.config.now log meanings
+    so_far.0.lines feed refl so_far.1
 
 pub returns-in-Ok : goal.returns-in-Ok
 returns-in-Ok g c =

@@ -19,6 +19,7 @@ returns g c =
         near = λ log agrees. near_when_lenient is_lenient c.args.config.now log (all.near log agrees);
         never_oversize = no_oversize of is_lenient c.requires.has_answer c.args.config.now all.read.gave.bytes _ c.run.result _ _ answered;
         never_output_limit = no_output_limit of is_lenient c.requires.has_answer c.args.config.now all.read.gave.bytes _ c.run.result _ _ answered;
-        memory = λ none log agrees refused. needs_when_none (M.needs c.args.config.now.rules machine) none c.args.config.now log (all.memory log agrees refused);
+        memory = λ none log agrees refused.
+            needs_when_none (M.needs c.args.config.now.rules machine) none c.args.config.now log (all.memory log agrees refused);
       };
     }

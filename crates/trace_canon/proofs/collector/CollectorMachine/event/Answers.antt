@@ -12,7 +12,7 @@ pub returns-clause-ok : goal.returns-clause-ok
 returns-clause-ok g c = on_ok_weaker c.take.result (λ taken rules start T e seen stood.
     let now = c.take.new.self in
     let completes = completes_judged rules T e c.args.seen c.in-Some.message seen c.in-Some.is in (
-      subst (λ N. Collects start.config.now N now.pairing now.length now.config.now) (sym completes.next)
+      subst (λ N. Collects start.config.now N now.collected now.config.now) (sym completes.next)
           (taken start.config.now (messages_under rules MESSAGE_LIMIT T) completes.step stood),
       g.met.S.TextSink.nothing c.args._out.now,
     ))
@@ -30,7 +30,7 @@ returns-clause-needs g c = MatchResult-weaker c.take.result c.take.ensures (λ d
 pub returns-in_default-clause-ok : goal.returns-in_default-clause-ok
 returns-in_default-clause-ok g c = λ rules start T e seen stood.
     let now = c.args.self.now in (
-      subst (λ N. Collects start.config.now N now.pairing now.length now.config.now)
+      subst (λ N. Collects start.config.now N now.collected now.config.now)
           (sym (completes_none rules T e c.args.seen seen c.in_default.is)) stood,
       g.met.S.TextSink.nothing c.args._out.now,
     )

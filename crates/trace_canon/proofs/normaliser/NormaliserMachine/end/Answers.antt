@@ -4,7 +4,7 @@ use Rattle.std.specs.Prelude.{if◌then◌else◌}
 use Rattle.isotp_receive.specs.declared.TheConstants.{MESSAGE_LIMIT}
 use Rattle.trace_log.specs.Messages.{messages_under}
 use Rattle.trace_run.specs.declared.machine.NoAnswer.TheVariants.{OutputLimit}
-use Rattle.trace_canon.proofs.CanonicalScripts.{over_at_end, within_at_end}
+use Rattle.trace_canon.proofs.SaidCanonicalLogs.{over_at_end, within_at_end}
 use Rattle.trace_canon.proofs.normaliser.NormaliserMachine.end.Goals as goal
 
 pub returns-then-is_full-clause-answered : goal.returns-then-is_full-clause-answered

@@ -23,7 +23,8 @@ returns-in_default-clause-ok g c = λ start meanings number few took settings ma
         config = so_far.0.config;
         lines = receives_same settings meanings c.args.what.now self.pair self.lines c.args.line self.counts same number so_far.0.lines;
       },
-      subst (λ T. HasTold g.M.Machine g.W.Target (start_with settings.rules machine_start start.1) T self.telling c.args.device.now) (sym same) so_far.1,
+      subst (λ T. HasTold g.M.Machine g.W.Target (start_with settings.rules machine_start start.1) T self.telling c.args.device.now)
+          (sym same) so_far.1,
     )
 
 pub returns-in_default-direction_of-clause-ok : goal.returns-in_default-direction_of-clause-ok
@@ -39,7 +40,8 @@ returns-in_default-direction_of-clause-ok g c = λ start meanings number few too
         config = so_far.0.config;
         lines = receives_same settings meanings c.args.what.now self.pair self.lines c.args.line self.counts same number so_far.0.lines;
       },
-      subst (λ T. HasTold g.M.Machine g.W.Target (start_with settings.rules machine_start start.1) T self.telling c.args.device.now) (sym same) so_far.1,
+      subst (λ T. HasTold g.M.Machine g.W.Target (start_with settings.rules machine_start start.1) T self.telling c.args.device.now)
+          (sym same) so_far.1,
     )
 
 pub returns-clause-ok : goal.returns-clause-ok
