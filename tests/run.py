@@ -57,6 +57,7 @@ LIST = [
     Test("library/many_sessions.py", OF_LIBRARY, 2),
     Test("documents/recipes.py", OF_LIBRARY, 2),
     Test("program/command_line.py", OF_PROGRAM, 1),
+    Test("program/profiles.py", OF_PROGRAM, 6),
     Test("program/hints.py", OF_PROGRAM, 1),
     Test("documents/shipped.py", OF_PROGRAM, 1),
     Test("scripts/make_test.py", NOTHING, 1),

@@ -53,6 +53,27 @@ class _Placed:
         return _place(self._last).end
 
 
+class _Masked(bytes):
+    """A message that the rules of a profile have left, as the canonical log has it: 00 where a byte is masked. Its text has
+    `..` there, and a `*` where what followed is cut off."""
+
+    text: str
+
+
+def _bytes(text: str) -> bytes:
+    """The bytes of a message that a line tells."""
+    if "." not in text and "*" not in text:
+        return bytes.fromhex(text)
+    masked = _Masked(bytes.fromhex(text.rstrip("*").replace("..", "00")))
+    masked.text = text
+    return masked
+
+
+def _digits(message: bytes) -> str:
+    """A message as a line tells it."""
+    return message.text if isinstance(message, _Masked) else message.hex().upper()
+
+
 class _ExchangeFields(NamedTuple):
     service: str
     request: bytes
@@ -184,8 +205,8 @@ class Counts(_CountsFields):
 
 
 def _shown(item: Union[Exchange, Stray, Message]) -> str:
-    """An item with its bytes as hexadecimal digits."""
-    parts = (f"{name}={value.hex().upper() if isinstance(value, bytes) else repr(value)}" for name, value in item._asdict().items())
+    """An item with its bytes as hexadecimal digits, and under a profile as its lists have them."""
+    parts = (f"{name}={_digits(value) if isinstance(value, bytes) else repr(value)}" for name, value in item._asdict().items())
     return f"{type(item).__name__}({', '.join(parts)})"
 
 
@@ -206,12 +227,12 @@ def items_of(text: bytes, messages: bytes) -> Iterator[Item]:
 
 def _item(fields: List[str], number: bytes, places: "_Places") -> Item:
     if fields[0] == "stray":
-        stray = Stray(cast(Direction, fields[1]), bytes.fromhex(fields[2]))
+        stray = Stray(cast(Direction, fields[1]), _bytes(fields[2]))
         stray._first = stray._last = places.of(b"%b stray %b" % (number, fields[1].encode()))
         return stray
-    service, request, outcome = fields[1], bytes.fromhex(fields[2]), cast(Outcome, fields[4])
+    service, request, outcome = fields[1], _bytes(fields[2]), cast(Outcome, fields[4])
     code = fields[5] if outcome == "negative" else None
-    answer = bytes.fromhex(fields[-1]) if outcome in ("positive", "negative") else None
+    answer = _bytes(fields[-1]) if outcome in ("positive", "negative") else None
     exchange = Exchange(service, request, outcome, code, answer)
     exchange._first = exchange._last = places.of(b"%b request tester" % number)
     if answer is not None:
@@ -254,7 +275,7 @@ def _message(fields: List[str]) -> Message:
     item, role, direction, _, first, _, last, _, begin, _, end, message = fields
     return Message(
         int(item), cast(Role, role), cast(Direction, direction), int(first), int(last),
-        _microseconds(begin), _microseconds(end), bytes.fromhex(message),
+        _microseconds(begin), _microseconds(end), _bytes(message),
     )
 
 

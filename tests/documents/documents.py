@@ -371,7 +371,7 @@ TAKEN_AWAY = [
     ("a run over a log may have any status", "udsnorm/specs/Run.antt", r"  pub status_is : status ≡ status_of_run strict outcome\n", ""),
     ("the right log may be read after a fault of the left", "udsnorm/specs/Run.antt", r"  pub unread : .*\n", ""),
     ("an engine need not tell as the log comes", "udsnorm/specs/Commands.antt", r"^(writes_eagerly_of \(runs script needs\) .*) = .*", r"\1 = ⊤"),
-    ("a log may be that of another file", "udsnorm/specs/Asked.antt", r"  pub by_name : .*\n", ""),
+    ("a log may be that of another file", "udsnorm/specs/Profiled.antt", r"  pub by_name : .*\n", ""),
     ("the right log may have been read", "udsnorm/specs/Asked.antt", r"  pub other_unread : .*\n", ""),
     ("what is done with status 0 may be anything", "udsnorm/specs/Asked.antt", r"(?:^IsDoneBy .*\n(?:  .*\n)*)+", "IsDoneBy says file asked log before after = ⊤\n"),
     ("a hint may be given where none is wanted", "udsnorm/specs/Process.antt", r"  pub only_there : is_wanted .*\n", ""),

@@ -12,7 +12,7 @@ from difference_oracle import ADDED, CHANGED, REMOVED
 LISTED = 50
 
 # The names of the standards behind the bytes of a message.
-NAMES = re.compile(r"</(?:code|samp|details|i)>((?: <i>[A-Za-z][^<]*</i>)+)")
+NAMES = re.compile(r"</(?:code|samp|details|i)>((?: <i>\([A-Za-z][^<]*\)</i>)+)")
 
 
 def faults(page, ours, theirs):

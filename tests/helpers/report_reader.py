@@ -56,8 +56,8 @@ FOLDED = (
     rf" <details><summary>(?P<more>\d+) bytes more</summary><code>(?P<folded>{BYTES})</code>(?: <samp>(?P<letters_>[^<]+)</samp>)?"
     "</details>"
 )
-# A name of the standards begins with a letter; how long after its request a reply came, with a word that begins none.
-NAMES = r"(?P<names>(?: <i>(?!after )[A-Za-z][^<]*</i>)*)"
+# Names from the standards stand in brackets.
+NAMES = r"(?P<names>(?: <i>\([A-Za-z][^<]*\)</i>)*)"
 DATA = rf"<code>(?P<shown>{BYTES})</code>(?: <samp>(?P<letters>[^<]+)</samp>|{FOLDED}| <i>(?P<hidden>\d+) bytes more, not shown</i>)?{NAMES}{NOTE}"
 BRIEF_DATA = rf"(?P<shown>{BYTES})(?: and (?P<hidden>\d+) (?:(?<= 1 )byte|(?<! 1 )bytes) more)?"
 

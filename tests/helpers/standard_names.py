@@ -1,4 +1,4 @@
-"""The names that the standards have for the first bytes of a message: a second reading, by the rows that are typed from the standards.
+"""Names that the standards have for the first bytes of a message: a second reading, by the rows that are typed from the standards.
 
 The rows are those of crates/acceptance/src/standard_names.rt. Of a range these have both ends; what lies between is said here.
 """
@@ -43,9 +43,13 @@ def names_of(message):
     if not message:
         return []
     is_response, service, rest = bool(message[0] & 0x40), message[0] & 0xBF, message[1:]
+    if not is_response and service == 0x22 and len(rest) > 2:
+        return []
     foreign = [] if is_response else [mark + names[message[:1]] for mark, names in (("OBD: ", OBD), ("KWP2000: ", KWP)) if message[:1] in names]
     if service in WITH_IDENTIFIER:
         return [name for name in [IDENTIFIERS.get(rest[:2])] if name]
+    if is_response and rest and rest[0] & 0x80:
+        return []
     number = rest[0] & 0x7F if rest else None
     name = None if number is None else SUB_FUNCTIONS.get(bytes([service, number]))
     level = f" {number:02X}" if service == 0x27 else ""
@@ -55,4 +59,4 @@ def names_of(message):
 
 def small(message):
     """The same as a page has them."""
-    return "".join(f" <i>{name}</i>" for name in names_of(message))
+    return "".join(f" <i>({name})</i>" for name in names_of(message))

@@ -87,17 +87,17 @@ static uint32_t text(int call, const struct session *s, const uint8_t *log, uint
     uint32_t style = texts[call].style;
     memset(answer, FILLED, sizeof *answer);
     switch (texts[call].kind) {
-    case NORMALISE: return udsnorm_normalise(s->tester, s->unit, s->limit, log, s->length, out, room, answer);
-    case LIST: return udsnorm_list(s->tester, s->unit, s->limit, style, log, s->length, out, room, answer);
-    case MESSAGES: return udsnorm_messages(s->tester, s->unit, s->limit, style, log, s->length, out, room, answer);
-    case EXPLAIN: return udsnorm_explain(s->tester, s->unit, s->limit, style, log, s->length, out, room, answer);
+    case NORMALISE: return udsnorm_normalise(s->tester, s->unit, s->limit, NULL, 0, NULL, 0, log, s->length, out, room, answer);
+    case LIST: return udsnorm_list(s->tester, s->unit, s->limit, NULL, 0, NULL, 0, style, log, s->length, out, room, answer);
+    case MESSAGES: return udsnorm_messages(s->tester, s->unit, s->limit, NULL, 0, NULL, 0, style, log, s->length, out, room, answer);
+    case EXPLAIN: return udsnorm_explain(s->tester, s->unit, s->limit, NULL, 0, NULL, 0, style, log, s->length, out, room, answer);
     case FIND: return udsnorm_find(s->limit, style, log, s->length, out, room, answer);
-    case COMPARE: return udsnorm_compare(s->tester, s->unit, s->limit, log, s->length, log, s->length, answer);
+    case COMPARE: return udsnorm_compare(s->tester, s->unit, s->limit, NULL, 0, NULL, 0, log, s->length, log, s->length, out, room, answer);
     case DIFF:
-        return udsnorm_diff(s->tester, s->unit, s->limit, style, "none", 4, NULL, 0, "a log", 5, log, s->length, out, room, answer);
-    case REPORT: return udsnorm_report(s->tester, s->unit, s->limit, "log", 3, log, s->length, out, room, answer);
+        return udsnorm_diff(s->tester, s->unit, s->limit, NULL, 0, NULL, 0, style, "none", 4, NULL, 0, "a log", 5, log, s->length, out, room, answer);
+    case REPORT: return udsnorm_report(s->tester, s->unit, s->limit, NULL, 0, NULL, 0, "log", 3, log, s->length, out, room, answer);
     default:
-        return udsnorm_report_pair(s->tester, s->unit, s->limit, "left", 4, log, s->length, NULL, 0, log, s->length, out, room, answer);
+        return udsnorm_report_pair(s->tester, s->unit, s->limit, NULL, 0, NULL, 0, "left", 4, log, s->length, NULL, 0, log, s->length, out, room, answer);
     }
 }
 

@@ -257,6 +257,67 @@ class Rows(unittest.TestCase):
             self.assertEqual((caught.exception.reason, caught.exception.side), ("bad line", side))
 
 
+class Profiles(unittest.TestCase):
+    """What `profile` and `only` take, and what items are under rules."""
+
+    RULES = {"drop": ["3E", "7E"], "mask": ["27??*", "67??*", "620105.."]}
+    TOML = b'drop = ["3E", "7E"]\nmask = ["27??*", "67??*", "620105.."]\n'
+    UNITS = b'[[unit]]\nname = "engine"\ntester = "7E1"\nunit = "7E9"\n[[unit]]\nname = "brake"\ntester = "7E0"\nunit = "7E8"\n'
+    FRAMES = ("7E0#022701", "7E8#0467011A2B", "7E0#023E00", "7E8#027E00", "7E0#03220105", "7E8#0462010507")
+    LOG = tables.log_of([("frame", frame) for frame in FRAMES])
+
+    def test_forms(self):
+        """A path, TOML and a `dict` are one profile, and what the program makes of it."""
+        with tempfile.TemporaryDirectory() as folder:
+            path = Path(folder, "bench.toml")
+            path.write_bytes(self.TOML)
+            want = run(given.program, ["normalise", "--profile", path], self.LOG).output
+            for profile in (path, str(path), self.TOML, self.RULES):
+                with self.subTest(profile=profile):
+                    self.assertEqual(udsnorm.normalise(self.LOG, profile=profile), want)
+                    self.assertIsNone(udsnorm.compare(self.LOG, want, profile=profile))
+                    self.assertEqual(str(udsnorm.diff(self.LOG, want, profile=profile)), "")
+                    udsnorm.testing.assert_same_session(self.LOG, self.LOG.replace(b"1A2B", b"3C4D"), profile=profile)
+
+    def test_items(self):
+        """They have the bytes of the canonical log, and as texts what `list` has."""
+        key, counter = udsnorm.items(self.LOG, profile=self.RULES)
+        self.assertEqual((key.request, key.answer, counter.answer), (b"\x27\x01", b"\x67\x01", b"\x62\x01\x05\x00"))
+        self.assertIn("request=2701*, outcome='positive', code=None, answer=6701*", str(key))
+        self.assertIn("answer=620105..", str(counter))
+        self.assertEqual(pickle.loads(pickle.dumps(counter)), counter)
+        self.assertEqual(str(pickle.loads(pickle.dumps(counter))), str(counter))
+        self.assertIn("message=620105..", str(udsnorm.messages(self.LOG, profile=self.RULES)[-1]))
+
+    def test_units(self):
+        """One that is named, whatever the call's identifiers are."""
+        told = udsnorm.items(self.LOG, profile=self.UNITS, only="brake", tester="123")
+        self.assertEqual(told, udsnorm.items(self.LOG))
+        self.assertEqual(udsnorm.items(self.LOG, profile=self.UNITS, only="engine"), [])
+
+    def test_wrong(self):
+        """What is wrong is told, behind the path of a file."""
+        with tempfile.TemporaryDirectory() as folder:
+            path = Path(folder, "bench.toml")
+            path.write_bytes(b'mask = ["67"]')
+            for profile, only, text in [
+                (path, None, f'{path}: mask "67": nothing is masked'),
+                (b"drop = [", None, "line 1 column 9: not TOML"),
+                ({"drop": "3E"}, None, "drop: not an array of strings"),
+                ({"x\x7f": 1}, None, "$'x\\x7F': unknown key"),
+                (self.UNITS, None, "2 units: choose one: engine, brake"),
+                (self.UNITS, "gearbox", "no unit gearbox"),
+                (None, "engine", "no units"),
+                (b"#" * 65537, None, "longer than 65536 bytes"),
+            ]:
+                for call in (udsnorm.normalise, udsnorm.items, udsnorm.report, lambda log, **more: udsnorm.compare(log, log, **more)):
+                    with self.subTest(profile=profile, only=only), self.assertRaises(ValueError) as raised:
+                        call(self.LOG, profile=profile, only=only)
+                    self.assertEqual(str(raised.exception), text)
+            with self.assertRaises(OSError):
+                udsnorm.items(self.LOG, profile=Path(folder, "none.toml"))
+
+
 class Places(unittest.TestCase):
     """Where items stand in their logs."""
 

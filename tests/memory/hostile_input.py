@@ -59,7 +59,7 @@ LONGEST_PLACE_OBJECT = (
 
 # What a page of two logs has at most for each byte of both, where numbers have four digits: the row of an item that one log has alone, with
 # which a difference begins. It is a request of one byte, for the service of OBD with the longest title.
-ROW_OF_ONE = Fraction(501 + 6 * 4, 22)
+ROW_OF_ONE = Fraction(503 + 6 * 4, 22)
 
 # What it has for two requests of which one asks for no answer, of the service with the most letters, and for such a request behind them that
 # one log has alone. The numbers of these differences, of which each row has four, have three digits. After 200 rows a table ends, and another

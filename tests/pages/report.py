@@ -115,8 +115,8 @@ def golden(cases):
 # Faults of a page of golden/clean.log: what stands there, and what stands in its place.
 FAULTS = [
     ("a byte of a message", "<code>50 03 00 32", "<code>50 03 00 33"),
-    ("the name of another identifier", "<i>VIN</i>", "<i>ECUSerialNumber</i>"),
-    ("a name less", " <i>extendedDiagnosticSession</i>", ""),
+    ("the name of another identifier", "<i>(VIN)</i>", "<i>(ECUSerialNumber)</i>"),
+    ("a name less", " <i>(extendedDiagnosticSession)</i>", ""),
     ("a time", "<td>0.022345<td>", "<td>0.022346<td>"),
     ("a line", "<th scope=\"row\">4<td>5<td>", "<th scope=\"row\">4<td>6<td>"),
     ("the time that an answer took", "after 12.345&#160;ms", "after 12.354&#160;ms"),

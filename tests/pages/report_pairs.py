@@ -110,7 +110,7 @@ PLANTED = [
     ("a loss at a difference", "request_changed", r'(<p><span class="where">.*)(</span></p>\n<div class="two">)', '\\1 <em class="loss">A is not clean here</em>\\2'),
     ("a loss of a fold", "request_changed", r"</i></summary>", '</i> <em class="loss">1 dropped, ended or unfinished in B</em></summary>'),
     ("a mark of a byte that is the same", "request_changed", r'(?s)(<section id="items".*?<div class="hx">.*?<code>)22', "\\1<mark>22</mark>"),
-    ("the name of another level", "two_answers_changed", r'(?s)(<section id="items".*?<i>requestSeed )01', "\\g<1>03"),
+    ("the name of another level", "two_answers_changed", r'(?s)(<section id="items".*?<i>\(requestSeed )01', "\\g<1>03"),
     ("folded bytes that one log lacks", "bytes_put_in", r'(?s)(<section id="difference".*?bytes more, the same)', "\\1; 3 bytes only in B"),
     ("a folded byte that differs", "bytes_put_in", r'(?s)(<section id="items".*?bytes more, )the same', "\\g<1>1 of them differs"),
 ]

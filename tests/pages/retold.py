@@ -52,11 +52,17 @@ def tell_item(row, items, outcomes):
         case "positive":
             outcomes[row.item] = f"positive {digits}"
         case "negative":
-            outcomes[row.item] = f"negative {said['code']} {digits}"
+            outcomes[row.item] = f"negative {code_listed(said['code'])} {digits}"
         case "silent":
             outcomes[said["to"]] = "silent"
         case "no answer":
             outcomes[said["to"]] = "unanswered"
+
+
+def code_listed(code):
+    """A response code as `list` has it: one that stands on pages with its digits has no name there."""
+    name, _, digits = code.partition(" ")
+    return f"code_{digits}" if digits else name
 
 
 def explanation_told(rows):

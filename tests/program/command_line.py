@@ -294,7 +294,7 @@ def files_of_helps(cases):
         lines = text.decode().splitlines()
         wrong = [] if name == OF_PROGRAM or lines[0] == about.get(name) else [f"it begins with {lines[0]!r}"]
         wrong += [] if re.match(rf"Example: .*udsnorm {'' if name == OF_PROGRAM else name}\b", lines[-1]) else [f"it ends with {lines[-1]!r}"]
-        most = 22 + len(names) if name == OF_PROGRAM else 30
+        most = 22 + len(names) if name == OF_PROGRAM else 32
         wrong += [] if len(lines) <= most and max(map(len, lines)) <= 100 else ["more than a screen"]
         cases.report(f"the file of the help of {name}", wrong)
 

@@ -1,5 +1,5 @@
-//! The names of the standards, number by number, and what stands beside them without one. No value here comes from the program:
-//! each row is typed from the table of its standard.
+//! The names of the standards, number by number, and what stands beside them without one. No value here comes from the
+//! program: each row is typed from the table of its standard.
 
 use crate::rows::{assert_text, bytes_of, lines_of};
 use std::test::Fail;

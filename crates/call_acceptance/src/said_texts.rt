@@ -18,6 +18,7 @@ use trace_text::{
     ServiceName, SixDecimals, Stamp, ThreeDecimals, Verbatim, say_counts, say_items,
 };
 use tried_sessions::LOG;
+use uds_rules::Rules;
 
 /// Keeps what is said, up to where memory is refused.
 #[derive(Drop)]
@@ -190,6 +191,7 @@ fn the_items_of_a_session_are_said(rt: HostRuntime) -> Result<(), Fail> {
     say_items(
         &meaning_in(rt.alloc(), LOG.as_bytes())??,
         NUMBERED,
+        &Rules::none(),
         &mut said,
     );
     assert_kept(&rt, &said, LISTED)

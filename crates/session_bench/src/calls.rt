@@ -81,7 +81,7 @@ pub(crate) fn run_compare(
     let mut writer = Writing::new(Digest::new());
     match compare(alloc, config, &mut Bytes::new(left), &mut Bytes::new(right)) {
         Ok(compared) => {
-            let _ = write_comparison(&compared, SHOWN, &mut writer);
+            let _ = write_comparison(&compared, SHOWN, config.rules(), &mut writer);
             digest.count(Some(&compared.left.summary));
             digest.count(Some(&compared.right.summary));
         }

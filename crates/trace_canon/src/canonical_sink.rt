@@ -46,7 +46,8 @@ pub(crate) fn say_due<S: TextSink>(
     }
 }
 
-/// What a fault of an orderer is whose sink takes all that is put: memory was refused. Such an orderer never fails.
+/// What a fault of this orderer is: memory was refused. Its sink takes all that is put, so it has no fault of its own, and
+/// the orderer has not failed before, since a run ends with its first fault.
 fn refused_memory(fault: OrderFault<NoFault>) -> AllocError {
     match fault {
         OrderFault::Memory | OrderFault::Failed => AllocError,

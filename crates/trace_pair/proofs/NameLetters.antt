@@ -5,7 +5,8 @@ use Rattle.text_parts.proofs.Promises.{IsLeft, same-rest, said-whole, say-more}
 use Rattle.trace_text.specs.Words.{service_text}
 use Rattle.uds_message.specs.Tables.{code_name, service_row}
 use Rattle.uds_names.specs.ResponseCodes.{response_code_name}
-use Rattle.trace_pair.specs.LongNames.{further_code, letter_behind, letters_behind, parted_by, parted_code, parted_name, parted_service}
+use Rattle.trace_report.specs.StandardNames.{code_by}
+use Rattle.trace_pair.specs.LongNames.{further_code, letter_behind, letters_behind, parted_code, parted_name, parted_service}
 
 module _ {S : Type 0} (says : S → List ℕ → S → Type 0) (onward : (s m t : S) (a b : List ℕ) → says s a m → says m b t → says s (a ++ b) t)
     (name : List ℕ) (old : S) (whole : List ℕ) (front at : ℕ) (now : S) where
@@ -34,5 +35,7 @@ pub parted-code : (why : ℕ) (found : Option (List ℕ)) → found ≡ code_nam
 parted-code why found is = ap (λ (name : Option (List ℕ)). unwrap_or (option_map parted_name name) (further_code why)) is
 
 -- a response code by what the table of the further ones has of it
-pub further-code : (why : ℕ) (found : Option (List ℕ)) → found ≡ response_code_name why → parted_by found why ≡ further_code why
-further-code why found is = ap (λ (name : Option (List ℕ)). parted_by name why) is
+pub further-code : (why : ℕ) (found : Option (List ℕ)) → found ≡ response_code_name why
+    → code_by (option_map parted_name found) why ≡ further_code why
+unfolding further_code
+further-code why found is = ap (λ (name : Option (List ℕ)). code_by (option_map parted_name name) why) is

@@ -1,14 +1,14 @@
 -- Long names, which a narrow screen may part: before each capital behind a small letter.
 use Prim.Native.Char.{code}
-use Rattle.std.specs.Prelude.{ℕ, Bool, ◌&&◌, List, [], ◌∷◌, ◌++◌, codes, Option, Some, None, option_map, unwrap_or, if◌then◌else◌}
+use Rattle.std.specs.Prelude.{ℕ, Bool, ◌&&◌, List, [], ◌∷◌, ◌++◌, codes, option_map, unwrap_or, if◌then◌else◌}
 use Rattle.direction.specs.declared.Dir.{Dir}
 use Rattle.uds_message.specs.Message.{response_code, sid}
 use Rattle.uds_message.specs.Tables.{code_name, service_row}
-use Rattle.can_log.specs.Digits.{hexadecimal}
 use Rattle.uds_names.specs.ResponseCodes.{response_code_name}
-use Rattle.trace_text.specs.Words.{code_text, service_text}
+use Rattle.trace_text.specs.Words.{service_text}
 use Rattle.trace_report.specs.Letters.{is_within}
 use Rattle.trace_report.specs.MessageRows.{role_words}
+use Rattle.trace_report.specs.StandardNames.{code_by}
 use Rattle.trace_report.specs.declared.roles.MessageRole.{MessageRole}
 use Rattle.trace_report.specs.declared.roles.MessageRole.TheVariants as role
 
@@ -33,14 +33,9 @@ parted_name name = letters_behind 0 name
 abbrev pub parted_service : ℕ → List ℕ
 parted_service service = unwrap_or (option_map parted_name (option_map (λ row. row.name) (service_row service))) (service_text service)
 
--- a response code by the name that a page alone has for it, which may be parted, with its digits, or else as `list` has it
-abbrev pub parted_by : Option (List ℕ) → ℕ → List ℕ
-parted_by None why = code_text why
-parted_by (Some name) why = parted_name name ++ codes " " ++ hexadecimal 2 why
-
--- a response code of which `list` has no name
-abbrev pub further_code : ℕ → List ℕ
-further_code why = parted_by (response_code_name why) why
+-- a response code of which `list` has no name: by the name that a page alone has for it, which may be parted
+unfoldable pub further_code : ℕ → List ℕ
+further_code why = code_by (option_map parted_name (response_code_name why)) why
 
 -- the name of a response code, which may be parted, or what a page tells where `list` has none
 abbrev pub parted_code : ℕ → List ℕ

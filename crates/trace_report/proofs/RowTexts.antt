@@ -1,6 +1,7 @@
 -- The rows of a report, said in parts: what stands after some of them, and their text, by those before and those behind.
 use Rattle.std.proofs.Common.{◌≡◌, ◌≤◌, ◌+◌, ℕ, Bool, List, [], ◌∷◌, ◌++◌, length, refl, ap, sym, ◌∙◌, append_assoc, arith, inl, inr}
 use Rattle.std.proofs.lemmas.Bool.{cases_Bool}
+use Rattle.uds_rules.specs.Rule.{RuleValue}
 use Rattle.trace_report.specs.declared.blocks.Blocks.{Blocks}
 use Rattle.isotp_receive.specs.Trace.{Entry}
 use Rattle.trace_report.specs.Blocks.{begins_block, begins_exchange, blocks_behind, blocks_of, no_blocks, one_more_row}
@@ -25,10 +26,10 @@ rows_onward origin blocks (row ∷ rows) others =
     ∙ sym (append_assoc front (rows_text origin after rows) (rows_text origin (blocks_behind after rows) others))
 
 -- and behind the rows of a trace
-pub rows_after_onward : (limit origin : ℕ) (T : List Entry) (rows others : List RowValue)
-    → rows_after limit origin T (rows ++ others)
-    ≡ rows_after limit origin T rows ++ rows_text origin (blocks_behind (blocks_of (rows_of limit T)) rows) others
-rows_after_onward limit origin T rows others = rows_onward origin (blocks_of (rows_of limit T)) rows others
+pub rows_after_onward : (limit : ℕ) (rules : List RuleValue) (origin : ℕ) (T : List Entry) (rows others : List RowValue)
+    → rows_after limit rules origin T (rows ++ others)
+    ≡ rows_after limit rules origin T rows ++ rows_text origin (blocks_behind (blocks_of (rows_of limit rules T)) rows) others
+rows_after_onward limit rules origin T rows others = rows_onward origin (blocks_of (rows_of limit rules T)) rows others
 
 -- no more blocks stand than there are rows, and no more rows in the last one
 block_step : (exchange : Bool) (blocks : Blocks) → ((one_more_row exchange blocks).count ≤ blocks.count + 1) × ((one_more_row exchange blocks).rows ≤ blocks.rows + 1)

@@ -42,9 +42,9 @@ legend_text = codes "<dl class=\"legend\">\n" ++ exchange_legend ++ others_legen
 -- the words of the help on the names behind bytes, and of which edition of a standard they are
 abbrev pub names_words : List ℕ
 names_words =
-    codes "Small words behind the bytes are the names that the standards have for the first ones: the sub-function, and the first data identifier or routine. "
+    codes "Small words in brackets behind the bytes are names that the standards have for the first ones: for many sub-functions, data identifiers and routines. "
     ++ codes "They are those of ISO 14229-1:2020, but for 0F to 13 of ReadDTCInformation, which are of its edition of 2013. Only that of 2020 has 56 there, and the response codes 34, 38 to 3A, 50 to 5D and 94. "
-    ++ codes "OBD is ISO 15031-5, KWP2000 is ISO 14230."
+    ++ codes "A service of OBD (ISO 15031-5) or of KWP2000 (ISO 14230) has its name where a message begins as a request of it does."
 
 -- the words of the help on what a page does not show
 abbrev pub limits_text : List ℕ

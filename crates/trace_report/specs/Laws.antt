@@ -6,10 +6,11 @@ use Rattle.can_log.specs.declared.frame.Stamped.{Stamped}
 use Rattle.direction.specs.declared.Dir.{Dir}
 use Rattle.isotp_receive.specs.declared.TheConstants.{MESSAGE_LIMIT}
 use Rattle.isotp_receive.specs.Trace.{Entry}
-use Rattle.isotp_receive.specs.Verdict.{messages}
 use Rattle.uds_exchange.specs.Meaning.{meaning}
 use Rattle.uds_exchange.specs.declared.step.Step.TheVariants as becomes
 use Rattle.uds_message.specs.Message.{is_negative_response}
+use Rattle.uds_rules.specs.Rule.{RuleValue}
+use Rattle.trace_log.specs.Messages.{messages_under}
 use Rattle.trace_log.specs.Settings.{Settings}
 use Rattle.trace_log.specs.Trace.{trace}
 use Rattle.trace_report.specs.Events.{asked_in, completes_request, rows_of}
@@ -65,18 +66,20 @@ AreDistinct (x ∷ rest) = AllByRecursion (λ later. x ≢ later) rest × AreDis
 -- ends where the log is refused
 abbrev pub IdentifiersStandOnce : Type 0
 IdentifiersStandOnce = (settings : Settings) (meanings : List (Option Stamped)) → length meanings < 2 ^ 62
-    → AreDistinct (identifiers_in (all_rows MESSAGE_LIMIT (trace settings meanings)))
-    × AreDistinct (identifiers_in (rows_of MESSAGE_LIMIT (trace settings meanings)))
+    → AreDistinct (identifiers_in (all_rows MESSAGE_LIMIT settings.rules (trace settings meanings)))
+    × AreDistinct (identifiers_in (rows_of MESSAGE_LIMIT settings.rules (trace settings meanings)))
 
 -- each link of the verdict of a log leads to one of its rows, on the page of the whole log, and on one that ends where the log
 -- is refused
 abbrev pub LinksHaveTargets : Type 0
 LinksHaveTargets = (settings : Settings) (meanings : List (Option Stamped))
-    → HasEachTarget (all_rows MESSAGE_LIMIT (trace settings meanings)) × HasEachTarget (rows_of MESSAGE_LIMIT (trace settings meanings))
+    → HasEachTarget (all_rows MESSAGE_LIMIT settings.rules (trace settings meanings))
+    × HasEachTarget (rows_of MESSAGE_LIMIT settings.rules (trace settings meanings))
 
 -- the items that the rows of a session tell are what its messages mean, and so those that `list` and `compare` have
 abbrev pub ItemsAreTheMeaning : Type 0
-ItemsAreTheMeaning = (T : List Entry) → map item_value (items_in (all_rows MESSAGE_LIMIT T)) ≡ meaning (messages MESSAGE_LIMIT T)
+ItemsAreTheMeaning = (rules : List RuleValue) (T : List Entry)
+    → map item_value (items_in (all_rows MESSAGE_LIMIT rules T)) ≡ meaning (messages_under rules MESSAGE_LIMIT T)
 
 -- an answer is told as negative exactly where it is a negative response
 abbrev pub NegativeIsNegative : Type 0
@@ -102,9 +105,9 @@ AfterIsToTheFirstFrame = (time count : ℕ) (is : MessageRole) (place : MessageP
 -- how long after its request a reply came counts from the last request that was complete before, and each request is so with
 -- its last frame
 abbrev pub AfterIsFromTheLastFrame : Type 0
-AfterIsFromTheLastFrame = (limit : ℕ) (T : List Entry) (e : Entry)
-    → (completes_request limit T e ≡ true → asked_in limit (T ++ e ∷ []) ≡ e.micros)
-    × (completes_request limit T e ≡ false → asked_in limit (T ++ e ∷ []) ≡ asked_in limit T)
+AfterIsFromTheLastFrame = (limit : ℕ) (rules : List RuleValue) (T : List Entry) (e : Entry)
+    → (completes_request limit rules T e ≡ true → asked_in limit rules (T ++ e ∷ []) ≡ e.micros)
+    × (completes_request limit rules T e ≡ false → asked_in limit rules (T ++ e ∷ []) ≡ asked_in limit rules T)
 
 -- whatever follows the first bytes of a sign, they tell its look: no file that begins with them is taken for another one
 abbrev pub LooksAreTold : Type 0

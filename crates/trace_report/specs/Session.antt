@@ -1,6 +1,7 @@
 -- What a log says, kept as a whole.
 use Rattle.std.specs.Prelude.{ℕ, List}
 use Rattle.isotp_receive.specs.Trace.{Entry}
+use Rattle.uds_rules.specs.Rule.{RuleValue}
 use Rattle.trace_log.specs.declared.summary.Summary.{Summary}
 use Rattle.trace_report.specs.Page.{all_rows, first_time, last_time}
 use Rattle.trace_report.specs.Rows.{RowValue}
@@ -12,6 +13,6 @@ pub record SessionValue : Type 0 where
   pub first : ℕ
   pub last : ℕ
 
--- what a log says that means this trace and has these counts
-abbrev pub session_of : ℕ → List Entry → Summary → SessionValue
-session_of limit T summary = record { rows = all_rows limit T; summary = summary; first = first_time T; last = last_time 0 T }
+-- what a log says under rules that means this trace and has these counts
+abbrev pub session_of : ℕ → List RuleValue → List Entry → Summary → SessionValue
+session_of limit rules T summary = record { rows = all_rows limit rules T; summary = summary; first = first_time T; last = last_time 0 T }

@@ -25,6 +25,7 @@ impl<'a> Part for Counts<'a> {
                     LogCount("lines", summary.lines),
                     LogCount("frames", summary.frames),
                     LogCount("messages", summary.messages),
+                    LeftOut(summary.left_out),
                 ),
                 (
                     SortCount(Sort::Requests, "requests", counts.requests),
@@ -69,6 +70,21 @@ impl Part for LogCount {
                 count,
             },
         );
+    }
+}
+
+/// How many messages the rules left out, where these are some.
+#[derive(Clone, Copy)]
+struct LeftOut(u64);
+
+impl Part for LeftOut {
+    ghost use Rattle.trace_report.specs.Counts.{left_out_count};
+
+    ghost text = { λ left. left_out_count left.0 };
+
+    fn say<S: TextSink>(self, out: &mut S) {
+        let LeftOut(count) = self;
+        say(out, Either(count == 0, "", LogCount("left out", count)));
     }
 }
 

@@ -182,9 +182,9 @@ impl Part for NamesWords {
         say(
             out,
             (
-                "Small words behind the bytes are the names that the standards have for the first ones: the sub-function, and the first data identifier or routine. ",
+                "Small words in brackets behind the bytes are names that the standards have for the first ones: for many sub-functions, data identifiers and routines. ",
                 "They are those of ISO 14229-1:2020, but for 0F to 13 of ReadDTCInformation, which are of its edition of 2013. Only that of 2020 has 56 there, and the response codes 34, 38 to 3A, 50 to 5D and 94. ",
-                "OBD is ISO 15031-5, KWP2000 is ISO 14230.",
+                "A service of OBD (ISO 15031-5) or of KWP2000 (ISO 14230) has its name where a message begins as a request of it does.",
             ),
         );
     }

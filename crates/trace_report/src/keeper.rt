@@ -7,6 +7,7 @@ ghost use Rattle.trace_canon.specs.Compared.{fault_in};
 ghost use Rattle.trace_log.specs.declared.fault.Fault.{Fault as FaultValue};
 ghost use Rattle.trace_log.specs.Devices.{AgreesWith, bytes_given, ReadFrom, HasLowCounts};
 ghost use Rattle.trace_log.specs.Refusal.{HasNoBadPlaceWithin};
+ghost use Rattle.uds_rules.specs.Rule.{RuleValue};
 ghost use Rattle.trace_report.specs.Kept.{KeepsOne, HasOwnFrame, KeepsTwo};
 ghost use Rattle.trace_report.specs.proving.Following.{row_if, rows_in};
 ghost use Rattle.trace_report.specs.Session.{session_of};
@@ -113,7 +114,8 @@ pub(crate) struct Heard {
 
 /// What a log says of which this was heard.
 fn finished(heard: Heard) -> Result<KeptSession, AllocError>
-    ensures session { IfOk result (λ session. (T : List Entry) (summary : SummaryValue) → IsHeardOf T summary heard → session ≡ session_of MESSAGE_LIMIT T summary) }
+    ensures session { IfOk result (λ session. (rules : List RuleValue) (T : List Entry) (summary : SummaryValue)
+        → IsHeardOf rules T summary heard → session ≡ session_of MESSAGE_LIMIT rules T summary) }
     ensures refused { IfErr result (λ refused. rows_in heard.last ≢ []) }
 {
     let Heard {
@@ -164,13 +166,13 @@ impl Machine for Keeper {
 
     type Answer = Heard;
 
-    ghost stands = { λ start T now. Keeps T now };
+    ghost stands = { λ rules start T now. Keeps rules T now };
 
-    ghost script = { λ start. quiet_script };
+    ghost script = { λ rules start. quiet_script };
 
-    ghost answers = { λ start. answers_heard };
+    ghost answers = { λ rules start. answers_heard rules };
 
-    ghost needs = { λ start T e. ⊤ };
+    ghost needs = { λ rules start T e. ⊤ };
 
     #[inline(always)]
     fn is_strict(&self) -> bool {

@@ -45,8 +45,8 @@ pub fn report<R: Source, W: Target>(
 
     // What is answered and written; that it is written before more is read; and what was done with the devices.
     ensures ran { RanLenient R.Source W.Target
-        (command (report_script (page_title style.now name.now config.now) MESSAGE_LIMIT)
-        (refused_text (page_title style.now name.now config.now) MESSAGE_LIMIT (glimpse_of R.Source source.new))
+        (command (report_script (page_title style.now name.now config.now) MESSAGE_LIMIT config.now.rules)
+        (refused_text (page_title style.now name.now config.now) MESSAGE_LIMIT config.now.rules (glimpse_of R.Source source.new))
         answers_counts needs_none)
         config.now source.old target.old result source.new target.new }
 {
@@ -84,15 +84,15 @@ impl<'a> Machine for Reporter<'a> {
 
     type Answer = Summary;
 
-    ghost stands = { λ start T now. Reports (title_of start.title) T now };
+    ghost stands = { λ rules start T now. Reports rules (title_of start.title) T now };
 
-    ghost script = { λ start. report_script (title_of start.title) MESSAGE_LIMIT };
+    ghost script = { λ rules start. report_script (title_of start.title) MESSAGE_LIMIT rules };
 
-    ghost refusal = { λ start. refused_text (title_of start.title) MESSAGE_LIMIT };
+    ghost refusal = { λ rules start. refused_text (title_of start.title) MESSAGE_LIMIT rules };
 
-    ghost answers = { λ start. answers_counts };
+    ghost answers = { λ rules start. answers_counts };
 
-    ghost needs = { λ start T e. ⊥ };
+    ghost needs = { λ rules start T e. ⊥ };
 
     #[inline(always)]
     fn is_strict(&self) -> bool {

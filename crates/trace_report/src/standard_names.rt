@@ -1,4 +1,4 @@
-//! The names that the standards have for the first bytes of a message, behind these.
+//! Names that the standards have for the first bytes of a message, behind these.
 ghost use Rattle.std.specs.Prelude.{◌≡◌, ◌+◌, ◌*◌};
 ghost use Rattle.trace_report.specs.StandardNames as Spec;
 
@@ -10,6 +10,9 @@ use uds_names::{
     data_identifier_name, kwp_service_name, obd_service_name, response_code_name, routine_name,
     sub_function_name,
 };
+
+/// The service identifier of ReadDataByIdentifier.
+const READ_DATA_BY_IDENTIFIER: u8 = 0x22;
 
 /// The service identifier of SecurityAccess.
 const SECURITY_ACCESS: u8 = 0x27;
@@ -37,7 +40,7 @@ impl Part for PageCode {
     }
 }
 
-/// The names behind the bytes of a message: of its sub-function, and of the data identifier or routine that stands first.
+/// The names behind the bytes of a message: of its sub-function, and of the first data identifier or routine.
 #[derive(Clone, Copy)]
 pub(crate) struct NamesText<'a>(pub &'a [u8]);
 
@@ -49,13 +52,66 @@ impl<'a> Part for NamesText<'a> {
     fn say<S: TextSink>(self, out: &mut S) {
         if let Some((first, parameters)) = self.0.split_first() {
             if is_response_sid(*first) {
-                say(out, ParameterNames(service_answered(*first), parameters));
+                say(out, ResponseNames(service_answered(*first), parameters));
             } else {
-                say(
-                    out,
-                    (ForeignService(*first), ParameterNames(*first, parameters)),
-                );
+                say(out, RequestNames(*first, parameters));
             }
+        }
+    }
+}
+
+/// The names behind the bytes of a request of this service.
+#[derive(Clone, Copy)]
+struct RequestNames<'a>(u8, &'a [u8]);
+
+impl<'a> Part for RequestNames<'a> {
+    ghost use Rattle.trace_report.specs.StandardNames.{request_names};
+
+    ghost text = { λ names. request_names names.0 names.1.now };
+
+    fn say<S: TextSink>(self, out: &mut S) {
+        let RequestNames(service, parameters) = self;
+        if !asks_for_several(service, parameters) {
+            say(
+                out,
+                (ForeignService(service), ParameterNames(service, parameters)),
+            );
+        }
+    }
+}
+
+/// The names behind the bytes of a positive response to this service.
+#[derive(Clone, Copy)]
+struct ResponseNames<'a>(u8, &'a [u8]);
+
+impl<'a> Part for ResponseNames<'a> {
+    ghost use Rattle.trace_report.specs.StandardNames.{response_names};
+
+    ghost text = { λ names. response_names names.0 names.1.now };
+
+    fn say<S: TextSink>(self, out: &mut S) {
+        let ResponseNames(service, parameters) = self;
+        if repeats_sub_function(service, parameters) {
+            say(out, ParameterNames(service, parameters));
+        }
+    }
+}
+
+/// Whether a request asks for more than one data identifier: a name behind it would stand behind the last.
+fn asks_for_several(service: u8, parameters: &[u8]) -> bool
+    ensures { result ≡ Spec.asks_for_several service parameters.now }
+{
+    service == READ_DATA_BY_IDENTIFIER && parameters.len() > 2
+}
+
+/// Whether a positive response to this service repeats the sub-function, if the service has one: without bit 7.
+fn repeats_sub_function(service: u8, parameters: &[u8]) -> bool
+    ensures { result ≡ Spec.repeats_sub_function service parameters.now }
+{
+    match parameters {
+        [] => true,
+        [sub_function, ..] => {
+            has_data_identifier(service) || *sub_function < SUPPRESS_POSITIVE_RESPONSE
         }
     }
 }
@@ -191,7 +247,7 @@ impl Part for SmallName {
     fn say<S: TextSink>(self, out: &mut S) {
         let SmallName(mark, name) = self;
         if let Some(name) = name {
-            say(out, (" <i>", mark, name, "</i>"));
+            say(out, (" <i>(", mark, name, ")</i>"));
         }
     }
 }
@@ -209,7 +265,7 @@ impl Part for LevelName {
     fn say<S: TextSink>(self, out: &mut S) {
         let LevelName(name, level) = self;
         if let Some(name) = name {
-            say(out, (" <i>", name, " ", Byte(level), "</i>"));
+            say(out, (" <i>(", name, " ", Byte(level), ")</i>"));
         }
     }
 }

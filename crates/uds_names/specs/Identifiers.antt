@@ -2,7 +2,8 @@
 use Rattle.std.specs.Prelude.{ℕ, List, [], ◌∷◌, Option, Some, codes, if◌then◌else◌}
 use Rattle.uds_names.specs.Names.{Named, named, name_in, is_within}
 
--- the data identifiers that have a name of their own, without the word DataIdentifier, with which each ends in the standard
+-- the data identifiers that have a name of their own, without the word DataIdentifier, with which each ends in the
+-- standard
 abbrev pub data_identifiers : List Named
 data_identifiers =
     named 0xF180 (codes "bootSoftwareIdentification")

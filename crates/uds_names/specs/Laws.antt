@@ -9,7 +9,8 @@ use Rattle.uds_names.specs.SubFunctions.{sub_function_name}
 use Rattle.uds_names.specs.Identifiers.{data_identifier_name, routine_name}
 use Rattle.uds_names.specs.ResponseCodes.{response_code_name}
 
--- a letter or a digit of ASCII, a blank, or one of the signs - / and the comma: in HTML and in JSON it is nothing but itself
+-- a letter or a digit of ASCII, a blank, or one of the signs - / and the comma: in HTML and in JSON it is nothing but
+-- itself
 abbrev pub is_plain : ℕ → Bool
 is_plain b =
     is_within (code "a") (code "z") b || (is_within (code "A") (code "Z") b || (is_within (code "0") (code "9") b

@@ -1,5 +1,5 @@
--- The names of the response codes that the table of `uds_message` lacks (ISO 14229-1, Annex A.1). 34, 38 to 3A, 50 to 5D and 94
--- are of the edition of 2020.
+-- The names of the response codes that the table of `uds_message` lacks (ISO 14229-1, Annex A.1). 34, 38 to 3A, 50 to
+-- 5D and 94 are of the edition of 2020.
 use Rattle.std.specs.Prelude.{ℕ, List, [], ◌∷◌, Option, Some, codes, if◌then◌else◌}
 use Rattle.uds_names.specs.Names.{Named, named, name_in, is_within}
 

@@ -1,5 +1,5 @@
--- The names of services that are none of UDS: those of OBD, and those of KWP2000 that UDS dropped. Where UDS has given an
--- identifier of KWP2000 to another service, the table has none for it.
+-- The names of services that are none of UDS: those of OBD, and those of KWP2000 that UDS dropped. Where UDS has given
+-- an identifier of KWP2000 to another service, the table has none for it.
 use Rattle.std.specs.Prelude.{ℕ, List, [], ◌∷◌, Option, codes}
 use Rattle.uds_names.specs.Names.{Named, named, name_in}
 
@@ -18,8 +18,9 @@ obd_services =
     ∷ named 0x0A (codes "Request emission-related diagnostic trouble codes with permanent status")
     ∷ []
 
--- the services of KWP2000 that UDS dropped (ISO 14230-3: stored data transmission 12 to 18, diagnostic management 1A and 20,
--- data transmission 21, 26 and 3B, input/output control 30, remote activation of routine 32 to 3A; ISO 14230-2: 81 and 82)
+-- the services of KWP2000 that UDS dropped (ISO 14230-3: stored data transmission 12 to 18, diagnostic management 1A
+-- and 20, data transmission 21, 26 and 3B, input/output control 30, remote activation of routine 32 to 3A; ISO 14230-2:
+-- 81 and 82)
 abbrev pub kwp_services : List Named
 kwp_services =
     named 0x12 (codes "readFreezeFrameData")

@@ -1,5 +1,5 @@
--- The names of sub-functions (ISO 14229-1, in the section of each service its table of sub-function values). They are those of
--- the edition of 2020, but where another year is told.
+-- The names of sub-functions (ISO 14229-1, in the section of each service its table of sub-function values). They are
+-- those of the edition of 2020, but where another year is told.
 use Rattle.std.specs.Prelude.{ℕ, ◌==◌, ◌%◌, List, [], ◌∷◌, Option, Some, None, codes, if◌then◌else◌}
 use Rattle.uds_names.specs.Names.{Named, named, name_in, is_within}
 
@@ -22,7 +22,8 @@ resets =
     ∷ named 0x05 (codes "disableRapidPowerShutDown")
     ∷ []
 
--- ReadDTCInformation: reportType. 0F to 13 are of the edition of 2013, and withdrawn in that of 2020; 56 is of that of 2020.
+-- ReadDTCInformation: reportType. 0F to 13 are of the edition of 2013, and withdrawn in that of 2020; 56 is of that of
+-- 2020.
 abbrev pub reports : List Named
 reports =
     named 0x01 (codes "reportNumberOfDTCByStatusMask")
@@ -90,8 +91,8 @@ links =
     ∷ named 0x03 (codes "transitionMode")
     ∷ []
 
--- SecurityAccess: securityAccessType. Of the levels that the manufacturer of the vehicle has, 01 to 42, the odd ones ask for a
--- seed, and the even ones send the key.
+-- SecurityAccess: securityAccessType. Of the levels that the manufacturer of the vehicle has, 01 to 42, the odd ones
+-- ask for a seed, and the even ones send the key.
 abbrev pub security_name : ℕ → Option (List ℕ)
 security_name level =
     if is_within 0x01 0x42 level then (if level % 2 == 1 then Some (codes "requestSeed") else Some (codes "sendKey")) else None

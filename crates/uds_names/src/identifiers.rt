@@ -3,8 +3,8 @@
 ghost use Rattle.std.specs.Prelude.{◌≡◌, option_map};
 ghost use Rattle.uds_names.specs.Identifiers as Spec;
 
-/// The name of a data identifier (ISO 14229-1, Annex C.1): its own, without the word DataIdentifier at its end, or that of its
-/// range, for F2xx, F3xx, F4xx, F6xx and F8xx; else `None`.
+/// The name of a data identifier (ISO 14229-1, Annex C.1): its own, without the word DataIdentifier at its end, or that
+/// of its range, for F2xx, F3xx, F4xx, F6xx and F8xx; else `None`.
 pub fn data_identifier_name(identifier: u16) -> Option<&'static str>
     ensures { option_map (λ name. name.now) result ≡ Spec.data_identifier_name identifier }
 {

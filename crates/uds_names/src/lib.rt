@@ -1,9 +1,10 @@
-//! The names that the standards give what stands behind the first bytes of a message: sub-functions, data identifiers, routines
-//! and response codes (ISO 14229-1), and the services of OBD and KWP2000.
+//! The names that the standards give what stands behind the first bytes of a message: sub-functions, data identifiers,
+//! routines and response codes (ISO 14229-1), and the services of OBD and KWP2000.
 //!
-//! `uds_message` has the names of services and of response codes that the texts of `list` show. Here are those for a reader of
-//! a page: each stands once, none is said in both, and where a standard has none, or its editions disagree, there is none.
-//! A name is a constant: nothing is allocated, and a look-up is a match.
+//! `uds_message` has the names of services and of response codes that the texts of `list` show. Here are those for a
+//! reader of a page: each stands once, and none is said in both. They are those of the edition of 2020, and 0F to 13 of
+//! ReadDTCInformation those of 2013. A number that is in none of these tables has no name here. A name is a constant:
+//! nothing is allocated, and a look-up is a match.
 //!
 //! ```text
 //! sub_function_name(0x10, 0x83)   extendedDiagnosticSession

@@ -3,7 +3,8 @@
 ghost use Rattle.std.specs.Prelude.{◌≡◌, option_map};
 ghost use Rattle.uds_names.specs.Services as Spec;
 
-/// The title of a service of OBD (ISO 15031-5, SAE J1979), with blanks as there; `None` where the identifier is of none of the ten.
+/// The title of a service of OBD (ISO 15031-5, SAE J1979), with blanks as there; `None` where the identifier is of none
+/// of the ten.
 pub fn obd_service_name(service: u8) -> Option<&'static str>
     ensures { option_map (λ name. name.now) result ≡ Spec.obd_service_name service }
 {
@@ -24,8 +25,8 @@ pub fn obd_service_name(service: u8) -> Option<&'static str>
     }
 }
 
-/// The name of a service of KWP2000 that UDS dropped (ISO 14230-3; ISO 14230-2 for 81 and 82); `None` where the identifier is of
-/// another service in UDS, or of none.
+/// The name of a service of KWP2000 that UDS dropped (ISO 14230-3; ISO 14230-2 for 81 and 82); `None` where the
+/// identifier is of another service in UDS, or of none.
 pub fn kwp_service_name(service: u8) -> Option<&'static str>
     ensures { option_map (λ name. name.now) result ≡ Spec.kwp_service_name service }
 {

@@ -7,8 +7,8 @@ ghost use Rattle.uds_names.specs.SubFunctions as Spec;
 /// The bit of a sub-function by which the tester asks for no positive response: its number is what lies below.
 const SUPPRESS_POSITIVE_RESPONSE: u8 = 0x80;
 
-/// The name of a sub-function of a service (ISO 14229-1, the tables of sub-function values), by its byte, whether this suppresses
-/// the positive response or not; `None` where the service has no table here, or the table no such number.
+/// The name of a sub-function of a service (ISO 14229-1, the tables of sub-function values), by its byte, whether this
+/// suppresses the positive response or not; `None` where the service has no table here, or the table no such number.
 pub fn sub_function_name(service: u8, sub_function: u8) -> Option<&'static str>
     ensures { option_map (λ name. name.now) result ≡ Spec.sub_function_name service sub_function }
 {

@@ -59,10 +59,11 @@ pub(crate) struct CommandRow {
 /// An option or a file of a command.
 #[derive(Clone, Copy)]
 pub(crate) enum Argument {
-    /// An option that takes an identifier, and which one that is where none is given.
-    Identifier {
+    /// An option that takes a text, and what its help calls that. What is meant where it is not given, its help says: that it
+    /// is given can be told then.
+    Text {
         name: &'static str,
-        default: &'static str,
+        value: &'static str,
         help: &'static str,
     },
     /// The option of the limit, which is this where none is given.
@@ -185,6 +186,10 @@ pub(crate) const TESTER: &str = "tester";
 
 pub(crate) const UNIT: &str = "unit";
 
+pub(crate) const PROFILE: &str = "profile";
+
+pub(crate) const ONLY: &str = "only";
+
 pub(crate) const LIMIT: &str = "limit";
 
 pub(crate) const NO_NUMBERS: &str = "no-numbers";
@@ -210,17 +215,27 @@ pub(crate) const USUAL_TESTER: &str = "7E0";
 
 pub(crate) const USUAL_UNIT: &str = "7E8";
 
-/// The options and files of commands.
+/// The options and files of commands: first the identifiers of both sides, or a profile that has them, with what is left out.
 const SIDES: &[Argument] = &[
-    Argument::Identifier {
+    Argument::Text {
         name: TESTER,
-        default: USUAL_TESTER,
-        help: "Identifier of the tester, 3 or 8 hexadecimal digits",
+        value: "ID",
+        help: "Identifier of the tester, 3 or 8 hexadecimal digits [default: 7E0]",
     },
-    Argument::Identifier {
+    Argument::Text {
         name: UNIT,
-        default: USUAL_UNIT,
-        help: "Identifier of the control unit, 3 or 8 hexadecimal digits",
+        value: "ID",
+        help: "Identifier of the control unit, 3 or 8 hexadecimal digits [default: 7E8]",
+    },
+    Argument::Text {
+        name: PROFILE,
+        value: "FILE",
+        help: "What to leave out of the session, and the units of the bench, as TOML",
+    },
+    Argument::Text {
+        name: ONLY,
+        value: "NAME",
+        help: "The unit of the profile whose session this is",
     },
 ];
 

@@ -10,7 +10,8 @@ use Rattle.trace_report.proofs.keeper.keep_session.Goals as goal
 
 pub returns-in-Ok-finished-clause-answer : goal.returns-in-Ok-finished-clause-answer
 returns-in-Ok-finished-clause-answer g c = λ log agrees.
-    read_so c.args.config.now log _ [] [] c.in-Ok.heard c.in-Ok-finished.session c.in-Ok-finished.ensures.session (c.in-Ok.ensures.ran.answer log agrees)
+    read_so c.args.config.now log _ [] [] c.in-Ok.heard c.in-Ok-finished.session
+    (c.in-Ok-finished.ensures.session c.args.config.now.rules) (c.in-Ok.ensures.ran.answer log agrees)
 
 pub returns-in-Err-clause-answer : goal.returns-in-Err-clause-answer
 returns-in-Err-clause-answer g c = λ log agrees. unread_so c.args.config.now log _ [] [] c.in-Err.fault (c.in-Err.ensures.ran.answer log agrees)
@@ -19,7 +20,8 @@ pub returns-in-Err-clause-never_write : goal.returns-in-Err-clause-never_write
 returns-in-Err-clause-never_write g c =
     let ran = c.in-Err.ensures.ran in
     let gave = ran.read.gave in
-    never_write quiet_script quiet_says_nothing answers_heard quiet_command.needs MESSAGE_LIMIT c.args.config.now gave.bytes _ [] [] (Err c.in-Err.fault) (ran.answer gave.bytes (given_agrees gave))
+    never_write quiet_script quiet_says_nothing (answers_heard c.args.config.now.rules) (quiet_command c.args.config.now.rules).needs
+    MESSAGE_LIMIT c.args.config.now gave.bytes _ [] [] (Err c.in-Err.fault) (ran.answer gave.bytes (given_agrees gave))
 
 pub returns-in-Err-clause-memory : goal.returns-in-Err-clause-memory
 returns-in-Err-clause-memory g c = λ log agrees refused.

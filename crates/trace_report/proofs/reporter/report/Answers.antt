@@ -14,6 +14,7 @@ returns g c =
     let title : record { style = style; name = name; tester = c.tester.result; unit = c.unit.result; max_bytes = c.max_bytes.result } ≡ page_title style name c.args.config.now =
     (λ i. record { style = style; name = name; tester = c.tester.ensures i; unit = c.unit.ensures i; max_bytes = c.max_bytes.ensures.value i }) in
     record {
-      ran = subst (λ (title : PageTitleValue). RanLenient g.R.Source g.W.Target (command (report_script title MESSAGE_LIMIT) (refused_text title MESSAGE_LIMIT (glimpse_of g.R.Source c.run_lenient.new.source)) answers_counts needs_none)
+      ran = subst (λ (title : PageTitleValue). RanLenient g.R.Source g.W.Target (command (report_script title MESSAGE_LIMIT c.args.config.now.rules)
+          (refused_text title MESSAGE_LIMIT c.args.config.now.rules (glimpse_of g.R.Source c.run_lenient.new.source)) answers_counts needs_none)
           c.args.config.now c.args.source.now c.args.target.now c.run_lenient.result c.run_lenient.new.source c.run_lenient.new.target) title c.run_lenient.ensures.ran;
     }

@@ -9,6 +9,6 @@ returns-clause-text g c =
     let ys = c.args.compared.now.right.meaning in
     let difference = c.in_ok-difference.difference in
     subst (λ (text : List ℕ). WroteText g.W.Target text c.is_ok.result c.args.out.now c.write_difference.new.target)
-    (difference_is c.args.notation c.args.left_name.now c.args.right_name.now c.as_bytes.result.now c.as_bytes-2.result.now difference.shortest difference.rows.items xs ys c.as_bytes.ensures.value
+    (difference_is c.args.rules.now c.args.notation c.args.left_name.now c.args.right_name.now c.as_bytes.result.now c.as_bytes-2.result.now difference.shortest difference.rows.items xs ys c.as_bytes.ensures.value
     c.as_bytes-2.ensures.value c.in_ok-difference.ensures.shortest c.in_ok-difference.ensures.rows)
     (wrote_by_print g.W.Target _ c.args.out.now c.write_difference.new.target c.write_difference.result c.is_ok.result c.write_difference.ensures.printed c.is_ok.ensures.value)

@@ -13,11 +13,11 @@ use Rattle.trace_report.proofs.Steps.{few_rows}
 use Rattle.trace_report.proofs.reporter.ReporterMachine.end.Goals as goal
 
 pub returns-clause-says : goal.returns-clause-says
-returns-clause-says g c = λ start T known stand.
-    let rows = c.end.ensures T known.follows stand in
-    let low : length (rows_of MESSAGE_LIMIT T) < 2 ^ 64 - 3 = omega (arith, known.few, few_rows MESSAGE_LIMIT T) in
-    let chart = subst (λ (l : List RowValue). IsChartOf l c.say_rows.new.self) (ap (λ l. rows_of MESSAGE_LIMIT T ++ l) rows)
-    (c.say_rows.ensures.stands (rows_of MESSAGE_LIMIT T) low known.chart) in
+returns-clause-says g c = λ rules start T known stand.
+    let rows = c.end.ensures rules T known.follows stand in
+    let low : length (rows_of MESSAGE_LIMIT rules T) < 2 ^ 64 - 3 = omega (arith, known.few, few_rows MESSAGE_LIMIT rules T) in
+    let chart = subst (λ (l : List RowValue). IsChartOf l c.say_rows.new.self) (ap (λ l. rows_of MESSAGE_LIMIT rules T ++ l) rows)
+    (c.say_rows.ensures.stands (rows_of MESSAGE_LIMIT rules T) low known.chart) in
     let first = first_known T c.args.self.times known.times in
     let origin = c.first_of.ensures ∙ first in
     let last = last_known T c.args.self.times known.times in
@@ -25,6 +25,6 @@ returns-clause-says g c = λ start T known stand.
     (c.say_front_before.ensures T known.times) in
     g.met.S.TextSink.onward _ _ _ _ _ (g.met.S.TextSink.onward _ _ _ _ _ front
     (subst (λ text. g.S.TextSink.says c.say_front_before.new.out text c.say_rows.new.out)
-    (λ i. rows_text (origin i) (blocks_of (rows_of MESSAGE_LIMIT T)) (rows i)) (c.say_rows.ensures.says (rows_of MESSAGE_LIMIT T) low known.chart)))
+    (λ i. rows_text (origin i) (blocks_of (rows_of MESSAGE_LIMIT rules T)) (rows i)) (c.say_rows.ensures.says (rows_of MESSAGE_LIMIT rules T) low known.chart)))
     (subst (λ text. g.S.TextSink.says c.say_rows.new.out text c.say.new.out)
     (λ i. page_end (chart.blocks i) (record { tally = chart.tally i; summary = c.args.summary.now; first = first i; last = last i })) c.say.ensures)

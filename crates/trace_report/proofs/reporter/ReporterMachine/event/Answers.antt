@@ -14,23 +14,23 @@ use Rattle.trace_report.proofs.Steps.{few_rows, rows_next}
 use Rattle.trace_report.proofs.reporter.ReporterMachine.event.Goals as goal
 
 pub returns-clause-ok : goal.returns-clause-ok
-returns-clause-ok g c = λ start T e seen known.
+returns-clause-ok g c = λ rules start T e seen known.
     let times = c.times_with-times.ensures T e known.times seen.event.micros in
     let origin = first_known (T ++ e ∷ []) (Some c.times_with-times.result) times in
-    let rows = c.take-rows.ensures.rows T e seen known.follows in
-    let low : length (rows_of MESSAGE_LIMIT T) < 2 ^ 64 - 3 = omega (arith, seen.event.few, few_rows MESSAGE_LIMIT T) in
-    let chart = c.say_rows.ensures.stands (rows_of MESSAGE_LIMIT T) low known.chart in
+    let rows = c.take-rows.ensures.rows rules T e seen known.follows in
+    let low : length (rows_of MESSAGE_LIMIT rules T) < 2 ^ 64 - 3 = omega (arith, seen.event.few, few_rows MESSAGE_LIMIT rules T) in
+    let chart = c.say_rows.ensures.stands (rows_of MESSAGE_LIMIT rules T) low known.chart in
     let front = subst (λ (title : PageTitleValue). g.S.TextSink.says c.args.out.now (front_before title T) c.say_front_before.new.out) known.same
     (c.say_front_before.ensures T known.times) in (
       record {
         few = omega (arith, seen.event.few, length-append T (e ∷ []));
         same = known.same;
         times = times;
-        follows = c.take-rows.ensures.next T e seen known.follows;
+        follows = c.take-rows.ensures.next rules T e seen known.follows;
         chart =
-            subst (λ (l : List RowValue). IsChartOf l c.say_rows.new.self) (ap (λ l. rows_of MESSAGE_LIMIT T ++ l) rows ∙ sym (rows_next MESSAGE_LIMIT T e)) chart;
+            subst (λ (l : List RowValue). IsChartOf l c.say_rows.new.self) (ap (λ l. rows_of MESSAGE_LIMIT rules T ++ l) rows ∙ sym (rows_next MESSAGE_LIMIT rules T e)) chart;
       },
       g.met.S.TextSink.onward _ _ _ _ _ front
           (subst (λ text. g.S.TextSink.says c.say_front_before.new.out text c.say_rows.new.out)
-          (λ i. rows_text (origin i) (blocks_of (rows_of MESSAGE_LIMIT T)) (rows i)) (c.say_rows.ensures.says (rows_of MESSAGE_LIMIT T) low known.chart)),
+          (λ i. rows_text (origin i) (blocks_of (rows_of MESSAGE_LIMIT rules T)) (rows i)) (c.say_rows.ensures.says (rows_of MESSAGE_LIMIT rules T) low known.chart)),
     )

@@ -9,7 +9,7 @@ use Rattle.trace_report.proofs.reporter.ReporterMachine.refused.Goals as goal
 
 pub returns : goal.returns
 returns g c = record {
-  says = λ start T known.
+  says = λ rules start T known.
       let first = first_known T c.args.self.times known.times in
       let last = last_known T c.args.self.times known.times in
       let front = subst (λ (title : PageTitleValue). g.S.TextSink.says c.args.out.now (front_before title T) c.say_front_before.new.out) known.same

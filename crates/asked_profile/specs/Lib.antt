@@ -1,0 +1,4 @@
+pub mod UnitWrongText
+pub mod WrongText
+pub mod Asked
+pub mod Choice
