@@ -4,7 +4,7 @@ ghost use Rattle.std.specs.Prelude.{◌≡◌, option_map};
 ghost use Rattle.uds_names.specs.ResponseCodes as Spec;
 
 /// The name of a response code (ISO 14229-1, Annex A.1) that `uds_message::code_name` lacks: its own, or that of its
-/// range, for 95 to EF and F0 to FE; else `None`.
+/// range, for 0x95 to 0xEF and 0xF0 to 0xFE; else `None`.
 pub fn response_code_name(code: u8) -> Option<&'static str>
     ensures { option_map (λ name. name.now) result ≡ Spec.response_code_name code }
 {
